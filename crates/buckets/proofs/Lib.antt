@@ -1,0 +1,5 @@
+pub mod Length
+pub mod Place
+pub mod Facts
+pub mod SignedFacts
+pub mod Examples
