@@ -1,0 +1,303 @@
+-- Worked examples, each computed: what the definitions say of short lists of served calls. Lists are newest first.
+use mathlib.Core.Path.{_≡_, refl}
+use mathlib.Core.Bool.{Bool, true, false}
+use mathlib.Core.List.{List, [], _∷_}
+use mathlib.Core.Option.{Option, none, some}
+use Prim.Native.Nat.{ℕ, zero, suc}
+use lib.IntN.{ℤ, pos, negsuc}
+use Rattle.estimate.specs.declared.ClockFormat.the-variants.{NTP, PTP}
+use Rattle.estimate.specs.declared.Estimates.the-variants.{Absent as NoEstimates}
+use Rattle.calls.specs.declared.PendingPacket.{PendingPacket}
+use Rattle.calls.specs.declared.Pending.{Pending}
+use Rattle.calls.specs.declared.Pending.the-variants.{Absent as NoPacket, Held}
+use Rattle.calls.specs.declared.Ordinal.the-variants.{Absent as NoOrdinal, Number}
+use Rattle.calls.specs.declared.CounterPoint.{CounterPoint}
+use Rattle.calls.specs.declared.Counters.{Counters}
+use Rattle.calls.specs.declared.Counters.the-variants.{Absent as NoCounters, Point}
+use Rattle.calls.specs.declared.Time.{Time}
+use Rattle.calls.specs.declared.Time.the-variants.{Absent as NoTime, Nanoseconds}
+use Rattle.calls.specs.declared.FollowUpTelemetry.{FollowUpTelemetry}
+use Rattle.calls.specs.declared.FollowUp.{FollowUp}
+use Rattle.calls.specs.declared.FollowUp.the-variants.{Absent as NoFollowUp, Telemetry}
+use Rattle.calls.specs.declared.ReplyKey.{ReplyKey}
+use Rattle.calls.specs.declared.ReplyObservation.{ReplyObservation}
+use Rattle.calls.specs.declared.Call.{Call}
+use Rattle.calls.specs.declared.Call.the-variants.{Sent, Accept, Observe}
+use Rattle.history.specs.Counting.{has, offset}
+use Rattle.history.specs.Ledger.{rememberings, without, distinct, replies, ordinal, packet, accepted, hasKey, awaiting, lastAccepted, held, replyClass, ready, afterReply, events, Answer, isUnique, answer, count, highestReflector, probesEvicted, replyCounts, thousandths, unobserved}
+use Rattle.history.specs.FollowUps.{Slot, free, taken, followClass, slotAt, FollowClass, unavailable, ambiguous, unmatched, repeated, matched, classAt, followCounts, measured, Lookup, nothing, shows, lookup, delay}
+use Rattle.history.specs.DirectLoss.{anchorOf, receivedMaximum, latest, missing, DirectClass, mismatch, zeros, anchors, jump, again, exceeded, reordered, advanced, directClass, window, spans, Spans}
+
+-- ---- short ways to write calls
+
+abbrev key : ℕ → ℕ → ℕ → ReplyKey
+key s r t = record { sender = s; reflector = r; t3 = t }
+
+abbrev packetAt : ℕ → PendingPacket
+packetAt n = record { time = n; tag = 0 }
+
+abbrev sent : ℕ → ℕ → Call
+sent s n = Sent (record { sequence = s; ordinal = n; packet = packetAt n })
+
+abbrev accept : ReplyKey → Pending → Call
+accept k p = Accept (record { key = k; pending = p })
+
+abbrev point : ℕ → ℕ → ℕ → CounterPoint
+point s r t = record { sender = record { 0 = s }; received = record { 0 = r }; transmitted = record { 0 = t } }
+
+-- an observation with a round trip of 50, T4 at 900, NTP, reference 7, and these counters and this follow-up
+abbrev seenBy : ReplyKey → Counters → FollowUp → ReplyObservation
+seenBy k c f = record {
+  key = k;
+  rtt = 50;
+  t4 = Nanoseconds (pos 900);
+  format = NTP;
+  reference = pos 7;
+  offset = pos 0;
+  ordinal = Number (k .sender);
+  counters = c;
+  follow = f;
+  quality = NoEstimates;
+}
+
+abbrev observe : ReplyKey → Counters → FollowUp → Call
+observe k c f = Observe (seenBy k c f)
+
+-- a follow-up of a sequence, its timestamp converted to this time
+abbrev followUp : ℕ → Time → FollowUpTelemetry
+followUp s t = record { sequence = s; timestamp = 1; unknown = false; t3 = t }
+
+-- ---- document 01's listing: sent 7, accept (7,7,5) pending, observe, the same accept again
+
+abbrev listing : List Call
+listing = accept (key 7 7 5) NoPacket ∷ observe (key 7 7 5) NoCounters NoFollowUp ∷ accept (key 7 7 5) (Held (packetAt 100)) ∷ sent 7 1 ∷ []
+
+listing-counts : replyCounts 4096 1 listing ≡ record {
+  requested = 1;
+  satisfied = 1;
+  duplicate = 1;
+  unknown = 0;
+  unique = 1;
+  answered = 1;
+  additional = 0;
+  late = 0;
+  reordered = 0;
+  independent = 0;
+  probes-evicted = 0;
+  replies-evicted = 0;
+}
+unfolding count events replyClass lastAccepted held ready afterReply accepted rememberings distinct without hasKey has replies highestReflector probesEvicted offset
+listing-counts = refl
+
+-- ---- capacity 2: the probe 1 is evicted by 2 and 3, its reply is then unknown, and a pending packet brings it back, answered anew
+
+abbrev evictions : List Call
+evictions = accept (key 1 9 9) (Held (packetAt 4)) ∷ accept (key 1 8 8) NoPacket ∷ sent 3 3 ∷ sent 2 2 ∷ accept (key 1 7 7) NoPacket ∷ sent 1 1 ∷ []
+
+evictions-counts : replyCounts 2 1 evictions ≡ record {
+  requested = 3;
+  satisfied = 2;
+  duplicate = 0;
+  unknown = 1;
+  unique = 2;
+  answered = 2;
+  additional = 0;
+  late = 1;
+  reordered = 0;
+  independent = 2;
+  probes-evicted = 2;
+  replies-evicted = 0;
+}
+unfolding count events replyClass lastAccepted held ready afterReply accepted rememberings distinct without hasKey has replies highestReflector probesEvicted offset
+evictions-counts = refl
+
+evictions-held : held 2 (events 2 evictions) ≡ 1 ∷ 3 ∷ []
+unfolding events replyClass lastAccepted held ready afterReply accepted rememberings distinct without hasKey has
+evictions-held = refl
+
+-- the answer: a pending packet replaces the stored one, and an accept without one hands the stored one back with its ordinal
+answers : (answer 2 (events 2 (sent 5 9 ∷ [])) (key 5 5 1) (some (packetAt 4)) ≡ isUnique (packetAt 4) (some 9))
+    × (answer 2 (events 2 (accept (key 5 5 1) (Held (packetAt 4)) ∷ sent 5 9 ∷ [])) (key 5 6 2) none ≡ isUnique (packetAt 4) (some 9))
+    × (answer 2 [] (key 5 5 1) (some (packetAt 4)) ≡ isUnique (packetAt 4) none)
+unfolding answer events replyClass lastAccepted held ready afterReply accepted rememberings distinct without hasKey has packet ordinal
+answers = (refl, refl, refl)
+
+-- capacity 2: a key is a duplicate while it is one of the last two accepted, and unique again after two more
+abbrev forgotten : List Call
+forgotten = accept (key 1 1 1) NoPacket ∷ accept (key 1 3 3) NoPacket ∷ accept (key 1 1 1) NoPacket ∷ accept (key 1 2 2) NoPacket ∷ accept (key 1 1 1) NoPacket ∷ sent 1 1 ∷ []
+
+forgotten-counts : replyCounts 2 3 forgotten ≡ record {
+  requested = 3;
+  satisfied = 3;
+  duplicate = 1;
+  unknown = 0;
+  unique = 4;
+  answered = 1;
+  additional = 3;
+  late = 1;
+  reordered = 1;
+  independent = 2;
+  probes-evicted = 0;
+  replies-evicted = 2;
+}
+unfolding count events replyClass lastAccepted held ready afterReply accepted rememberings distinct without hasKey has replies highestReflector probesEvicted offset
+forgotten-counts = refl
+
+thousandths-of : (thousandths 3 (unobserved 3 2) ≡ 333) × (thousandths 0 0 ≡ 0) × (thousandths 2 (unobserved 2 5) ≡ 0)
+thousandths-of = (refl, refl, refl)
+
+-- ---- every class of a follow-up, after probe 1 was sent, answered with reflector number 11 and observed
+
+abbrev one : List Call
+one = observe (key 1 11 5) NoCounters NoFollowUp ∷ accept (key 1 11 5) NoPacket ∷ sent 1 1 ∷ []
+
+-- the class of a follow-up of an observation of reflector number 12
+abbrev classAfter : FollowUpTelemetry → List Call → FollowClass
+classAfter f h = classAt 4 1 f 12 (events 4 h)
+
+is-matched : classAfter (followUp 11 (Nanoseconds (pos 800))) one ≡ matched
+unfolding followClass slotAt events replyClass lastAccepted held ready afterReply accepted rememberings distinct without hasKey has
+is-matched = refl
+
+-- no converted time
+is-unavailable : classAfter (followUp 11 NoTime) one ≡ unavailable
+unfolding followClass slotAt events replyClass lastAccepted held ready afterReply accepted rememberings distinct without hasKey has
+is-unavailable = refl
+
+-- no timestamp comes first
+is-unavailable-first : classAfter (record { sequence = 12; timestamp = 0; unknown = false; t3 = NoTime }) one ≡ unavailable
+unfolding followClass
+is-unavailable-first = refl
+
+-- a follow-up of the reply that brings it
+is-ambiguous-own : classAfter (followUp 12 NoTime) one ≡ ambiguous
+unfolding followClass
+is-ambiguous-own = refl
+
+is-unmatched : classAfter (followUp 99 NoTime) one ≡ unmatched
+unfolding followClass slotAt events replyClass lastAccepted held ready afterReply accepted rememberings distinct without hasKey has
+is-unmatched = refl
+
+-- matched once, its slot is corrected
+abbrev corrected : List Call
+corrected = observe (key 1 12 6) NoCounters (Telemetry (followUp 11 (Nanoseconds (pos 800)))) ∷ accept (key 1 12 6) NoPacket ∷ one
+
+is-repeated : classAfter (followUp 11 NoTime) corrected ≡ repeated
+unfolding followClass slotAt events replyClass lastAccepted held ready afterReply accepted rememberings distinct without hasKey has
+is-repeated = refl
+
+-- its delay is 900 - 800
+corrected-delay : measured 4 1 (events 4 corrected) ≡ record { delay-ns = pos 100; quality = none } ∷ []
+unfolding measured followClass slotAt events replyClass lastAccepted held ready afterReply accepted rememberings distinct without hasKey has
+corrected-delay = refl
+
+-- a second observation of number 11 makes it ambiguous, also after an eviction lowered the count to 1 again: the record is dropped for good
+abbrev twice : List Call
+twice = observe (key 1 11 6) NoCounters NoFollowUp ∷ accept (key 1 11 6) NoPacket ∷ one
+
+is-ambiguous-twice : classAfter (followUp 11 (Nanoseconds (pos 800))) twice ≡ ambiguous
+unfolding followClass slotAt events replyClass lastAccepted held ready afterReply accepted rememberings distinct without hasKey has
+is-ambiguous-twice = refl
+
+lowered : (slotAt 2 1 (events 2 (accept (key 1 14 7) NoPacket ∷ twice)) 11 ≡ taken 1 none false)
+    × (slotAt 2 1 (events 2 (accept (key 1 15 8) NoPacket ∷ accept (key 1 14 7) NoPacket ∷ twice)) 11 ≡ free)
+unfolding slotAt events replyClass lastAccepted held ready afterReply accepted rememberings distinct without hasKey has
+lowered = (refl, refl)
+
+-- with copies above 1 the record of an echoed sequence is withheld
+withheld : slotAt 4 2 (events 4 (observe (key 1 1 5) NoCounters NoFollowUp ∷ accept (key 1 1 5) NoPacket ∷ sent 1 1 ∷ [])) 1 ≡ taken 1 none false
+unfolding slotAt events replyClass lastAccepted held ready afterReply accepted rememberings distinct without hasKey has
+withheld = refl
+
+-- the lookup shows format and reference where nothing down to repeated holds, and nothing else
+lookups : (lookup 4 1 (followUp 11 NoTime) 12 (events 4 one) ≡ shows NTP (pos 7))
+    × (lookup 4 1 (followUp 11 NoTime) 12 (events 4 corrected) ≡ nothing)
+    × (lookup 4 1 (followUp 12 NoTime) 12 (events 4 one) ≡ nothing)
+    × (lookup 4 1 (followUp 99 NoTime) 12 (events 4 one) ≡ nothing)
+unfolding lookup followClass slotAt events replyClass lastAccepted held ready afterReply accepted rememberings distinct without hasKey has
+lookups = (refl, refl, refl, refl)
+
+delays : (delay 4 1 (pos 900) (pos 800) (negsuc 0) ≡ negsuc 999999899) × (delay 4 1 (pos 0) (pos 5) (pos 0) ≡ negsuc 4)
+delays = (refl, refl)
+
+-- ---- every outcome of direct counters. `counted` observes these points in turn, oldest first in the list
+
+abbrev class : List CounterPoint → CounterPoint → DirectClass
+class w c = directClass 3 (some (c .sender .0)) c w
+
+anchored : class [] (point 10 10 10) ≡ anchors
+unfolding directClass
+anchored = refl
+
+both-zero : class [] (point 10 0 0) ≡ zeros
+unfolding directClass
+both-zero = refl
+
+-- the sender's count is not the ordinal
+mismatched : directClass 3 (some 4) (point 10 10 10) [] ≡ mismatch
+unfolding directClass
+mismatched = refl
+
+-- a step back of one counter
+stepped-back : class (point 10 10 10 ∷ []) (point 11 9 11) ≡ jump
+unfolding directClass anchorOf offset
+stepped-back = refl
+
+seen-again : class (point 10 10 10 ∷ []) (point 11 11 10) ≡ again
+unfolding directClass anchorOf offset has
+seen-again = refl
+
+-- three offsets were seen, and three is what is held
+no-room : class (point 12 12 12 ∷ point 11 11 11 ∷ point 10 10 10 ∷ []) (point 13 13 13) ≡ exceeded
+unfolding directClass anchorOf offset has
+no-room = refl
+
+wraps : class (point 4294967295 4294967295 4294967295 ∷ []) (point 0 0 0) ≡ advanced
+unfolding directClass anchorOf offset has
+wraps = refl
+
+-- document 01's examples 7 and 8: anchor (10,10,10), then (12,12,13), then (11,11,11)
+abbrev seven : List CounterPoint
+seven = point 12 12 13 ∷ point 10 10 10 ∷ []
+
+pub example-7 : spans seven ≡ some (record {
+  sender-packets = 2;
+  reflector-received = 2;
+  forward-missing = some 0;
+  reflector-transmitted = 3;
+  replies-received = 1;
+  reverse-missing = 2;
+})
+unfolding spans anchorOf offset receivedMaximum missing has
+example-7 = refl
+
+pub example-8 : (class seven (point 11 11 11) ≡ reordered)
+    × (spans (point 11 11 11 ∷ seven) ≡ some (record {
+      sender-packets = 2;
+      reflector-received = 2;
+      forward-missing = some 0;
+      reflector-transmitted = 3;
+      replies-received = 2;
+      reverse-missing = 1;
+    }))
+unfolding directClass spans anchorOf offset receivedMaximum missing has
+example-8 = (refl, refl)
+
+-- more received than sent: forward missing is absent, reverse missing is still shown
+forward-absent : spans (point 11 13 12 ∷ point 10 10 10 ∷ []) ≡ some (record {
+  sender-packets = 1;
+  reflector-received = 3;
+  forward-missing = none;
+  reflector-transmitted = 2;
+  replies-received = 1;
+  reverse-missing = 1;
+})
+unfolding spans anchorOf offset receivedMaximum missing has
+forward-absent = refl
+
+-- what broke continuity is not the new anchor
+cleared : window 4 (events 4 (
+    observe (key 1 12 6) (Point (point 1 10 10)) NoFollowUp ∷ accept (key 1 12 6) NoPacket
+    ∷ observe (key 1 11 5) (Point (point 1 10 10)) NoFollowUp ∷ accept (key 1 11 5) NoPacket ∷ sent 1 1 ∷ [])) ≡ []
+unfolding window directClass anchorOf offset events replyClass lastAccepted held ready afterReply accepted rememberings distinct without hasKey has
+cleared = refl

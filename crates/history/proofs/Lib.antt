@@ -1,0 +1,4 @@
+pub mod Splits
+pub mod Missing
+pub mod Sentences
+pub mod Examples

@@ -1,0 +1,5 @@
+pub mod Counting
+pub mod Given
+pub mod Ledger
+pub mod FollowUps
+pub mod DirectLoss
