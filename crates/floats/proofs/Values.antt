@@ -2,18 +2,19 @@
 use mathlib.Core.Path.{_≡_, refl, sym, ap, _∙_, subst}
 use mathlib.Core.Bool.{Bool, true, false, not, cond, true≢false}
 use Prim.Native.Nat.{ℕ, zero, suc, _+_, _-_, _*_, _/_, _%_, _^_, _≤_, _<_}
-use native.Mathlib.Nat.{zero-lt-suc, mul-pos, mul-assoc, mul-comm, mul-left-comm, mul-right-comm, mul-mul-mul-comm, mul-mod-left, mul-div-cancel, mod-eq-of-lt, lt-of-lt-of-le, le-of-lt, mul-one, not-le-of-lt, eq-of-mul-eq-mul-right, add-mul, lt-irrefl, pow-suc}
+use native.Mathlib.Nat.{zero-lt-suc, mul-pos, mul-assoc, mul-comm, mul-left-comm, mul-right-comm, mul-mul-mul-comm, mul-mod-left, mul-div-cancel, mod-eq-of-lt, lt-of-lt-of-le, lt-of-le-of-lt, le-of-eq, le-of-lt, add-assoc, mul-one, one-mul, not-le-of-lt, eq-of-mul-eq-mul-right, add-mul, lt-irrefl, pow-suc}
 use Rattle.floats.specs.Exact.{Exactly}
 use native.Mathlib.Omega.{arith}
 use lib.IntN.{pos}
 use lib.Dec.{T, leb, le→leb, eqb, lit<, lit≤, leb→le, eqb→eq, not-T}
-use lib.Pow.{pow-add, pow-pos, pow-mono, shl-lt}
+use lib.Pow.{pow-add, pow-pos, pow-mono, pow-lt, shl-lt}
 use lib.Ieee.{Float, nan, inf, fin, Format, binary64, up, down, round, odd, mul, add, sum, ofInt, ofBits, ofFields, nanBits, isNan, inFloat}
-use lib.Ieee.Fits.{down-pos}
-use lib.Ieee.Bits.{is-false, nanBits-is}
+use lib.Ieee.Fits.{down-pos, round-fits}
+use lib.Ieee.Bits.{is-false, nanBits-is, ofBits-fits}
 use lib.Ieee.Exact.{HasValue, odd-sign, round-exact}
 use lib.Ieee.Scale.{round-same}
 use lib.Ieee.Back.{round-whole}
+use Rattle.floats.proofs.OneValue.{one-value}
 
 -- ---- a product and a sum of two values that are not negative, by the fractions that they are
 pub mul-val : (f : Format) (x y : Float) (a c b d : ℕ) → 0 < c → 0 < d → HasValue x false a c → HasValue y false b d → mul f x y ≡ round f false (a * b) (c * d)
@@ -118,6 +119,24 @@ power-is (suc j) p h =
   where
     count : (p : ℕ) → p * 2 * 2 ^ 1074 ≡ 2 ^ 52 * p * 2 ^ 1023
     count p = mul-assoc p 2 (2 ^ 1074) ∙ sym (ap (λ (y : ℕ). y * 2 ^ 1023) (mul-comm (2 ^ 52) p) ∙ mul-assoc p (2 ^ 52) (2 ^ 1023))
+
+-- and it is the only f64 that does
+pub power-exactly : (x : ℕ) → 0 < x → x < 2047 → Exactly (ofBits binary64 (bits x)) (2 ^ x) (2 ^ 1023)
+power-exactly x p h = record {
+  exact = power-is x p h;
+  only =
+      one-value (ofBits binary64 (bits x)) (round binary64 false (2 ^ x) (2 ^ 1023)) false (2 ^ x) (2 ^ 1023) (pow-pos 1023)
+      (ofBits-fits binary64 (bits x)) (round-fits binary64 false (2 ^ x) (2 ^ 1023)) (power-is x p h) rounded;
+}
+  where
+    rounded : HasValue (round binary64 false (2 ^ x) (2 ^ 1023)) false (2 ^ x) (2 ^ 1023)
+    rounded =
+        round-exact binary64 false (2 ^ x) (2 ^ 1023) 1 (x + 51) (pow-pos 1023) (lit< tt)
+        (lt-of-le-of-lt (le-of-eq (one-mul (2 ^ (x + 51)))) (pow-lt (room x h)))
+        (sym (pow-add 2 x 1074) ∙ sym (ap (λ (y : ℕ). y * 2 ^ 1023) (one-mul (2 ^ (x + 51))) ∙ sym (pow-add 2 (x + 51) 1023) ∙ ap (λ (y : ℕ). 2 ^ y) (add-assoc x 51 1023)))
+      where
+        room : (x : ℕ) → x < 2047 → x + 51 < 2098
+        room x h = omega arith
 
 -- the same as a fraction 2 ^ k / 2 ^ l, for x - 1023 = k - l
 pub power-at : (y : Float) (x k l : ℕ) → x + l ≡ k + 1023 → HasValue y false (2 ^ x) (2 ^ 1023) → HasValue y false (2 ^ k) (2 ^ l)

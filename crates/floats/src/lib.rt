@@ -1,18 +1,17 @@
 // f64 steps whose results are stated over whole numbers: what Rust's `as f64` of an i128, `powi` of 2.0 and `round` are.
 // A power of two, an integer of a sign and two words as the nearest f64, and an f64 as the nearest whole number.
 ghost use mathlib.Core.Path.{_≡_};
-ghost use mathlib.Core.Bool.{false};
 ghost use Prim.Native.Nat.{min, _+_, _*_, _^_, _≤_, _<_};
 ghost use lib.IntN.{pos};
 ghost use lib.Ieee.{binary64, ofInt};
-ghost use lib.Ieee.Exact.{HasValue};
+ghost use Rattle.floats.specs.Exact.{Exactly};
 ghost use Rattle.floats.specs.Whole.{magnitude, signed};
 ghost use Rattle.floats.specs.Half.{roundTo};
 
 // 2 ^ (field - 1023), by its bit pattern: the exponent's field is as given, and the digits' field 0.
 pub fn power_of_two(field: u64) -> f64
     requires { ⌜ (0 < field) × (field < 2047) ⌝ }
-    ensures { λ r. ⌜ HasValue r false (2 ^ field) (2 ^ 1023) ⌝ }
+    ensures { λ r. ⌜ Exactly r (2 ^ field) (2 ^ 1023) ⌝ }
 {
     f64::from_bits(field << 52)
 }

@@ -25,7 +25,7 @@ int-to-float-result-2 : tie.Need-int-to-float-result-2
 int-to-float-result-2 c = half-in _ (search needs)
 
 returns : tie.Need-returns
-returns c = let b = c .before .before .before .before in halves (b .args .digits) (b .args .exponent) _ _ (search needs) (search needs) (c .before .before .before .power-of-two .ensures) (c .before .before .power-of-two2 .ensures)
+returns c = let b = c .before .before .before .before in halves (b .args .digits) (b .args .exponent) _ _ (search needs) (search needs) (c .before .before .before .power-of-two .ensures .exact) (c .before .before .power-of-two2 .ensures .exact)
 
 pub nearest-scaled-spec : {M : Type 1} → statement M
 nearest-scaled-spec =
