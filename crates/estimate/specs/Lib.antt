@@ -1,0 +1,4 @@
+pub mod Wire
+pub mod Make
+pub mod Error
+pub mod RoundTrip
