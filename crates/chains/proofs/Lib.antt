@@ -1,0 +1,11 @@
+pub mod Tests
+pub mod Places
+pub mod Contents
+pub mod Walks
+pub mod Chains
+pub mod Scan
+pub mod Lanes
+pub mod Loop
+pub mod Hashes
+pub mod Remove
+pub mod Shift

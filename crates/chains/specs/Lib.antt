@@ -1,0 +1,6 @@
+pub mod Rings
+pub mod Links
+pub mod Walk
+pub mod Whole
+pub mod Hash
+pub mod Mend

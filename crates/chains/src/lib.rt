@@ -1,0 +1,190 @@
+// Rings and chains of equal hash in lent rooms: what `HashMap`, `HashSet` and `VecDeque` of src/sender/measurements.rs stand on here.
+// A ring has 4,096 entries. A place counts from its oldest entry, a slot is where the entry of a place stands in the room.
+// A row of `links` has four lanes of two links each, at 0, 2, 4 and 6: in row h the newest slot whose entry hashes to h, in row p the slot of
+// the next older entry with the hash of the entry in slot p. Nothing is ever cleared there: a walk only goes down in place.
+ghost use mathlib.Core.Path.{_≡_};
+ghost use Prim.Native.Nat.{ℕ, _+_, _-_, _*_, _≤_, _<_};
+ghost use lib.ListN.{length};
+ghost use Rattle.scope.specs.Limits.{capacity};
+ghost use Rattle.chains.specs.Rings.{wrap, pushSlot, afterPush, RingFits};
+ghost use Rattle.chains.specs.Walk.{placeOf};
+ghost use Rattle.chains.specs.Links.{newest, older, linked};
+ghost use Rattle.chains.specs.Hash.{productsOf, keyHash, numberHash};
+ghost use Rattle.chains.specs.Mend.{slotBefore, mendedLink};
+use scope::CAPACITY;
+
+// The slot of the oldest entry, and how many entries there are.
+pub struct Ring {
+    pub head: usize,
+    pub len: usize,
+}
+
+fn wide(link: u16) -> usize
+    ensures { λ q. ⌜ q ≡ link ⌝ }
+{
+    link as usize
+}
+
+fn narrow(slot: usize) -> u16
+    requires { ⌜ slot < capacity ⌝ }
+    ensures { λ q. ⌜ q ≡ slot ⌝ }
+{
+    slot as u16
+}
+
+// A slot that was counted past the end of the room.
+pub fn wrapped(i: usize) -> usize
+    requires { ⌜ i < capacity + capacity ⌝ }
+    ensures { λ q. ⌜ (q ≡ wrap capacity i) × (q < capacity) ⌝ }
+{
+    if i < CAPACITY { i } else { i - CAPACITY }
+}
+
+// Where a push goes: behind the newest entry, or over the oldest.
+pub fn push_slot(ring: Ring) -> usize
+    requires { ⌜ RingFits capacity ring ⌝ }
+    ensures { λ q. ⌜ (q ≡ pushSlot capacity ring) × (q < capacity) ⌝ }
+{
+    let head = ring.head;
+    let len = ring.len;
+    if len < CAPACITY {
+        return wrapped(head + len);
+    }
+    head
+}
+
+// The ring after a push.
+pub fn pushed(ring: Ring) -> Ring
+    requires { ⌜ RingFits capacity ring ⌝ }
+    ensures { λ q. ⌜ (q ≡ afterPush capacity ring) × RingFits capacity q ⌝ }
+{
+    let head = ring.head;
+    let len = ring.len;
+    if len < CAPACITY {
+        return Ring {
+            head: head,
+            len: len + 1,
+        };
+    }
+    let next = wrapped(head + 1);
+    Ring {
+        head: next,
+        len: len,
+    }
+}
+
+// Where a link leads, counted from the oldest entry; 4,096 where it is no slot.
+pub fn place(head: usize, link: usize) -> usize
+    requires { ⌜ head < capacity ⌝ }
+    ensures { λ q. ⌜ q ≡ placeOf capacity head link ⌝ }
+{
+    if link < CAPACITY {
+        if link < head {
+            return link + CAPACITY - head;
+        }
+        return link - head;
+    }
+    CAPACITY
+}
+
+// The newest slot whose entry has this hash, in one lane.
+pub fn first(links: &[[u16; 8]], lane: usize, hash: usize) -> usize
+    requires { ⌜ (length (now links) ≡ capacity) × (lane < 7) × (hash < capacity) ⌝ }
+    ensures { λ q. ⌜ q ≡ newest lane (now (links .entry)) hash ⌝ }
+{
+    wide(links[hash][lane])
+}
+
+// The slot of the next older entry with the hash of the one in `slot`, in one lane.
+pub fn next(links: &[[u16; 8]], lane: usize, slot: usize) -> usize
+    requires { ⌜ (length (now links) ≡ capacity) × (lane < 7) × (slot < capacity) ⌝ }
+    ensures { λ q. ⌜ q ≡ older lane (now (links .entry)) slot ⌝ }
+{
+    wide(links[slot][lane + 1])
+}
+
+// The entry in `slot`, which has this hash, as the newest of its chain, in one lane.
+pub fn link(links: &mut [[u16; 8]], lane: usize, hash: usize, slot: usize)
+    requires { ⌜ (length (now links) ≡ capacity) × (lane < 7) × (hash < capacity) × (slot < capacity) ⌝ }
+    ensures { λ q. ⌜ now (links .exit) ≡ linked lane (now (links .entry)) hash slot ⌝ }
+{
+    links[slot][lane + 1] = links[hash][lane];
+    links[hash][lane] = narrow(slot);
+}
+
+fn wide_word(word: u32) -> u64
+    ensures { λ q. ⌜ (q ≡ word) × (q < 4294967296) ⌝ }
+{
+    word as u64
+}
+
+// A 16-bit piece times its secret word.
+fn times(word: u32, piece: u64) -> u64
+    requires { ⌜ piece < 65536 ⌝ }
+    ensures { λ q. ⌜ (q ≡ word * piece) × (q < 281474976710656) ⌝ }
+{
+    wide_word(word) * piece
+}
+
+// The four pieces of a word, each times its secret word.
+fn products(w0: u32, w1: u32, w2: u32, w3: u32, x: u64) -> u64
+    ensures { λ q. ⌜ (q ≡ productsOf w0 w1 w2 w3 x) × (q < 1125899906842624) ⌝ }
+{
+    times(w0, x % 65536)
+        + times(w1, x / 65536 % 65536)
+        + times(w2, x / 4294967296 % 65536)
+        + times(w3, x / 281474976710656)
+}
+
+// The hash of a key of two words.
+pub fn key_hash(secret: [u32; 8], a: u64, b: u64) -> usize
+    ensures { λ q. ⌜ (q ≡ keyHash secret a b) × (q < capacity) ⌝ }
+{
+    let first = products(secret[0], secret[1], secret[2], secret[3], a);
+    let second = products(secret[4], secret[5], secret[6], secret[7], b);
+    ((first + second) / 1048576 % 4096) as usize
+}
+
+// The hash of a number: a reflector's, a sequence or an offset.
+pub fn number_hash(secret: [u32; 8], n: u32) -> usize
+    ensures { λ q. ⌜ (q ≡ numberHash secret n) × (q < capacity) ⌝ }
+{
+    let wide = wide_word(n);
+    let sum = times(secret[0], wide % 65536) + times(secret[1], wide / 65536);
+    (sum / 1048576 % 4096) as usize
+}
+
+// `place` in words of 16 bits, for the loops that go over every link of a room.
+fn place16(head: u16, link: u16) -> u16
+    requires { ⌜ head < capacity ⌝ }
+    ensures { λ q. ⌜ q ≡ placeOf capacity head link ⌝ }
+{
+    if link < 4096 {
+        if link < head {
+            return link + 4096 - head;
+        }
+        return link - head;
+    }
+    4096
+}
+
+fn slot_before(slot: u16) -> u16
+    ensures { λ q. ⌜ q ≡ slotBefore capacity slot ⌝ }
+{
+    if slot == 0 { 4095 } else { slot - 1 }
+}
+
+// A link after the entry at place `gone`, whose own link is `own`, was taken out and those above it moved down.
+pub fn mended(head: u16, gone: u16, own: u16, link: u16) -> u16
+    requires { ⌜ head < capacity ⌝ }
+    ensures { λ q. ⌜ q ≡ mendedLink capacity head gone own link ⌝ }
+{
+    let at = place16(head, link);
+    if gone < at {
+        return slot_before(link);
+    }
+    if gone == at {
+        return own;
+    }
+    link
+}
