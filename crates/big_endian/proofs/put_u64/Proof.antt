@@ -1,0 +1,40 @@
+use mathlib.Core.Path.{ap, _∙_}
+use mathlib.Core.List.{List}
+use Prim.Native.Nat.{ℕ, _+_, _%_}
+use borrow.Author.Needs.{needs}
+use Rattle.big_endian.specs.Numbers.{put}
+use Rattle.big_endian.proofs.put_u64.Statement.{statement}
+use Rattle.big_endian.proofs.put_u64.Tie as tie
+
+cast-put-u32 : tie.Need-cast-put-u32
+cast-put-u32 c = search needs
+
+put-u32-requires : tie.Need-put-u32-requires
+put-u32-requires c κs = search needs
+
+add-put-u32 : tie.Need-add-put-u32
+add-put-u32 c = search needs
+
+cast-put-u32-2 : tie.Need-cast-put-u32-2
+cast-put-u32-2 c = search needs
+
+put-u32-requires-2 : tie.Need-put-u32-requires-2
+put-u32-requires-2 c κs = search needs
+
+same-length : tie.Need-same-length
+same-length c = search needs
+
+returns : tie.Need-returns
+returns c = c .before .before .put-u322 .ensures ∙ ap (λ (l : List ℕ). put 2 l (c .before .before .before .before .before .before .before .before .before .args .at + 4) (c .before .before .before .before .before .before .before .before .before .args .v % 4294967296)) (c .before .before .before .before .before .before .put-u32 .ensures)
+
+pub put-u64-spec : {M : Type 1} → statement M
+put-u64-spec =
+    tie.close
+    (tie.spec
+    cast-put-u32
+    put-u32-requires
+    add-put-u32
+    cast-put-u32-2
+    put-u32-requires-2
+    same-length
+    returns)
