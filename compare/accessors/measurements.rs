@@ -1,0 +1,275 @@
+// Accessors for the comparison. All that stands above this line is the original's text.
+use std::time::{Duration, Instant};
+
+/// `Delays` of the original with its whole state in reach.
+#[derive(Default)]
+pub struct Sums(Delays);
+
+impl Sums {
+    pub fn record(&mut self, ns: i128) {
+        self.0.record(ns);
+    }
+    pub fn load(&mut self, count: u64, sum: i128, min: i128, max: i128) {
+        self.0 = Delays {
+            count,
+            sum,
+            min: (count != 0).then_some(min),
+            max: (count != 0).then_some(max),
+        };
+    }
+    pub fn state(&self) -> (u64, i128, Option<i128>, Option<i128>) {
+        (self.0.count, self.0.sum, self.0.min, self.0.max)
+    }
+    pub fn summary(&self) -> DelaySummary {
+        self.0.summary()
+    }
+}
+
+/// A reply's follow-up, as a host reads it from the packet.
+#[derive(Clone, Copy)]
+pub struct Follow {
+    pub sequence: u32,
+    pub timestamp: u64,
+    pub unknown: bool,
+}
+
+/// What one `observe` is told.
+#[derive(Clone, Copy)]
+pub struct Told {
+    pub key: (u32, u32, u64),
+    pub rtt: u64,
+    pub t4: Option<i64>,
+    pub ptp: bool,
+    pub reference: i64,
+    pub offset: i32,
+    pub ordinal: Option<u32>,
+    pub counters: Option<(u32, u32, u32)>,
+    pub follow: Option<Follow>,
+    pub quality: Option<(u16, u16)>,
+}
+
+/// A held probe: sequence, send time, tag, ordinal, answered, replies.
+pub type HeldProbe = (u32, u64, u64, Option<u32>, bool, u16);
+
+/// A slot's record: T4, PTP, reference, estimates.
+pub type SlotRecord = (Option<i128>, bool, i64, Option<(u16, u16)>);
+
+/// A ledger of the original with its whole state in reach. Its clock starts at `base`.
+pub struct Ledger {
+    inner: Measurements,
+    base: Instant,
+    awaiting: Option<ReplyKey>,
+}
+
+impl Ledger {
+    /// `monitor` is a threshold and a timeout.
+    pub fn fresh(copies: u16, monitor: Option<(u16, u64)>) -> Self {
+        let mut inner = Measurements::new(copies);
+        inner.monitor = monitor.map(|(threshold, timeout)| {
+            super::session_state::Monitor::new(threshold, Duration::from_nanos(timeout))
+        });
+        Self {
+            inner,
+            base: Instant::now(),
+            awaiting: None,
+        }
+    }
+    fn packet(&self, time: u64, tag: u64) -> PendingPacket {
+        PendingPacket::new(self.base + Duration::from_nanos(time), tag)
+    }
+    fn parts(&self, packet: PendingPacket) -> (u64, u64) {
+        let (time, tag) = packet.parts();
+        (time.duration_since(self.base).as_nanos() as u64, tag)
+    }
+    pub fn sent(&mut self, sequence: u32, time: u64, tag: u64, ordinal: u32) {
+        let packet = self.packet(time, tag);
+        self.inner.sent(sequence, packet, ordinal);
+    }
+    pub fn advance(&mut self, time: u64) {
+        let now = self.base + Duration::from_nanos(time);
+        if let Some(m) = self.inner.monitor.as_mut() {
+            m.advance(now);
+        }
+    }
+    pub fn idle(&mut self) {
+        if let Some(m) = self.inner.monitor.as_mut() {
+            m.idle();
+        }
+    }
+    pub fn accept(
+        &mut self,
+        (sender, reflector, t3): (u32, u32, u64),
+        pending: Option<(u64, u64)>,
+    ) -> Option<(u64, u64, Option<u32>)> {
+        let key = ReplyKey {
+            sender,
+            reflector,
+            t3,
+        };
+        let pending = pending.map(|(time, tag)| self.packet(time, tag));
+        let (packet, ordinal) = self.inner.accept(key, pending)?;
+        self.awaiting = Some(key);
+        let (time, tag) = self.parts(packet);
+        Some((time, tag, ordinal))
+    }
+    pub fn observe(&mut self, told: Told) {
+        self.awaiting = None;
+        self.inner.observe(ReplyObservation {
+            key: ReplyKey {
+                sender: told.key.0,
+                reflector: told.key.1,
+                t3: told.key.2,
+            },
+            rtt_ns: told.rtt,
+            t4_ns: told.t4.map(i128::from),
+            format: format_of(told.ptp),
+            reference: told.reference,
+            offset: told.offset,
+            ordinal: told.ordinal,
+            dm: told.counters.map(|(sender, rx, tx)| DirectMeasurementTlv {
+                sender_tx_count: sender,
+                reflector_rx_count: rx,
+                reflector_tx_count: tx,
+            }),
+            follow: told.follow.map(|f| FollowUpTelemetryTlv {
+                sequence_number: f.sequence,
+                follow_up_timestamp: f.timestamp,
+                timestamp_mode: if f.unknown {
+                    TimestampMethod::Unknown(0)
+                } else {
+                    TimestampMethod::HardwareAssist
+                },
+            }),
+            quality: told
+                .quality
+                .map(|(s, r)| (ErrorEstimate::from_wire(s), ErrorEstimate::from_wire(r))),
+        });
+    }
+    /// The format and the reference that this follow-up's time is converted by, where the original comes so far as to
+    /// convert it.
+    pub fn lookup(&self, key: (u32, u32, u64), follow: Follow) -> Option<(bool, i64)> {
+        if follow.unknown || follow.timestamp == 0 || follow.sequence == key.1 {
+            return None;
+        }
+        let slot = self.inner.correlations.get(&follow.sequence)?;
+        let previous = slot.unique.filter(|_| slot.count == 1 && !slot.corrected)?;
+        Some((previous.format == ClockFormat::PTP, previous.reference))
+    }
+    /// The conversion of time.rs.
+    pub fn converted(timestamp: u64, ptp: bool, reference: i64, offset: i32) -> Option<i128> {
+        timestamp_to_unix_nanos(timestamp, format_of(ptp), reference + i64::from(offset))
+    }
+    /// Document 01: the accepted key awaits one observe. The original leaves that to its caller.
+    pub fn awaits(&self, (sender, reflector, t3): (u32, u32, u64)) -> bool {
+        self.awaiting
+            == Some(ReplyKey {
+                sender,
+                reflector,
+                t3,
+            })
+    }
+    pub fn awaiting(&self) -> Option<(u32, u32, u64)> {
+        self.awaiting.map(|k| (k.sender, k.reflector, k.t3))
+    }
+    pub fn snapshot(&self) -> MeasurementSummary {
+        self.inner.snapshot()
+    }
+    pub fn needs_burst_wait(&self) -> bool {
+        self.inner.needs_burst_wait()
+    }
+    pub fn answered(&self, sequence: u32) -> bool {
+        self.inner.answered(sequence)
+    }
+    pub fn copies(&self) -> u16 {
+        self.inner.copies
+    }
+    pub fn satisfied(&self) -> u64 {
+        self.inner.satisfied
+    }
+    pub fn highest(&self) -> Option<u32> {
+        self.inner.highest_reflector
+    }
+    pub fn holds(&self, sequence: u32) -> bool {
+        self.inner.probes.contains_key(&sequence)
+    }
+    pub fn is_known(&self, (sender, reflector, t3): (u32, u32, u64)) -> bool {
+        self.inner.replies.contains(&ReplyKey {
+            sender,
+            reflector,
+            t3,
+        })
+    }
+    pub fn probe(&self, sequence: u32) -> Option<HeldProbe> {
+        let p = self.inner.probes.get(&sequence)?;
+        let (time, tag) = self.parts(p.packet);
+        Some((sequence, time, tag, p.ordinal, p.answered, p.replies))
+    }
+    /// The held probes, least recently remembered first.
+    pub fn probes(&self) -> impl Iterator<Item = HeldProbe> + '_ {
+        self.inner.probe_order.iter().filter_map(|s| self.probe(*s))
+    }
+    pub fn probe_count(&self) -> usize {
+        self.inner.probe_order.len()
+    }
+    /// The accepted keys, oldest first.
+    pub fn keys(&self) -> impl Iterator<Item = (u32, u32, u64)> + '_ {
+        self.inner
+            .reply_order
+            .iter()
+            .map(|k| (k.sender, k.reflector, k.t3))
+    }
+    pub fn key_count(&self) -> usize {
+        self.inner.reply_order.len()
+    }
+    /// A slot: its count, whether it was corrected, and its record.
+    pub fn slot(&self, reflector: u32) -> Option<(usize, bool, Option<SlotRecord>)> {
+        let slot = self.inner.correlations.get(&reflector)?;
+        let record = slot.unique.map(|r| {
+            let quality = r.quality.map(|(s, r)| (s.to_wire(), r.to_wire()));
+            (r.t4_ns, r.format == ClockFormat::PTP, r.reference, quality)
+        });
+        Some((slot.count, slot.corrected, record))
+    }
+    /// The reflector numbers that have a slot, in no order.
+    pub fn slots(&self) -> impl Iterator<Item = u32> + '_ {
+        self.inner.correlations.keys().copied()
+    }
+    pub fn slot_count(&self) -> usize {
+        self.inner.correlations.len()
+    }
+    /// Two sums: round trips, follow-up delays.
+    pub fn sums(&self) -> [(u64, i128, Option<i128>, Option<i128>); 2] {
+        [&self.inner.rtt, &self.inner.follow_delay].map(|d| (d.count, d.sum, d.min, d.max))
+    }
+    /// Highest transmit count, sender maximum, received maximum.
+    pub fn direct(&self) -> (u32, u32, u32) {
+        let d = &self.inner.direct;
+        (d.high_tx, d.max_sender, d.max_rx)
+    }
+    pub fn seen(&self) -> impl Iterator<Item = u32> + '_ {
+        self.inner.direct.seen.iter().copied()
+    }
+    pub fn seen_count(&self) -> usize {
+        self.inner.direct.seen.len()
+    }
+    pub fn has_seen(&self, offset: u32) -> bool {
+        self.inner.direct.seen.contains(&offset)
+    }
+    pub fn monitor(
+        &self,
+    ) -> Option<(super::session_state::Summary, bool, Vec<(u32, u64, bool)>)> {
+        let monitor = self.inner.monitor.as_ref()?;
+        Some(super::session_state::watched(monitor, self.base))
+    }
+    pub fn queued(&self) -> usize {
+        self.monitor().map_or(0, |m| m.2.len())
+    }
+}
+
+fn format_of(ptp: bool) -> ClockFormat {
+    if ptp {
+        ClockFormat::PTP
+    } else {
+        ClockFormat::NTP
+    }
+}

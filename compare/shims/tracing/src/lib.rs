@@ -1,0 +1,6 @@
+//! Stands in for tracing: `info!` writes nothing.
+
+#[macro_export]
+macro_rules! info {
+    ($($anything:tt)*) => {};
+}

@@ -1,0 +1,146 @@
+//! Holds the port against the original: plays the same scripts of calls on both and compares every answer and state.
+#![allow(dead_code)]
+
+mod cover;
+mod digest;
+mod part;
+mod parts;
+mod port;
+mod random;
+
+// The original's own modules, under the names that its texts use.
+#[path = "../target/texts/clock_format.rs"]
+pub mod clock_format;
+pub mod configuration {
+    pub use crate::clock_format::ClockFormat;
+}
+#[path = "../target/texts/error_estimate.rs"]
+pub mod error_estimate;
+pub mod sender;
+pub mod stats;
+#[path = "../target/texts/time.rs"]
+pub mod time;
+pub mod tlv;
+
+use std::{
+    env, fs,
+    process::exit,
+    time::{Duration, Instant},
+};
+
+use cover::Cover;
+use part::Part;
+use random::Random;
+
+/// The seed of the fixed list that the repository keeps.
+const SAMPLE_SEED: u64 = 20_261_027;
+
+const USAGE: &str = "usage: compare play START SEED SECONDS PART..   compare sample CRATES PART..   compare reach SEED PART..   compare parts";
+
+fn main() {
+    let args: Vec<String> = env::args().collect();
+    match args.get(1).map(String::as_str) {
+        Some("parts") => parts::ALL
+            .iter()
+            .for_each(|p| println!("{} {}", p.name, p.program)),
+        Some("reach") if args.len() > 3 => {
+            let seed = args[2].parse().expect(USAGE);
+            chosen(&args[3..]).for_each(|part| reach(part, seed));
+        }
+        Some("sample") if args.len() > 3 => {
+            chosen(&args[3..]).for_each(|part| sample(part, &args[2]));
+        }
+        Some("play") if args.len() > 5 => {
+            let seed = args[3].parse().expect(USAGE);
+            let seconds = args[4].parse().expect(USAGE);
+            if !play(&args[2], seed, seconds, &args[5..]) {
+                exit(1);
+            }
+        }
+        _ => {
+            eprintln!("{USAGE}");
+            exit(2);
+        }
+    }
+}
+
+fn chosen(names: &[String]) -> impl Iterator<Item = &'static Part> + '_ {
+    parts::ALL
+        .iter()
+        .filter(move |p| names.iter().any(|n| n == p.name))
+}
+
+/// Plays one round of each part, and further rounds with other seeds until the time is over. 0 seconds: one short round.
+fn play(start: &str, seed: u64, seconds: u64, names: &[String]) -> bool {
+    let began = Instant::now();
+    let mut all_well = true;
+    let mut totals: Vec<(&Part, Cover, u64, u64)> = chosen(names)
+        .map(|p| (p, Cover::new(p.lines), 0, 0))
+        .collect();
+    let mut round = 0;
+    loop {
+        for (part, cover, scripts_played, calls_played) in &mut totals {
+            let mut random = Random::new(seed.wrapping_add(round));
+            let scripts = (part.scripts)(&mut random, seconds > 0);
+            let played = port::play(part, &scripts, cover);
+            let written = port::port(start, part, &played.given);
+            *scripts_played += scripts.len() as u64;
+            *calls_played += played.calls;
+            if let Some(d) = port::compare(part, &scripts, &played.expected, &written) {
+                println!("seed {}", seed.wrapping_add(round));
+                port::report(start, part, &scripts, &d);
+                all_well = false;
+            }
+        }
+        round += 1;
+        if !all_well || began.elapsed() >= Duration::from_secs(seconds) {
+            break;
+        }
+    }
+    println!("reached:");
+    for (part, cover, ..) in &totals {
+        cover.print(part.name);
+    }
+    for (part, cover, scripts, calls) in &totals {
+        for line in cover.missing() {
+            println!("NOT REACHED in {}: {line}", part.name);
+            all_well = false;
+        }
+        println!(
+            "{}: {scripts} scripts, {calls} calls, {round} rounds from seed {seed}",
+            part.name
+        );
+    }
+    all_well
+}
+
+/// Plays one short round on the original alone and says what it reached.
+fn reach(part: &Part, seed: u64) {
+    let scripts = (part.scripts)(&mut Random::new(seed), false);
+    let mut cover = Cover::new(part.lines);
+    let played = port::play(part, &scripts, &mut cover);
+    cover.print(part.name);
+    println!(
+        "{}: {} scripts, {} calls",
+        part.name,
+        scripts.len(),
+        played.calls
+    );
+    for line in cover.missing() {
+        println!("NOT REACHED in {}: {line}", part.name);
+    }
+}
+
+/// Writes the fixed list of a part: what its program is given, and what the original answers.
+fn sample(part: &Part, crates: &str) {
+    let scripts = (part.sample)(&mut Random::new(SAMPLE_SEED));
+    let played = port::play(part, &scripts, &mut Cover::nothing());
+    let folder = format!("{crates}/{}", part.program);
+    fs::write(format!("{folder}/stdin"), &played.given).expect("stdin");
+    fs::write(format!("{folder}/stdout"), &played.expected).expect("stdout");
+    println!(
+        "{folder}: {} scripts, {} calls",
+        scripts.len(),
+        played.calls
+    );
+}

@@ -1,0 +1,383 @@
+//! The ledger (`Measurements` of measurements.rs), with its monitor.
+mod reached;
+mod scripts;
+mod shown;
+
+use super::{
+    CAPACITY, COUNTS_FULL, COUNT_BOUND, DEADLINE_PASSES, NOT_AWAITING, OUT_OF_RANGE, QUEUE_FULL,
+};
+use crate::{
+    cover::Cover,
+    part::{Answer, Call, Original, Part},
+    sender::measurements::{Follow, Ledger, Told},
+};
+use reached::{reached_by_step, LINES};
+use shown::WORDS;
+
+/// Copies, 0 or 1 for a monitor, its threshold, its timeout.
+pub const FRESH: u64 = 0;
+/// Sequence, time, tag, ordinal.
+pub const SENT: u64 = 1;
+/// Sender and reflector, T3, 0 or 1 for a pending packet, its time, its tag.
+pub const ACCEPT: u64 = 2;
+/// See `told`. The lookup is asked first, and the time that it gives is converted by time.rs.
+pub const OBSERVE: u64 = 3;
+/// Now.
+pub const ADVANCE: u64 = 4;
+pub const IDLE: u64 = 5;
+/// Calls served so far: a state as a host could hand it over.
+pub const LOAD: u64 = 6;
+/// A call whose last word is 1 answers with the digests of the rooms too.
+pub const DIGEST: usize = 15;
+
+/// Flags of an observe, in its first word above the operation, as in the log.
+pub const T4: u64 = 1;
+pub const ORDINAL: u64 = 2;
+pub const COUNTERS: u64 = 4;
+pub const FOLLOW: u64 = 8;
+pub const CONVERTED: u64 = 16;
+pub const QUALITY: u64 = 32;
+pub const PTP: u64 = 64;
+pub const UNKNOWN_MODE: u64 = 128;
+/// Where the lookup shows nothing, word 13 goes to the port as a converted T3 all the same. It must not matter.
+pub const ANYWAY: u64 = 256;
+
+/// Document 01's ranges.
+pub const TIME_LIMIT: i64 = 4_000_000_000_000_000_000;
+pub const REFERENCE_LIMIT: i64 = 4_000_000_000;
+pub const OFFSET_LIMIT: i32 = 86_400;
+pub const MOST_CALLS: u64 = 4_294_967_295;
+
+pub const PART: Part = Part {
+    name: "ledger",
+    program: "play_ledger",
+    call_words: 16,
+    answer_words: 64,
+    lines: &LINES,
+    fresh: || Box::new(Booked::fresh(1, None)),
+    scripts: scripts::scripts,
+    sample: scripts::sample,
+    show,
+    answer: &WORDS,
+};
+
+struct Booked {
+    ledger: Ledger,
+    monitor: Option<(u16, u64)>,
+    calls: u64,
+    freed: std::collections::HashSet<u32>,
+    unobserved: std::collections::HashSet<(u32, u32, u64)>,
+    broken: bool,
+}
+
+pub fn halves(low: u32, high: u32) -> u64 {
+    u64::from(low) | u64::from(high) << 32
+}
+
+/// What an observe is told, out of its words.
+fn told(call: &Call) -> Told {
+    let flags = call[0] >> 8;
+    let has = |flag: u64| flags & flag != 0;
+    Told {
+        key: key(call),
+        rtt: call[3],
+        t4: has(T4).then_some(call[4] as i64),
+        ptp: has(PTP),
+        reference: call[5] as i64,
+        offset: call[6] as u32 as i32,
+        ordinal: has(ORDINAL).then_some((call[6] >> 32) as u32),
+        counters: has(COUNTERS).then_some((call[7] as u32, (call[7] >> 32) as u32, call[8] as u32)),
+        follow: has(FOLLOW).then_some(Follow {
+            sequence: (call[8] >> 32) as u32,
+            timestamp: call[9],
+            unknown: has(UNKNOWN_MODE),
+        }),
+        quality: has(QUALITY).then_some((wire(call[11] as u32), wire((call[11] >> 32) as u32))),
+    }
+}
+
+/// An estimate as its fields (S, Z, scale, multiplier) to its 16 bits. Only scales up to 63 are handed to the original.
+fn wire(fields: u32) -> u16 {
+    let scale = (fields >> 8 & 0x3f) as u16;
+    let multiplier = (fields >> 16 & 0xff) as u16;
+    (fields as u16 & 1) << 15 | (fields as u16 >> 1 & 1) << 14 | scale << 8 | multiplier
+}
+
+fn key(call: &Call) -> (u32, u32, u64) {
+    (call[1] as u32, (call[1] >> 32) as u32, call[2])
+}
+
+impl Booked {
+    fn fresh(copies: u16, monitor: Option<(u16, u64)>) -> Self {
+        Self {
+            ledger: Ledger::fresh(copies, monitor),
+            monitor,
+            calls: 0,
+            freed: Default::default(),
+            unobserved: Default::default(),
+            broken: false,
+        }
+    }
+}
+
+impl Original for Booked {
+    fn play(&mut self, call: &mut Call, cover: &mut Cover) -> Answer {
+        match call[0] & 0xff {
+            FRESH => {
+                let monitor = (call[2] != 0).then_some((call[3] as u16, call[4]));
+                *self = Self::fresh(call[1] as u16, monitor);
+                cover.reached_if(call[1] == 0, "fresh: copies 0 counts as 1");
+                cover.reached_if(call[1] > 1, "fresh: copies above 1");
+                cover.reached_if(monitor.is_some(), "fresh: with a monitor");
+                cover.reached_if(monitor.is_none(), "fresh: without a monitor");
+                self.shown([0; 6], call)
+            }
+            SENT => self.sent(call, cover),
+            ACCEPT => self.accept(call, cover),
+            OBSERVE => self.observe(call, cover),
+            ADVANCE => {
+                cover.reached_if(self.monitor.is_some(), "monitor: advance");
+                self.ledger.advance(call[1]);
+                self.shown([0; 6], call)
+            }
+            IDLE => {
+                cover.reached_if(self.monitor.is_some(), "monitor: idle");
+                self.ledger.idle();
+                self.shown([0; 6], call)
+            }
+            _ => {
+                self.calls = call[1];
+                self.shown([0; 6], call)
+            }
+        }
+    }
+}
+
+impl Booked {
+    /// Counts and sums stay far below their bounds in scripts from fresh; the number of calls is loaded.
+    fn full(&self) -> bool {
+        assert!(self.ledger.snapshot().requested_replies < COUNT_BOUND);
+        self.calls >= MOST_CALLS
+    }
+
+    fn sent(&mut self, call: &Call, cover: &mut Cover) -> Answer {
+        let (sequence, time) = (call[1] as u32, call[2]);
+        let timeout = self.monitor.map(|m| m.1);
+        if timeout.is_some_and(|t| time.checked_add(t).is_none()) {
+            cover.reached("sent: refused 6");
+            return self.shown([DEADLINE_PASSES, 0, 0, 0, 0, 0], call);
+        }
+        if self.full() {
+            cover.reached("sent: refused 4");
+            return self.shown([COUNTS_FULL, 0, 0, 0, 0, 0], call);
+        }
+        if timeout.is_some_and(|t| t > 0) && self.ledger.queued() == CAPACITY {
+            cover.reached("sent: refused 3");
+            return self.shown([QUEUE_FULL, 0, 0, 0, 0, 0], call);
+        }
+        let held = self.ledger.holds(sequence);
+        let evicted = self.ledger.snapshot().probes_evicted;
+        self.ledger.sent(sequence, time, call[3], call[4] as u32);
+        self.calls += 1;
+        let evicts = self.ledger.snapshot().probes_evicted > evicted;
+        cover.reached_if(held, "sent: a held sequence again");
+        cover.reached_if(!held, "sent: a new sequence");
+        cover.reached_if(evicts, "sent: evicts a probe");
+        self.shown([0; 6], call)
+    }
+
+    fn accept(&mut self, call: &Call, cover: &mut Cover) -> Answer {
+        if self.full() {
+            cover.reached("accept: refused 4");
+            return self.shown([COUNTS_FULL, 0, 0, 0, 0, 0], call);
+        }
+        let key = key(call);
+        let pending = (call[3] != 0).then_some((call[4], call[5]));
+        let before = self.ledger.snapshot();
+        let held = self.ledger.probe(key.0);
+        let highest = self.ledger.highest();
+        let awaited = self.ledger.awaiting();
+        let evicted = (self.ledger.key_count() == CAPACITY)
+            .then(|| self.ledger.keys().next())
+            .flatten();
+        let slot = evicted.and_then(|k| self.ledger.slot(k.1));
+        self.calls += 1;
+        let Some((time, tag, ordinal)) = self.ledger.accept(key, pending) else {
+            let after = self.ledger.snapshot();
+            let duplicate = after.duplicate_replies > before.duplicate_replies;
+            cover.reached_if(duplicate, "accept: duplicate");
+            cover.reached_if(!duplicate, "accept: unknown");
+            return self.shown([0, u64::from(duplicate), 0, 0, 0, 0], call);
+        };
+        let after = self.ledger.snapshot();
+        self.unobserved.insert(key);
+        cover.reached_if(held.is_none(), "accept: unheld probe with a pending packet");
+        let evicts = after.probes_evicted > before.probes_evicted;
+        cover.reached_if(evicts, "accept: that evicts a probe");
+        let replaces = held.zip(pending).is_some_and(|(h, p)| (h.1, h.2) != p);
+        cover.reached_if(replaces, "accept: pending packet replaces the stored one");
+        let first = after.answered_probes > before.answered_probes;
+        cover.reached_if(first, "accept: first reply");
+        let late = after.late_replies > before.late_replies;
+        cover.reached_if(late, "accept: first reply, late");
+        cover.reached_if(!first, "accept: additional reply");
+        let beyond = held.is_some_and(|h| h.5 >= self.ledger.copies());
+        cover.reached_if(beyond, "accept: reply beyond the copies");
+        cover.reached_if(key.0 != key.1, "accept: independent reflector");
+        reached_by_step(highest, key.1, cover);
+        cover.reached_if(ordinal.is_none(), "accept: no ordinal");
+        cover.reached_if(
+            awaited.is_some(),
+            "accept: takes the place of a key that awaits",
+        );
+        if let Some(old) = evicted {
+            self.reached_by_eviction(old, slot.map(|s| s.0), cover);
+        }
+        let ordinal = (u64::from(ordinal.is_some()), ordinal.map_or(0, u64::from));
+        self.shown([0, 2, time, tag, ordinal.0, ordinal.1], call)
+    }
+
+    fn observe(&mut self, call: &mut Call, cover: &mut Cover) -> Answer {
+        let told = told(call);
+        let shown = told.follow.and_then(|f| self.ledger.lookup(told.key, f));
+        let converted = self.convert(&told, shown, call);
+        let looked = [
+            0,
+            u64::from(shown.is_some()),
+            shown.map_or(0, |s| u64::from(s.0)),
+            shown.map_or(0, |s| s.1 as u64),
+            0,
+            0,
+        ];
+        let refusal = self.observe_refusal(&told, converted, call, cover);
+        if refusal != 0 {
+            let mut head = looked;
+            head[0] = refusal;
+            return self.shown(head, call);
+        }
+        self.reached_by_direct(&told, cover);
+        let before = self.ledger.snapshot();
+        let lookup_only = self.follow_line(&told, shown.is_some());
+        let slot = self.ledger.slot(told.key.1);
+        let before_sum = self.ledger.sums()[1].1;
+        self.ledger.observe(told);
+        self.calls += 1;
+        self.unobserved.remove(&told.key);
+        let after = self.ledger.snapshot();
+        self.reached_by_direct_after(&told, &before, &after, cover);
+        if let Some(line) = lookup_only {
+            cover.reached(line);
+        }
+        if shown.is_some() {
+            let matched = after.follow_up.matched > before.follow_up.matched;
+            let delay = self.ledger.sums()[1].1 - before_sum;
+            cover.reached_if(matched, "follow-up: matched");
+            cover.reached_if(matched && delay < 0, "follow-up: matched, negative delay");
+            let absent = converted.is_none();
+            cover.reached_if(
+                !matched && absent,
+                "follow-up: unavailable, T3 not converted",
+            );
+            cover.reached_if(!matched && !absent, "follow-up: unavailable, T4 absent");
+        }
+        let made = self.ledger.slot(told.key.1);
+        let record = made.is_some_and(|m| m.2.is_some());
+        match slot {
+            Some(_) => cover.reached("slot: count rises, record dropped"),
+            None if record => cover.reached("slot: made with a record"),
+            None => cover.reached("slot: made, record withheld"),
+        }
+        let anew = slot.is_none() && self.freed.contains(&told.key.1);
+        cover.reached_if(anew, "slot: made anew for a freed number");
+        self.shown(looked, call)
+    }
+
+    /// The host's work between lookup and observe: the time that time.rs gives is filled into the call.
+    fn convert(&self, told: &Told, shown: Option<(bool, i64)>, call: &mut Call) -> Option<i64> {
+        let follow = told.follow?;
+        let time = match shown {
+            Some((ptp, reference)) => {
+                Ledger::converted(follow.timestamp, ptp, reference, told.offset)
+                    .map(|t| i64::try_from(t).expect("a converted time fits a word"))
+            }
+            None => (call[0] >> 8 & ANYWAY != 0).then_some(call[13] as i64),
+        };
+        if let Some(time) = time {
+            call[0] |= CONVERTED << 8;
+            call[10] = time as u64;
+        }
+        time
+    }
+
+    fn observe_refusal(
+        &self,
+        told: &Told,
+        converted: Option<i64>,
+        call: &Call,
+        cover: &mut Cover,
+    ) -> u64 {
+        let beyond = |t: i64| t.unsigned_abs() > TIME_LIMIT.unsigned_abs();
+        let scales = [call[11] >> 8 & 0xff, call[11] >> 40 & 0xff];
+        let range = [
+            (told.t4.is_some_and(beyond), "observe: refused 1 for T4"),
+            (converted.is_some_and(beyond), "observe: refused 1 for T3"),
+            (
+                told.reference.unsigned_abs() > REFERENCE_LIMIT.unsigned_abs(),
+                "observe: refused 1 for the reference",
+            ),
+            (
+                told.offset.unsigned_abs() > OFFSET_LIMIT.unsigned_abs(),
+                "observe: refused 1 for the offset",
+            ),
+            (
+                told.quality.is_some() && scales.iter().any(|s| *s > 63),
+                "observe: refused 1 for a scale",
+            ),
+        ];
+        let awaits = self.ledger.awaits(told.key);
+        let mut outside = false;
+        for (holds, line) in range {
+            cover.reached_if(holds, line);
+            outside |= holds;
+        }
+        if outside {
+            cover.reached_if(!awaits, "observe: refused 1 before 2");
+            return OUT_OF_RANGE;
+        }
+        if self.full() {
+            cover.reached("observe: refused 4");
+            return COUNTS_FULL;
+        }
+        cover.reached_if(!awaits, "observe: refused 2");
+        if awaits {
+            0
+        } else {
+            NOT_AWAITING
+        }
+    }
+}
+
+fn show(call: &Call) -> String {
+    match call[0] & 0xff {
+        FRESH => format!(
+            "fresh copies {} monitor {} threshold {} timeout {}",
+            call[1], call[2], call[3], call[4]
+        ),
+        SENT => format!(
+            "sent {} at {} tag {} ordinal {}",
+            call[1], call[2], call[3], call[4]
+        ),
+        ACCEPT => format!("accept {:?} pending {:?}", key(call), &call[3..6]),
+        OBSERVE => {
+            let t = told(call);
+            let follow = t.follow.map(|f| (f.sequence, f.timestamp, f.unknown));
+            format!(
+                "observe {:?} rtt {} T4 {:?} PTP {} reference {} offset {} ordinal {:?} counters {:?} follow {:?} quality {:?} anyway {}",
+                t.key, t.rtt, t.t4, t.ptp, t.reference, t.offset, t.ordinal, t.counters, follow, t.quality, call[13]
+            )
+        }
+        ADVANCE => format!("advance {}", call[1]),
+        IDLE => "idle".into(),
+        _ => format!("load calls {}", call[1]),
+    }
+}
