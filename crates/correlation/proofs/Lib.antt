@@ -1,0 +1,5 @@
+pub mod Signed
+pub mod Joins
+pub mod Span
+pub mod Back
+pub mod Lowers
