@@ -1,0 +1,3 @@
+pub mod Quality
+pub mod Bounds
+pub mod Samples

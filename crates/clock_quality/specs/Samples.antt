@@ -1,0 +1,103 @@
+-- What a clock quality shows, from the plain list of its samples, the newest first. Assumes nothing.
+use mathlib.Core.Path.{_≡_, refl, ap, _∙_}
+use mathlib.Core.Bool.{Bool, true, false, _&&_}
+use mathlib.Core.List.{List, [], _∷_}
+use Prim.Native.Nat.{ℕ, suc, _+_}
+use native.Mathlib.Numerals.{add-one}
+use lib.ListN.{length}
+use Rattle.estimate.specs.declared.Estimates.{Estimates}
+use Rattle.estimate.specs.declared.Estimates.the-variants as estimates
+use Rattle.estimate.specs.Error.{errorMs}
+use Rattle.clock_quality.specs.declared.LastEstimate.{LastEstimate}
+use Rattle.clock_quality.specs.declared.LastEstimate.the-variants as last
+use Rattle.clock_quality.specs.declared.LargestError.{LargestError}
+use Rattle.clock_quality.specs.declared.LargestError.the-variants as largest
+use Rattle.clock_quality.specs.declared.ClockQuality.{ClockQuality}
+use Rattle.clock_quality.specs.Quality.{Class, unknown, pairClass, isKnown, isBoth, isUnsynchronized, isInvalid, isUnknown, counted, largestOf, clockEstimateOf, fresh, recordedOf}
+
+-- the class of a sample
+abbrev pub classOf : Estimates → Class
+classOf estimates.Absent = unknown
+classOf (estimates.Pair s r) = pairClass (isKnown (errorMs s) && isKnown (errorMs r)) (s .synchronized && r .synchronized)
+
+-- how many samples have a class that passes a test
+unfoldable pub count : (Class → Bool) → List Estimates → ℕ
+count test [] = 0
+count test (e ∷ es) = counted (test (classOf e)) (count test es)
+
+abbrev pub senderOf : Estimates → LastEstimate
+senderOf estimates.Absent = last.Absent
+senderOf (estimates.Pair s r) = last.Seen (clockEstimateOf s)
+
+abbrev pub reflectorOf : Estimates → LastEstimate
+reflectorOf estimates.Absent = last.Absent
+reflectorOf (estimates.Pair s r) = last.Seen (clockEstimateOf r)
+
+-- what the newest sample says, and nothing where there is none
+abbrev pub newest : (Estimates → LastEstimate) → List Estimates → LastEstimate
+newest of [] = last.Absent
+newest of (e ∷ es) = of e
+
+-- with the combined error of one sample
+abbrev pub largestWith : LargestError → Estimates → LargestError
+largestWith m estimates.Absent = m
+largestWith m (estimates.Pair s r) = largestOf m (errorMs s) (errorMs r)
+
+-- the largest combined error of the samples whose two errors are known
+unfoldable pub largestAmong : List Estimates → LargestError
+largestAmong [] = largest.Absent
+largestAmong (e ∷ es) = largestWith (largestAmong es) e
+
+-- the quality that recording the samples leaves
+unfoldable pub played : List Estimates → ClockQuality
+played [] = fresh
+played (e ∷ es) = recordedOf (played es) e
+
+-- each field, from the samples alone
+pub record Shows (es : List Estimates) (q : ClockQuality) : Type 0 where
+  pub samples : q .samples ≡ length es
+  pub both : q .both ≡ count isBoth es
+  pub unsynchronized : q .unsynchronized ≡ count isUnsynchronized es
+  pub invalid : q .invalid ≡ count isInvalid es
+  pub unknown : q .unknown ≡ count isUnknown es
+  pub sender : q .sender ≡ newest senderOf es
+  pub reflector : q .reflector ≡ newest reflectorOf es
+  pub largest : q .largest ≡ largestAmong es
+
+more : (q : ClockQuality) (es : List Estimates) (e : Estimates) → Shows es q → Shows (e ∷ es) (recordedOf q e)
+unfolding count largestAmong
+more q es estimates.Absent s = record {
+  samples = add-one (q .samples) ∙ ap suc (s .samples);
+  both = s .both;
+  unsynchronized = s .unsynchronized;
+  invalid = s .invalid;
+  unknown = ap (λ (n : ℕ). n + 1) (s .unknown);
+  sender = refl;
+  reflector = refl;
+  largest = s .largest;
+}
+more q es (estimates.Pair a b) s = let c = classOf (estimates.Pair a b) in record {
+  samples = add-one (q .samples) ∙ ap suc (s .samples);
+  both = ap (counted (isBoth c)) (s .both);
+  unsynchronized = ap (counted (isUnsynchronized c)) (s .unsynchronized);
+  invalid = ap (counted (isInvalid c)) (s .invalid);
+  unknown = ap (counted (isUnknown c)) (s .unknown);
+  sender = refl;
+  reflector = refl;
+  largest = ap (λ (m : LargestError). largestOf m (errorMs a) (errorMs b)) (s .largest);
+}
+
+-- the state after recording a list of samples from fresh shows them
+pub played-shows : (es : List Estimates) → Shows es (played es)
+unfolding count largestAmong played
+played-shows [] = record {
+  samples = refl;
+  both = refl;
+  unsynchronized = refl;
+  invalid = refl;
+  unknown = refl;
+  sender = refl;
+  reflector = refl;
+  largest = refl;
+}
+played-shows (e ∷ es) = more (played es) es e (played-shows es)
