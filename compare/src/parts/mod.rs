@@ -1,4 +1,5 @@
 //! The parts of the port that have calls of their own.
+mod delays;
 mod ledger;
 mod monitor;
 mod numbers;
@@ -6,7 +7,13 @@ mod quantiles;
 
 use crate::part::Part;
 
-pub const ALL: [Part; 4] = [numbers::PART, monitor::PART, quantiles::PART, ledger::PART];
+pub const ALL: [Part; 5] = [
+    numbers::PART,
+    delays::PART,
+    monitor::PART,
+    quantiles::PART,
+    ledger::PART,
+];
 
 /// Document 01: a count at this or beyond is refused.
 pub const COUNT_BOUND: u64 = 1 << 63;

@@ -1,17 +1,16 @@
-//! Estimates (error_estimate.rs), clock quality (clock_quality.rs) and sums of delays (`Delays` of measurements.rs).
+//! Estimates (error_estimate.rs) and clock quality (clock_quality.rs).
 mod scripts;
 
-use super::{COUNTS_FULL, COUNT_BOUND, OUT_OF_RANGE, SUM_BOUND};
+use super::{COUNTS_FULL, COUNT_BOUND, OUT_OF_RANGE};
 use crate::{
     clock_format::ClockFormat,
     cover::Cover,
     error_estimate::ErrorEstimate,
     part::{answer, Answer, Call, Original, Part},
-    sender::measurements::Sums,
     stats::{clock_quality::ClockEstimate, ClockQuality},
 };
 
-/// Both are made fresh.
+/// The clock quality is made fresh.
 const FRESH: u64 = 0;
 /// wire: the estimate of 16 bits.
 const WIRE: u64 = 1;
@@ -25,12 +24,6 @@ const UNSYNCHRONIZED: u64 = 4;
 const QUALITY: u64 = 5;
 /// The five counts, 0 or 1, the largest error: a state as a host could hand it over.
 const LOAD_QUALITY: u64 = 6;
-/// A round trip in ns: `Delays::record`.
-const ROUND_TRIP: u64 = 7;
-/// A signed delay in ns: `Delays::record`.
-const DELAY: u64 = 8;
-/// Count, the sum's two words, minimum, maximum: a state as a host could hand it over.
-const LOAD_SUM: u64 = 9;
 
 pub const PART: Part = Part {
     name: "numbers",
@@ -58,7 +51,7 @@ pub const PART: Part = Part {
     ],
 };
 
-const LINES: [&str; 45] = [
+const LINES: [&str; 34] = [
     "estimate: every u16",
     "estimate: S set",
     "estimate: S clear",
@@ -86,30 +79,18 @@ const LINES: [&str; 45] = [
     "quality: combined error not larger",
     "quality: combined error was rounded",
     "quality: unknown after a pair clears both estimates",
-    "quality: refused 1 for the sender's scale",
-    "quality: refused 1 for the reflector's scale",
+    "quality: a scale above 63 is invalid at the sender",
+    "quality: a scale above 63 is invalid at the reflector",
     "quality: refused 4 for samples",
     "quality: refused 4 for both synchronized",
     "quality: refused 4 for unsynchronized",
     "quality: refused 4 for invalid",
     "quality: refused 4 for unknown",
-    "delays: first sample",
-    "delays: lower minimum",
-    "delays: higher maximum",
-    "delays: between the two",
-    "delays: negative sample",
-    "delays: negative sum",
-    "delays: sum beyond 64 bits",
-    "delays: sum that f64 cannot hold",
-    "delays: refused 4 for the count",
-    "delays: refused 4 for a positive sum",
-    "delays: refused 4 for a negative sum",
 ];
 
 #[derive(Default)]
 struct Numbers {
     quality: ClockQuality,
-    sums: Sums,
 }
 
 /// An estimate in one word: S, Z, scale, multiplier.
@@ -132,9 +113,6 @@ impl Original for Numbers {
             WIRE | NEW | WITH_FORMAT | UNSYNCHRONIZED => estimate(call, cover),
             QUALITY => self.quality(call, cover),
             LOAD_QUALITY => self.load_quality(call),
-            ROUND_TRIP => self.delay(i128::from(call[1]), cover),
-            DELAY => self.delay(i128::from(call[1] as i64), cover),
-            LOAD_SUM => self.load_sum(call),
             _ => {
                 *self = Self::default();
                 answer(&[])
@@ -250,7 +228,7 @@ impl Numbers {
 
     fn quality(&mut self, call: &Call, cover: &mut Cover) -> Answer {
         let pair = (call[1] != 0).then(|| (unpacked(call[2]), unpacked(call[3])));
-        let refusal = self.quality_refusal(pair, cover);
+        let refusal = self.quality_refusal(cover);
         if refusal != 0 {
             return self.shown_quality(refusal);
         }
@@ -260,19 +238,7 @@ impl Numbers {
         self.shown_quality(0)
     }
 
-    fn quality_refusal(
-        &self,
-        pair: Option<(ErrorEstimate, ErrorEstimate)>,
-        cover: &mut Cover,
-    ) -> u64 {
-        if let Some((sender, reflector)) = pair {
-            let (s, r) = (sender.scale > 63, reflector.scale > 63);
-            cover.reached_if(s, "quality: refused 1 for the sender's scale");
-            cover.reached_if(!s && r, "quality: refused 1 for the reflector's scale");
-            if s || r {
-                return OUT_OF_RANGE;
-            }
-        }
+    fn quality_refusal(&self, cover: &mut Cover) -> u64 {
         let q = &self.quality;
         let counts = [
             (q.samples, "quality: refused 4 for samples"),
@@ -307,11 +273,20 @@ impl Numbers {
             );
             return;
         };
-        match (s.multiplier, r.multiplier) {
-            (0, 0) => cover.reached("quality: invalid at both"),
-            (0, _) => cover.reached("quality: invalid at the sender alone"),
-            (_, 0) => cover.reached("quality: invalid at the reflector alone"),
-            _ => match (s.synchronized, r.synchronized) {
+        cover.reached_if(
+            s.scale > 63,
+            "quality: a scale above 63 is invalid at the sender",
+        );
+        cover.reached_if(
+            r.scale > 63,
+            "quality: a scale above 63 is invalid at the reflector",
+        );
+        let valid = |e: ErrorEstimate| e.multiplier != 0 && e.scale <= 63;
+        match (valid(s), valid(r)) {
+            (false, false) => cover.reached("quality: invalid at both"),
+            (false, true) => cover.reached("quality: invalid at the sender alone"),
+            (true, false) => cover.reached("quality: invalid at the reflector alone"),
+            (true, true) => match (s.synchronized, r.synchronized) {
                 (true, true) => cover.reached("quality: both synchronized"),
                 (true, false) => cover.reached("quality: sender alone synchronized"),
                 (false, true) => cover.reached("quality: reflector alone synchronized"),
@@ -349,56 +324,6 @@ impl Numbers {
         };
         self.shown_quality(0)
     }
-
-    fn shown_sum(&self, refusal: u64) -> Answer {
-        let (count, sum, min, max) = self.sums.state();
-        let shown = self.sums.summary();
-        answer(&[
-            refusal,
-            count,
-            (sum >> 64) as u64,
-            sum as u64,
-            u64::from(min.is_some()),
-            min.map_or(0, |x| x as u64),
-            max.map_or(0, |x| x as u64),
-            shown.min_ms.map_or(0, f64::to_bits),
-            shown.avg_ms.map_or(0, f64::to_bits),
-            shown.max_ms.map_or(0, f64::to_bits),
-        ])
-    }
-
-    fn delay(&mut self, ns: i128, cover: &mut Cover) -> Answer {
-        let (count, sum, min, max) = self.sums.state();
-        if count >= COUNT_BOUND || sum.unsigned_abs() >= SUM_BOUND {
-            cover.reached_if(count >= COUNT_BOUND, "delays: refused 4 for the count");
-            let large = count < COUNT_BOUND;
-            cover.reached_if(large && sum > 0, "delays: refused 4 for a positive sum");
-            cover.reached_if(large && sum < 0, "delays: refused 4 for a negative sum");
-            return self.shown_sum(COUNTS_FULL);
-        }
-        self.sums.record(ns);
-        let sum = self.sums.state().1;
-        cover.reached_if(min.is_none(), "delays: first sample");
-        cover.reached_if(min.is_some_and(|m| ns < m), "delays: lower minimum");
-        cover.reached_if(max.is_some_and(|m| ns > m), "delays: higher maximum");
-        let between = min.zip(max).is_some_and(|(a, b)| a <= ns && ns <= b);
-        cover.reached_if(between, "delays: between the two");
-        cover.reached_if(ns < 0, "delays: negative sample");
-        cover.reached_if(sum < 0, "delays: negative sum");
-        cover.reached_if(sum.unsigned_abs() >= 1 << 64, "delays: sum beyond 64 bits");
-        let inexact = sum as f64 as i128 != sum;
-        cover.reached_if(inexact, "delays: sum that f64 cannot hold");
-        self.shown_sum(0)
-    }
-
-    fn load_sum(&mut self, call: &Call) -> Answer {
-        let sum = (i128::from(call[2] as i64) << 64) | i128::from(call[3]);
-        // Minimum and maximum are signed words.
-        let (min, max) = (call[4] as i64, call[5] as i64);
-        self.sums
-            .load(call[1], sum, i128::from(min), i128::from(max));
-        self.shown_sum(0)
-    }
 }
 
 fn show(call: &Call) -> String {
@@ -409,10 +334,7 @@ fn show(call: &Call) -> String {
         WITH_FORMAT => "with_clock_format",
         UNSYNCHRONIZED => "unsynchronized",
         QUALITY => "quality record",
-        LOAD_QUALITY => "quality load",
-        ROUND_TRIP => "round trip",
-        DELAY => "delay",
-        _ => "sum load",
+        _ => "quality load",
     };
     format!("{name} {:?}", &call[1..8])
 }

@@ -1,7 +1,7 @@
-//! Scripts for estimates, clock quality and sums.
+//! Scripts for estimates and clock quality.
 use super::{
-    super::COUNT_BOUND, packed, DELAY, FRESH, LOAD_QUALITY, LOAD_SUM, NEW, QUALITY, ROUND_TRIP,
-    UNSYNCHRONIZED, WIRE, WITH_FORMAT,
+    super::COUNT_BOUND, packed, FRESH, LOAD_QUALITY, NEW, QUALITY, UNSYNCHRONIZED, WIRE,
+    WITH_FORMAT,
 };
 use crate::{
     part::{call, Call, Script},
@@ -19,9 +19,6 @@ pub fn scripts(random: &mut Random, long: bool) -> Vec<Script> {
         all.push(qualities(random, 400));
         all.push(quality_limits(random));
         all.push(dense_qualities(random));
-        all.push(sums(random, 300, false));
-        all.push(sums(random, 300, true));
-        all.push(sum_limits(random));
     }
     all
 }
@@ -36,9 +33,6 @@ pub fn sample(random: &mut Random) -> Vec<Script> {
     all.push(made);
     all.push(qualities(random, 150));
     all.push(quality_limits(random));
-    all.push(sums(random, 100, false));
-    all.push(sums(random, 100, true));
-    all.push(sum_limits(random));
     all
 }
 
@@ -127,63 +121,6 @@ fn quality_limits(random: &mut Random) -> Script {
                 ];
                 script.push(call(QUALITY, &told));
             }
-        }
-    }
-    script
-}
-
-fn sums(random: &mut Random, calls: usize, signed: bool) -> Script {
-    let mut script = vec![fresh()];
-    let narrow = random.below(64) as u32;
-    for _ in 0..calls {
-        let mut value = match random.below(4) {
-            0 => random.sized(),
-            1 => random.edge(),
-            2 => random.word() >> narrow,
-            _ => random.below(1 << 34),
-        };
-        if !signed {
-            // A round trip whose minimum and maximum are shown as signed words stays below 2^63.
-            script.push(call(ROUND_TRIP, &[value]));
-            continue;
-        }
-        if random.chance(500) {
-            value = value.wrapping_neg();
-        }
-        script.push(call(DELAY, &[value]));
-    }
-    script
-}
-
-/// Sums at 2^53, 2^64 and 2^126, and counts at 2^63.
-fn sum_limits(random: &mut Random) -> Script {
-    let mut script = vec![fresh()];
-    for _ in 0..80 {
-        let power = random.of(&[52, 53, 54, 63, 64, 65, 84, 107, 117, 125, 126, 126]);
-        let far = i128::from(random.word() >> 8);
-        let beside = random.of(&[-2, -1, 0, 1, 2, far]);
-        let mut sum = (1i128 << power) + beside;
-        if random.chance(500) {
-            sum = -sum;
-        }
-        let count = match random.below(4) {
-            0 => random.of(&[COUNT_BOUND - 1, COUNT_BOUND, u64::MAX]),
-            1 => random.below(1000) + 1,
-            _ => (random.sized() >> 1).max(1),
-        };
-        let ends = [random.word() >> 2, random.word() >> 2];
-        let (min, max) = (ends[0].min(ends[1]), ends[0].max(ends[1]));
-        let words = [
-            count,
-            (sum >> 64) as u64,
-            sum as u64,
-            min.wrapping_neg(),
-            max,
-        ];
-        script.push(call(LOAD_SUM, &words));
-        for _ in 0..3 {
-            let value = random.edge() as i64;
-            script.push(call(DELAY, &[value as u64]));
         }
     }
     script
