@@ -1,0 +1,72 @@
+-- The queue of document 01, "Monitor": probe records in a lent room, of which a ring says which are queued.
+use mathlib.Core.Path.{_≡_}
+use mathlib.Core.Bool.{Bool, true, false, not}
+use mathlib.Core.List.{List, [], _∷_}
+use Prim.Native.Nat.{ℕ, zero, suc, _+_, _<_, _≤_, _%_, _-_}
+use lib.ListN.{getD, set}
+use lib.Dec.{eqb, leb, ltb}
+use Rattle.scope.specs.Limits.{capacity}
+use Rattle.probe_queue.specs.declared.Probe.{Probe}
+use Rattle.probe_queue.specs.declared.Ring.{Ring}
+use Rattle.probe_queue.specs.declared.Rule.{Rule}
+use Rattle.probe_queue.specs.declared.Rule.the-variants.{Due, Below, Until, Unmarked}
+
+-- one of two
+abbrev pub choose : {X : Type 0} → Bool → X → X → X
+choose true x y = x
+choose false x y = y
+
+-- the record that is read past the end of a room
+abbrev pub nil : Probe
+nil = record { sequence = 0; deadline = 0; mark = false }
+
+-- a ring that a room of `capacity` records can hold
+abbrev pub Held : Ring → Type 0
+Held ring = (ring .head < capacity) × (ring .len ≤ capacity)
+
+-- where the i-th queued record lies
+abbrev pub place : Ring → ℕ → ℕ
+place ring i = (ring .head + i) % capacity
+
+-- the i-th queued record
+abbrev pub at : List Probe → Ring → ℕ → Probe
+at room ring i = getD room (place ring i) nil
+
+-- the list f 0, f 1, .. of n entries
+abbrev pub tabulate : {X : Type 0} → ℕ → (ℕ → X) → List X
+tabulate zero f = []
+tabulate (suc n) f = f 0 ∷ tabulate n (λ i. f (suc i))
+
+-- the queued records, from front to back
+abbrev pub queued : List Probe → Ring → List Probe
+queued room ring = tabulate (ring .len) (at room ring)
+
+-- how many of the first entries pass a test, up to the first that does not
+abbrev pub leading : {X : Type 0} → (X → Bool) → List X → ℕ
+leading test [] = 0
+leading test (x ∷ xs) = choose (test x) (suc (leading test xs)) 0
+
+-- whether a record passes a rule: due by a time; of a sequence below one; of another sequence; not a marked record of a sequence
+unfoldable pub passes : Rule → Probe → Bool
+passes (Due now) p = leb (p .deadline) now
+passes (Below s) p = ltb (p .sequence) s
+passes (Until s) p = not (eqb (p .sequence) s)
+passes (Unmarked s) p = choose (eqb (p .sequence) s) (not (p .mark)) true
+
+-- a record without its mark, where it is of the sequence
+unfoldable pub unmark : ℕ → Probe → Probe
+unmark s p = choose (eqb (p .sequence) s) (record { sequence = p .sequence; deadline = p .deadline; mark = false }) p
+
+-- the room once a sequence is unmarked in the first n queued records
+abbrev pub unmarked : List Probe → Ring → ℕ → ℕ → List Probe
+unmarked room ring s zero = room
+unmarked room ring s (suc n) = set (unmarked room ring s n) (place ring n) (unmark s (at (unmarked room ring s n) ring n))
+
+-- the ring after n pops
+abbrev pub after : Ring → ℕ → Ring
+after ring n = record { head = (ring .head + n) % capacity; len = ring .len - n }
+
+-- the room once the sequences of the first n of the records before `rest` are unmarked in what stays queued
+abbrev pub popped : List Probe → Ring → Ring → ℕ → List Probe
+popped room ring rest zero = room
+popped room ring rest (suc n) = unmarked (popped room ring rest n) rest (at (popped room ring rest n) ring n .sequence) (rest .len)
