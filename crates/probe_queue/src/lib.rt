@@ -66,7 +66,11 @@ pub fn goes_on(probe: Probe, rule: Rule) -> bool
         Rule::Due(now) => probe.deadline <= now,
         Rule::Below(sequence) => probe.sequence < sequence,
         Rule::Until(sequence) => probe.sequence != sequence,
-        Rule::Unmarked(sequence) => if probe.sequence == sequence { !probe.mark } else { true },
+        Rule::Unmarked(sequence) => if probe.sequence == sequence {
+            !probe.mark
+        } else {
+            true
+        },
     }
 }
 

@@ -1,0 +1,21 @@
+-- `monitor::Summary::full` meets its contract: how the three tests are put together.
+-- Assumes nothing.
+use mathlib.Core.Path.{_≡_, refl, sym, ap, _∙_}
+use mathlib.Core.Bool.{Bool, true, false, not, _&&_, _||_}
+use borrow.Author.Tests.{le-leb, lt-leb}
+use Rattle.monitor.proofs.Chosen.{or-left, or-right}
+use borrow.Author.Needs.{needs}
+use Rattle.monitor.proofs.Summary.full.Statement.{statement}
+use Rattle.monitor.proofs.Summary.full.Tie as tie
+
+returns : tie.Need-returns
+returns c = sym (or-left _ _ (le-leb _ _ (c .if1 .taken)))
+
+returns-2 : tie.Need-returns-2
+returns-2 c = sym (or-right _ _ (lt-leb _ _ (c .before .before .if1 .left)) ∙ or-left _ _ (le-leb _ _ (c .if2 .taken)))
+
+returns-3 : tie.Need-returns-3
+returns-3 c = sym (or-right _ _ (lt-leb _ _ (c .before .before .before .if1 .left)) ∙ or-right _ _ (lt-leb _ _ (c .before .if2 .left)))
+
+pub full-spec : {M : Type 1} → statement M
+full-spec = tie.close (tie.spec returns returns-2 returns-3)

@@ -1,0 +1,5 @@
+pub mod Refusals
+pub mod States
+pub mod Operations
+pub mod Answers
+pub mod Parts
