@@ -21,10 +21,10 @@ pick-above a b x y h = ap (λ (t : Bool). pick t x y) (le-ltb a b h)
 
 -- what the definitions say of a word that is not negative, and of one that is
 pub order-low : (w : ℕ) → w < 2 ^ 63 → order true w ≡ w + 2 ^ 63
-order-low w h = pick-below w (2 ^ 63) (w + 2 ^ 63) (w - 2 ^ 63) h
+order-low w h = omega arith
 
-pub order-high : (w : ℕ) → 2 ^ 63 ≤ w → order true w ≡ w - 2 ^ 63
-order-high w h = pick-above w (2 ^ 63) (w + 2 ^ 63) (w - 2 ^ 63) h
+pub order-high : (w : ℕ) → w < 2 ^ 64 → 2 ^ 63 ≤ w → order true w ≡ w - 2 ^ 63
+order-high w l h = omega arith
 
 pub magnitude-low : (w : ℕ) → w < 2 ^ 63 → magnitude true w ≡ w
 magnitude-low w h = pick-below w (2 ^ 63) w (2 ^ 64 - w) h
@@ -119,7 +119,7 @@ index-of-monotone true a b ha hb h =
     low-low la lb = sums (indexOf true a) (indexOf true b) (index a) (index b) (index-monotone a b (omega (arith, order-low a la, order-low b lb))) (index-low a la) (index-low b lb)
 
     low-high : a < 2 ^ 63 → 2 ^ 63 ≤ b → indexOf true a ≤ indexOf true b
-    low-high la gb = absurd (never (order-low a la) (order-high b gb))
+    low-high la gb = absurd (never (order-low a la) (order-high b hb gb))
       where
         never : order true a ≡ a + 2 ^ 63 → order true b ≡ b - 2 ^ 63 → ⊥
         never e f = omega arith
@@ -130,7 +130,7 @@ index-of-monotone true a b ha hb h =
     high-high : 2 ^ 63 ≤ a → 2 ^ 63 ≤ b → indexOf true a ≤ indexOf true b
     high-high ga gb =
         rests (indexOf true a) (indexOf true b) (index (2 ^ 64 - a)) (index (2 ^ 64 - b))
-        (index-monotone (2 ^ 64 - b) (2 ^ 64 - a) (omega (arith, order-high a ga, order-high b gb)))
+        (index-monotone (2 ^ 64 - b) (2 ^ 64 - a) (omega (arith, order-high a ha ga, order-high b hb gb)))
         (index-high a ga) (index-high b gb)
 
 -- what a word's bucket shows, by the magnitude's
@@ -190,10 +190,13 @@ shown-of-near true w h = ⊎-elim low high (lt-or-ge w (2 ^ 63))
     high : 2 ^ 63 ≤ w → 128 * gap true w (valueOf true (indexOf true w)) ≤ magnitude true w
     high g =
         high-near (2 ^ 64 - w) (value (index (2 ^ 64 - w))) (valueOf true (indexOf true w)) (order true w) (order true (valueOf true (indexOf true w))) (magnitude true w) refl g
-        (shown-le (2 ^ 64 - w)) (shown-near (2 ^ 64 - w)) (shown-high w g h) negative (order-high w g) (order-high (valueOf true (indexOf true w)) negative) (magnitude-high w g)
+        (shown-le (2 ^ 64 - w)) (shown-near (2 ^ 64 - w)) (shown-high w g h) negative (order-high w h g) (order-high (valueOf true (indexOf true w)) (shown-fits (valueOf true (indexOf true w)) (value (index (2 ^ 64 - w))) (shown-high w g h) (shown-positive (2 ^ 64 - w) (omega arith))) negative) (magnitude-high w g)
       where
         large : (y x : ℕ) → y ≡ 2 ^ 64 - x → x ≤ 2 ^ 64 - w → 2 ^ 63 ≤ y
         large y x e a = omega arith
+
+        shown-fits : (y x : ℕ) → y ≡ 2 ^ 64 - x → 0 < x → y < 2 ^ 64
+        shown-fits y x e p = omega arith
 
         negative : 2 ^ 63 ≤ valueOf true (indexOf true w)
         negative = large (valueOf true (indexOf true w)) (value (index (2 ^ 64 - w))) (shown-high w g h) (shown-le (2 ^ 64 - w))

@@ -1,6 +1,6 @@
 -- Unsigned and signed samples as u64 words, signed ones in two's complement: one set of names, with a flag for the kind.
 -- Assumes nothing.
-use Prim.Native.Nat.{ℕ, _+_, _-_, _*_, _^_}
+use Prim.Native.Nat.{ℕ, _+_, _-_, _%_, _^_}
 use mathlib.Core.Bool.{Bool, true, false}
 use lib.Dec.{ltb}
 use Rattle.buckets.specs.Buckets.{pick, index, value}
@@ -19,10 +19,11 @@ abbrev pub magnitude : Bool → ℕ → ℕ
 magnitude false w = w
 magnitude true w = pick (ltb w (2 ^ 63)) w (2 ^ 64 - w)
 
--- a number that orders the words as the values they stand for, and is as far from another as they are: signed, the value plus 2^63
+-- a number that orders the words as the values they stand for, and is as far from another as they are: signed, the value plus 2^63,
+-- so that -2^63 has 0
 abbrev pub order : Bool → ℕ → ℕ
 order false w = w
-order true w = pick (ltb w (2 ^ 63)) (w + 2 ^ 63) (w - 2 ^ 63)
+order true w = (w + 2 ^ 63) % 2 ^ 64
 
 -- how far apart the values of two words are
 abbrev pub gap : Bool → ℕ → ℕ → ℕ

@@ -70,10 +70,7 @@ pub fn ordered(signed: bool, word: u64) -> u64
     ensures { λ r. ⌜ r ≡ order signed word ⌝ }
 {
     if signed {
-        if word < HALF {
-            return word + HALF;
-        }
-        return word - HALF;
+        return std::num::wrapping_add_u64(word, HALF);
     }
     word
 }
