@@ -1,0 +1,64 @@
+-- `histogram::walk` meets its contract. The loop's invariant: from the bucket that is reached, what is left of the rank leads to the same
+-- bucket. Assumes nothing.
+use mathlib.Core.Path.{_≡_, sym, _∙_}
+use Prim.Native.Nat.{ℕ, _≤_, _<_, _-_, _+_, _^_}
+use native.Mathlib.Omega.{arith}
+use denote.Ref.{now}
+use lib.ListN.{length, drop}
+use Rattle.histogram.specs.Histogram.{bucketAt}
+use Rattle.histogram.proofs.Sums.{at-here, at-next, at-end}
+use borrow.Author.Needs.{needs}
+use Rattle.histogram.proofs.walk.Statement.{statement}
+use Rattle.histogram.proofs.walk.Tie as tie
+
+abbrev Inv-loop : tie.InvT-loop
+Inv-loop buckets from rank left₀ i₀ left i = (i ≤ length buckets) × (i + bucketAt (drop i buckets) left ≡ from + bucketAt (drop from buckets) rank)
+
+abbrev μ-loop : tie.MeasureT-loop
+μ-loop buckets from rank left₀ i₀ left i = length buckets - i
+
+loop-holds : tie.Need-loop-holds Inv-loop μ-loop
+loop-holds c = search needs
+
+mul-here : tie.Need-mul-here Inv-loop μ-loop
+mul-here c = search needs
+
+shared-slice-read-here : tie.Need-shared-slice-read-here Inv-loop μ-loop
+shared-slice-read-here c = search needs
+
+returns : tie.Need-returns Inv-loop μ-loop
+returns c =
+    let l = c .before .before .before .loop in
+    sym (at-here (now (c .before .before .before .before .args .buckets)) (l .i) (l .left) (c .before .before .loop-test .taken) (c .if1 .taken)) ∙ l .inv .1
+
+add-i : tie.Need-add-i Inv-loop μ-loop
+add-i c = search needs
+
+loop-less : tie.Need-loop-less Inv-loop μ-loop
+loop-less c = search needs
+
+loop-again : tie.Need-loop-again Inv-loop μ-loop
+loop-again c =
+    let l = c .before .before .before .loop in (
+      omega (arith, c .before .before .loop-test .taken),
+      sym (at-next (now (c .before .before .before .before .args .buckets)) (l .i) (l .left) (c .before .before .loop-test .taken) (c .if1 .left)) ∙ l .inv .1,
+    )
+
+returns-2 : tie.Need-returns-2 Inv-loop μ-loop
+returns-2 c =
+    sym (at-end (now (c .before .before .args .buckets)) (c .before .loop .i) (c .before .loop .left) (c .loop-test .left)) ∙ c .before .loop .inv .1
+
+pub walk-spec : {M : Type 1} → statement M
+walk-spec =
+    tie.close
+    (tie.spec
+    Inv-loop
+    μ-loop
+    loop-holds
+    mul-here
+    shared-slice-read-here
+    returns
+    add-i
+    loop-less
+    loop-again
+    returns-2)
