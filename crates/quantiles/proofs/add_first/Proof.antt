@@ -1,0 +1,58 @@
+-- `quantiles::add_first` meets its contract. Assumes nothing.
+use mathlib.Core.Path.{_≡_, sym, _∙_, ap, subst}
+use mathlib.Core.List.{List, _++_}
+use Prim.Native.Nat.{ℕ, _+_, _-_, _^_, _≤_, _<_}
+use native.Mathlib.Omega.{arith}
+use denote.Ref.{now}
+use lib.ListN.{length, getD, take, drop}
+use Rattle.buckets.specs.Signed.{indexOf}
+use Rattle.histogram.specs.Histogram.{bumped}
+use Rattle.quantiles.specs.Record.{outcome, taken, recorded, filled}
+use Rattle.quantiles.proofs.Ways.{way-first}
+use Rattle.quantiles.proofs.Tally.{full-room-length, full-room-small, full-room-next}
+use borrow.Author.Needs.{needs}
+use Rattle.quantiles.proofs.add_first.Statement.{statement}
+use Rattle.quantiles.proofs.add_first.Tie as tie
+
+bucket-of-requires : tie.Need-bucket-of-requires
+bucket-of-requires c κs = search needs
+
+fill-requires : tie.Need-fill-requires
+fill-requires c κs = search needs
+
+bump-bucket-requires : tie.Need-bump-bucket-requires
+bump-bucket-requires c κs =
+    let a = c .before .before .before .before .before .before .before .args in
+    let f = c .before .before .before .fill in
+    let k = c .before .before .before .before .before .bucket-of in (
+      omega (arith, k .ensures .1, full-room-length (a .q .signed) (now (a .room)) (f .last .1 .0) (c .before .before .before .before .before .before .before .pre .0) (f .ensures)),
+      full-room-small (a .q .signed) (now (a .room)) (f .last .1 .0) (c .before .before .before .before .before .before .before .pre .0) (f .ensures) (k .result),
+    )
+
+grow-requires : tie.Need-grow-requires
+grow-requires c κs = search needs
+
+same-length : tie.Need-same-length
+same-length c = search needs
+
+returns : tie.Need-returns
+unfolding outcome
+returns c =
+    let a = c .before .before .before .before .before .before .before .before .before .before .before .args in
+    let p = c .before .before .before .before .before .before .before .before .before .before .before .pre in
+    let f = c .before .before .before .before .before .before .before .fill in
+    let k = c .before .before .before .before .before .before .before .before .before .bucket-of in
+    let n = c .before .before .before .bump-bucket in
+    ap (taken (c .grow .result)) (full-room-next (a .q .signed) (now (a .room)) (f .last .1 .0) (p .0) (f .ensures) (k .result) (indexOf (a .q .signed) (a .value)) (n .last .0) (k .ensures .0) (n .ensures))
+    ∙ way-first (a .q) (now (a .room)) (a .value) (c .grow .result) (p .0) (p .1) (p .2) (c .grow .ensures)
+
+pub add-first-spec : {M : Type 1} → statement M
+add-first-spec =
+    tie.close
+    (tie.spec
+    bucket-of-requires
+    fill-requires
+    bump-bucket-requires
+    grow-requires
+    same-length
+    returns)

@@ -1,0 +1,186 @@
+// `Quantiles` of src/stats/quantiles.rs: its state by value, and `record`. `Storage` is a lent room of u64 words: 4,096 samples,
+// then the buckets. The type parameter is the flag `signed`, and an i64 is its two's complement word.
+ghost use mathlib.Core.Path.{_≡_};
+ghost use mathlib.Core.Bool.{false};
+ghost use mathlib.Core.List.{_++_};
+ghost use Prim.Native.Nat.{_+_, _-_, _<_, _≤_, _^_};
+ghost use lib.ListN.{length, getD, set, take, drop, replicate};
+ghost use lib.Dec.{ltb};
+ghost use Rattle.buckets.specs.Buckets.{pick};
+ghost use Rattle.buckets.specs.Signed.{bucketCount, order, indexOf};
+ghost use Rattle.histogram.specs.Histogram.{bumped};
+ghost use Rattle.quantiles.specs.State.{crossed};
+ghost use Rattle.quantiles.specs.Record.{outcome, recorded, grown, filled};
+
+// How many samples were recorded, and the least and the greatest of them. At count 0 there is none, whatever `min` and `max` hold.
+pub struct Quantiles {
+    pub signed: bool,
+    pub count: u64,
+    pub min: u64,
+    pub max: u64,
+}
+
+// The answer of `record`: refusal 5; false, at a count of 2^64-1; or true, with the state after it.
+pub enum Recording {
+    Refused,
+    Full,
+    Counted(Quantiles),
+}
+
+// How many words a room has.
+pub fn room_size(signed: bool) -> usize
+    ensures { λ r. ⌜ r ≡ 4096 + bucketCount signed ⌝ }
+{
+    if signed { 18689 } else { 11520 }
+}
+
+// `Default`: no samples yet. What the room holds then does not matter.
+pub fn fresh(signed: bool) -> Quantiles
+    ensures { λ r. ⌜ (r .signed ≡ signed) × (r .count ≡ 0) × (r .min ≡ 0) × (r .max ≡ 0) ⌝ }
+{
+    Quantiles {
+        signed: signed,
+        count: 0,
+        min: 0,
+        max: 0,
+    }
+}
+
+// Whether the minimum is above the maximum at a count above 0.
+pub fn min_above_max(q: Quantiles) -> bool
+    ensures { λ r. ⌜ r ≡ crossed q ⌝ }
+{
+    let low = buckets::ordered(q.signed, q.min);
+    let high = buckets::ordered(q.signed, q.max);
+    (0 < q.count) & (high < low)
+}
+
+// The state with one sample more.
+fn grow(q: Quantiles, value: u64) -> Quantiles
+    requires { ⌜ q .count + 1 < 2 ^ 64 ⌝ }
+    ensures { λ r. ⌜ r ≡ grown q value ⌝ }
+{
+    if q.count == 0 {
+        return Quantiles {
+            signed: q.signed,
+            count: 1,
+            min: value,
+            max: value,
+        };
+    }
+    let low = least(q.signed, q.min, value);
+    let high = greatest(q.signed, q.max, value);
+    Quantiles {
+        signed: q.signed,
+        count: q.count + 1,
+        min: low,
+        max: high,
+    }
+}
+
+// The value where it is below the least so far, else that.
+fn least(signed: bool, old: u64, value: u64) -> u64
+    ensures { λ r. ⌜ r ≡ pick (ltb (order signed value) (order signed old)) value old ⌝ }
+{
+    let was = buckets::ordered(signed, old);
+    let is = buckets::ordered(signed, value);
+    if is < was { value } else { old }
+}
+
+// The value where it is above the greatest so far, else that.
+fn greatest(signed: bool, old: u64, value: u64) -> u64
+    ensures { λ r. ⌜ r ≡ pick (ltb (order signed old) (order signed value)) value old ⌝ }
+{
+    let was = buckets::ordered(signed, old);
+    let is = buckets::ordered(signed, value);
+    if was < is { value } else { old }
+}
+
+// The bucket part of the room is lent on, and zeroed.
+fn clear_buckets(room: &mut [u64])
+    requires { ⌜ 4096 ≤ length (now room) ⌝ }
+    ensures { λ r. ⌜ now (room .exit) ≡ take 4096 (now (room .entry)) ++ replicate (length (now (room .entry)) - 4096) 0 ⌝ }
+{
+    histogram::clear(&mut room[scope::CAPACITY..]);
+}
+
+// The bucket part of the room is lent on, and has one sample more in a bucket.
+fn bump_bucket(room: &mut [u64], place: usize)
+    requires { ⌜ (4096 + place < length (now room)) × (getD (drop 4096 (now room)) place 0 + 1 < 2 ^ 64) ⌝ }
+    ensures { λ r. ⌜ now (room .exit) ≡ take 4096 (now (room .entry)) ++ bumped (drop 4096 (now (room .entry))) place ⌝ }
+{
+    histogram::bump(&mut room[scope::CAPACITY..], place);
+}
+
+// Zeroes, then fills the buckets from the 4,096 samples.
+fn fill(signed: bool, room: &mut [u64])
+    requires { ⌜ length (now room) ≡ 4096 + bucketCount signed ⌝ }
+    ensures { λ r. ⌜ now (room .exit) ≡ take 4096 (now (room .entry)) ++ filled signed (take 4096 (now (room .entry))) ⌝ }
+{
+    clear_buckets(room);
+    let mut i = 0;
+    while i < scope::CAPACITY {
+        let place = buckets::bucket_of(signed, room[i]);
+        bump_bucket(room, place);
+        i += 1;
+    }
+}
+
+// A sample of the exact mode: it stands behind those before it.
+fn add_sample(q: Quantiles, room: &mut [u64], value: u64) -> Recording
+    requires { ⌜ (length (now room) ≡ 4096 + bucketCount (q .signed)) × (crossed q ≡ false) × (q .count < 4096) ⌝ }
+    ensures { λ r. ⌜ outcome q r (now (room .exit)) ≡ recorded q (now (room .entry)) value ⌝ }
+{
+    let next = q.count as usize;
+    room[next] = value;
+    Recording::Counted(grow(q, value))
+}
+
+// Sample 4,097: the buckets are zeroed, then filled, and have it too.
+fn add_first(q: Quantiles, room: &mut [u64], value: u64) -> Recording
+    requires { ⌜ (length (now room) ≡ 4096 + bucketCount (q .signed)) × (crossed q ≡ false) × (q .count ≡ 4096) ⌝ }
+    ensures { λ r. ⌜ outcome q r (now (room .exit)) ≡ recorded q (now (room .entry)) value ⌝ }
+{
+    let place = buckets::bucket_of(q.signed, value);
+    fill(q.signed, room);
+    bump_bucket(room, place);
+    Recording::Counted(grow(q, value))
+}
+
+// A sample of a histogram: its bucket has one more, unless the bucket or the count is full.
+fn add_later(q: Quantiles, room: &mut [u64], value: u64) -> Recording
+    requires { ⌜ (length (now room) ≡ 4096 + bucketCount (q .signed)) × (crossed q ≡ false) × (4096 < q .count) ⌝ }
+    ensures { λ r. ⌜ outcome q r (now (room .exit)) ≡ recorded q (now (room .entry)) value ⌝ }
+{
+    let place = buckets::bucket_of(q.signed, value);
+    let at = scope::CAPACITY + place;
+    if room[at] == 18446744073709551615 {
+        return Recording::Refused;
+    }
+    if q.count == 18446744073709551615 {
+        return Recording::Full;
+    }
+    bump_bucket(room, place);
+    Recording::Counted(grow(q, value))
+}
+
+impl Quantiles {
+    // `record`: one sample more, in the room that holds the others.
+    pub fn record(self, room: &mut [u64], value: u64) -> Recording
+        ensures { λ r. ⌜ outcome self r (now (room .exit)) ≡ recorded self (now (room .entry)) value ⌝ }
+    {
+        if room.len() != room_size(self.signed) {
+            return Recording::Refused;
+        }
+        if min_above_max(self) {
+            return Recording::Refused;
+        }
+        if self.count < 4096 {
+            return add_sample(self, room, value);
+        }
+        if self.count == 4096 {
+            return add_first(self, room, value);
+        }
+        add_later(self, room, value)
+    }
+}
