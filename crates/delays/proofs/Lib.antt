@@ -1,0 +1,4 @@
+pub mod Signs
+pub mod Steps
+pub mod Wide
+pub mod Determined

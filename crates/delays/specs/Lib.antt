@@ -1,0 +1,6 @@
+pub mod Sums
+pub mod Delays
+pub mod Bounds
+pub mod Summary
+pub mod Samples
+pub mod Shown
