@@ -64,9 +64,23 @@ pub record Shows (es : List Estimates) (q : ClockQuality) : Type 0 where
   pub reflector : q .reflector ≡ newest reflectorOf es
   pub largest : q .largest ≡ largestAmong es
 
-more : (q : ClockQuality) (es : List Estimates) (e : Estimates) → Shows es q → Shows (e ∷ es) (recordedOf q e)
+-- no sample, and one sample more
+pub fresh-shows : Shows [] fresh
 unfolding count largestAmong
-more q es estimates.Absent s = record {
+fresh-shows = record {
+  samples = refl;
+  both = refl;
+  unsynchronized = refl;
+  invalid = refl;
+  unknown = refl;
+  sender = refl;
+  reflector = refl;
+  largest = refl;
+}
+
+pub recorded-shows : (q : ClockQuality) (es : List Estimates) (e : Estimates) → Shows es q → Shows (e ∷ es) (recordedOf q e)
+unfolding count largestAmong
+recorded-shows q es estimates.Absent s = record {
   samples = add-one (q .samples) ∙ ap suc (s .samples);
   both = s .both;
   unsynchronized = s .unsynchronized;
@@ -76,7 +90,7 @@ more q es estimates.Absent s = record {
   reflector = refl;
   largest = s .largest;
 }
-more q es (estimates.Pair a b) s = let c = classOf (estimates.Pair a b) in record {
+recorded-shows q es (estimates.Pair a b) s = let c = classOf (estimates.Pair a b) in record {
   samples = add-one (q .samples) ∙ ap suc (s .samples);
   both = ap (counted (isBoth c)) (s .both);
   unsynchronized = ap (counted (isUnsynchronized c)) (s .unsynchronized);
@@ -89,15 +103,6 @@ more q es (estimates.Pair a b) s = let c = classOf (estimates.Pair a b) in recor
 
 -- the state after recording a list of samples from fresh shows them
 pub played-shows : (es : List Estimates) → Shows es (played es)
-unfolding count largestAmong played
-played-shows [] = record {
-  samples = refl;
-  both = refl;
-  unsynchronized = refl;
-  invalid = refl;
-  unknown = refl;
-  sender = refl;
-  reflector = refl;
-  largest = refl;
-}
-played-shows (e ∷ es) = more (played es) es e (played-shows es)
+unfolding played
+played-shows [] = fresh-shows
+played-shows (e ∷ es) = recorded-shows (played es) es e (played-shows es)

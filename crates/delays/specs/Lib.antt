@@ -4,3 +4,4 @@ pub mod Bounds
 pub mod Summary
 pub mod Samples
 pub mod Shown
+pub mod Examples

@@ -4,7 +4,7 @@ use mathlib.Core.Bool.{Bool, true, false, not, _&&_, cond}
 use mathlib.Core.Logic.{_⊎_, inl, inr}
 use mathlib.Core.List.{List, [], _∷_}
 use Prim.Native.Nat.{ℕ, zero, suc, _+_, _*_, _/_, _%_, _^_, _<_}
-use native.Mathlib.Nat.{zero-lt-suc, le-trans, le-of-lt, div-add-mod'}
+use native.Mathlib.Nat.{zero-lt-suc, le-trans, le-antisymm, le-of-lt, div-add-mod'}
 use native.Mathlib.Numerals.{add-one}
 use lib.ListN.{length}
 use lib.IntN.{ℤ, pos, negsuc, negℤ, _+ℤ_}
@@ -78,9 +78,13 @@ greatest-more (extreme.At m) s ss h = go (ltZ (valueOf m) (valueOf s)) refl
     go false e = (inr (h .0), (ltZ-no (no e), h .1))
 
 -- ---- the state after recording a list of samples from fresh shows them
-more : (d : Delays) (s : Nanoseconds) (ss : List Nanoseconds) → Shows ss d → Shows (s ∷ ss) (recordedOf d s)
+pub fresh-shows : Shows [] fresh
 unfolding total
-more d s ss h = record {
+fresh-shows = record { count = refl; sum = refl; min = refl; max = refl }
+
+pub recorded-shows : (d : Delays) (s : Nanoseconds) (ss : List Nanoseconds) → Shows ss d → Shows (s ∷ ss) (recordedOf d s)
+unfolding total
+recorded-shows d s ss h = record {
   count = add-one (d .count) ∙ ap suc (h .count);
   sum = ap (λ (z : ℤ). sumOf (z +ℤ valueOf s)) (ap totalOf (h .sum) ∙ total-back (total ss));
   min = least-more (d .min) s ss (h .min);
@@ -88,9 +92,32 @@ more d s ss h = record {
 }
 
 pub played-shows : (ss : List Nanoseconds) → Shows ss (played ss)
-unfolding total played
-played-shows [] = record { count = refl; sum = refl; min = refl; max = refl }
-played-shows (s ∷ ss) = more (played ss) s ss (played-shows ss)
+unfolding played
+played-shows [] = fresh-shows
+played-shows (s ∷ ss) = recorded-shows (played ss) s ss (played-shows ss)
+
+-- ---- the least and the greatest have one value
+from-all : (m n : Nanoseconds) (ss : List Nanoseconds) → AtMostAll m ss → Among n ss → valueOf m ≤ℤ valueOf n
+from-all m n [] h a = absurd a
+from-all m n (s ∷ ss) h (inl e) = subst (λ (x : Nanoseconds). valueOf m ≤ℤ valueOf x) (sym e) (h .0)
+from-all m n (s ∷ ss) h (inr a) = from-all m n ss (h .1) a
+
+to-all : (m n : Nanoseconds) (ss : List Nanoseconds) → AtLeastAll m ss → Among n ss → valueOf n ≤ℤ valueOf m
+to-all m n [] h a = absurd a
+to-all m n (s ∷ ss) h (inl e) = subst (λ (x : Nanoseconds). valueOf x ≤ℤ valueOf m) (sym e) (h .0)
+to-all m n (s ∷ ss) h (inr a) = to-all m n ss (h .1) a
+
+both-ways : (a b : ℤ) → a ≤ℤ b → b ≤ℤ a → a ≡ b
+both-ways (pos a) (pos b) h k = ap pos (le-antisymm (leb→le a b (h .le)) (leb→le b a (k .le)))
+both-ways (pos a) (negsuc b) h k = absurd (h .le)
+both-ways (negsuc a) (pos b) h k = absurd (k .le)
+both-ways (negsuc a) (negsuc b) h k = ap negsuc (le-antisymm (leb→le a b (k .le)) (leb→le b a (h .le)))
+
+pub least-value : (ss : List Nanoseconds) (m n : Nanoseconds) → Least ss (extreme.At m) → Least ss (extreme.At n) → valueOf m ≡ valueOf n
+least-value ss m n h k = both-ways (valueOf m) (valueOf n) (from-all m n ss (h .1) (k .0)) (from-all n m ss (k .1) (h .0))
+
+pub greatest-value : (ss : List Nanoseconds) (m n : Nanoseconds) → Greatest ss (extreme.At m) → Greatest ss (extreme.At n) → valueOf m ≡ valueOf n
+greatest-value ss m n h k = both-ways (valueOf m) (valueOf n) (to-all n m ss (k .1) (h .0)) (to-all m n ss (h .1) (k .0))
 
 -- ---- and the summary divides the sum of the samples by their number
 pub summary-average : (ss : List Nanoseconds) → summaryOf (played ss) .average ≡ averageMs (total ss) (length ss)
