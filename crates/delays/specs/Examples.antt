@@ -26,11 +26,6 @@ back-to-zero = refl
 carry : sumOf (pos (2 ^ 64 - 1) +ℤ pos 1) ≡ record { negative = false; high = 1; low = 0 }
 carry = refl
 
--- 2 ^ 53 + 1 lies between two f64s, and goes to the even one
-tie : inMs (pos (2 ^ 53 + 1)) ≡ inMs (pos (2 ^ 53))
-unfolding ofInt
-tie = refl
-
 -- -4 ns over 2 samples are -2 ns
 average : averageMs (negsuc 3) 2 ≡ milliseconds.Known (inMs (negsuc 1))
 unfolding ofInt div
