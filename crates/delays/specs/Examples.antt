@@ -2,13 +2,13 @@
 use mathlib.Core.Path.{_≡_, refl}
 use mathlib.Core.Bool.{true, false}
 use mathlib.Core.List.{List, [], _∷_}
-use Prim.Native.Nat.{_+_, _-_, _^_}
+use Prim.Native.Nat.{_-_, _^_}
 use lib.IntN.{pos, negsuc, _+ℤ_}
-use lib.Ieee.{binary64, round, ofInt, div}
+use lib.Ieee.{ofInt, div}
 use Rattle.delays.specs.declared.Extreme.the-variants as extreme
 use Rattle.delays.specs.declared.Milliseconds.the-variants as milliseconds
 use Rattle.delays.specs.Sums.{nanosecondsOf, sumOf}
-use Rattle.delays.specs.Summary.{inMs, quotientMs, averageMs}
+use Rattle.delays.specs.Summary.{inMs, averageMs}
 use Rattle.delays.specs.Samples.{played}
 
 -- 1 ns after -3 ns: the sum is -2

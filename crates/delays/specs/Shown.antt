@@ -16,7 +16,7 @@ use Rattle.delays.specs.declared.Nanoseconds.{Nanoseconds}
 use Rattle.delays.specs.declared.Extreme.{Extreme}
 use Rattle.delays.specs.declared.Extreme.the-variants as extreme
 use Rattle.delays.specs.declared.Delays.{Delays}
-use Rattle.delays.specs.Sums.{valueOf, totalOf, sumOf}
+use Rattle.delays.specs.Sums.{valueOf, nanosecondsOf, totalOf, sumOf}
 use Rattle.delays.specs.Delays.{lesser, greater, fresh, recordedOf}
 use Rattle.delays.specs.Summary.{averageMs, summaryOf}
 use Rattle.delays.specs.Samples.{total, Among, AtMostAll, AtLeastAll, Least, Greatest, played, Shows}
@@ -27,6 +27,11 @@ total-back (pos n) = ap pos (div-add-mod' n (2 ^ 64))
 total-back (negsuc n) =
     ap (λ (b : Bool). signed (true && b) (magnitude (suc n / 2 ^ 64) (suc n % 2 ^ 64))) (lt-ltb 0 (suc n) (zero-lt-suc n))
     ∙ ap (λ (m : ℕ). negℤ (pos m)) (div-add-mod' (suc n) (2 ^ 64))
+
+-- and so does a sample
+pub value-back : (z : ℤ) → valueOf (nanosecondsOf z) ≡ z
+value-back (pos n) = refl
+value-back (negsuc n) = refl
 
 -- ---- the least and the greatest
 yes : {b : Bool} → b ≡ true → T b

@@ -1,3 +1,4 @@
+-- `floats::nearest_scaled` meets its contract. Assumes nothing.
 use Rattle.floats.proofs.Halves.{halves, half-in}
 use borrow.Author.Needs.{needs}
 use Rattle.floats.proofs.nearest_scaled.Statement.{statement}

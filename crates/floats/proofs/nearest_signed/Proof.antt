@@ -1,3 +1,4 @@
+-- `floats::nearest_signed` meets its contract. Assumes nothing.
 use mathlib.Core.Logic.{⊎-elim}
 use Rattle.floats.proofs.Negative.{below-zero, is-zero, above-zero, hi-not, lo-not, both-zero}
 use borrow.Author.Needs.{needs}
