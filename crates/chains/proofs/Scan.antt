@@ -1,6 +1,6 @@
 -- Where the chains are whole, a walk answers what a plain scan of the ring answers, newest first; and what that scan says of the ring's contents.
 -- Assumes nothing.
-use mathlib.Core.Path.{_≡_, refl, sym, ap, _∙_}
+use mathlib.Core.Path.{_≡_, refl, sym, ap, ap₂, _∙_}
 use mathlib.Core.List.{List, [], _∷_}
 use mathlib.Core.Bool.{Bool, true, false, cond}
 use mathlib.Core.Logic.{_≢_}
@@ -9,9 +9,10 @@ use native.Mathlib.Omega.{arith}
 use lib.Dec.{eqb, ltb}
 use Rattle.chains.proofs.Tests.{Test, holds, fails, eq-test, lt-true, lt-false}
 use Rattle.chains.specs.Rings.{wrap, contents}
-use Rattle.chains.specs.Walk.{walk, newestOf, firstOf}
+use Rattle.chains.specs.Walk.{walk, newestOf, firstOf, changeFirst}
 use Rattle.chains.specs.Whole.{Led, Leads, Indexed}
-use Rattle.chains.proofs.Places.{slot-once, wrap-below}
+use Rattle.chains.proofs.Places.{slot-once, wrap-below, places-differ}
+use Rattle.chains.proofs.Contents.{contents-same}
 use Rattle.chains.proofs.Walks.{walk-here, walk-on, walk-other, Walked, found, nothing, walked}
 
 module _ (N : ℕ) (same : ℕ → Bool) (head : ℕ) where
@@ -101,3 +102,52 @@ scan-first {A} {B} N at test f d head (suc n) h l = go (test (at (wrap N (head +
         ≡ cond b (f (at (wrap N (head + n)))) (firstOf test f d (contents N at head n))
     go true ih = rw here
     go false ih = ih
+
+-- what the scan finds is the slot of a place, or N
+pub data Scanned (N head n r : ℕ) : Type 0 where
+  at-place : (p : ℕ) → p < n → r ≡ wrap N (head + p) → Scanned N head n r
+  nowhere : r ≡ N → Scanned N head n r
+
+pub scanned : (N : ℕ) (same : ℕ → Bool) (head n : ℕ) → Scanned N head n (newestOf N same head n)
+unfolding newestOf
+scanned N same head zero = nowhere refl
+scanned N same head (suc n) = go (same (wrap N (head + n))) (scanned N same head n)
+  where
+    deeper : {r : ℕ} → Scanned N head n r → Scanned N head (suc n) r
+    deeper (at-place p l e) = at-place p (omega arith) e
+    deeper (nowhere e) = nowhere e
+
+    go : (b : Bool) → Scanned N head n (newestOf N same head n) → Scanned N head (suc n) (cond b (wrap N (head + n)) (newestOf N same head n))
+    go true ih = at-place n (omega arith) refl
+    go false ih = deeper ih
+
+-- Where the entry that the scan finds is changed, and no other, the first of the contents that is asked for is changed, and no other.
+pub scan-change : {A : Type 0} (N : ℕ) (at at′ : ℕ → A) (test : A → Bool) (f : A → A) (head n : ℕ) → head < N → n ≤ N
+    → (newestOf N (λ i. test (at i)) head n < N → at′ (newestOf N (λ i. test (at i)) head n) ≡ f (at (newestOf N (λ i. test (at i)) head n)))
+    → ((i : ℕ) → i < N → i ≢ newestOf N (λ i. test (at i)) head n → at′ i ≡ at i)
+    → contents N at′ head n ≡ changeFirst test f (contents N at head n)
+unfolding contents newestOf changeFirst
+scan-change N at at′ test f head zero h l here there = refl
+scan-change {A} N at at′ test f head (suc n) h l here there = go (test (at (wrap N (head + n)))) refl here there (scan-change N at at′ test f head n h (omega arith))
+  where
+    s-in : wrap N (head + n) < N
+    s-in = wrap-below N (head + n) (omega arith)
+
+    apart : {r : ℕ} → Scanned N head n r → wrap N (head + n) ≢ r
+    apart (at-place p m e) q = places-differ N head p n h m (omega arith) (sym (q ∙ e))
+    apart (nowhere e) q = omega (arith, q, e, s-in)
+
+    go : (b : Bool) → test (at (wrap N (head + n))) ≡ b
+        → (cond b (wrap N (head + n)) (newestOf N (λ i. test (at i)) head n) < N
+        → at′ (cond b (wrap N (head + n)) (newestOf N (λ i. test (at i)) head n)) ≡ f (at (cond b (wrap N (head + n)) (newestOf N (λ i. test (at i)) head n))))
+        → ((i : ℕ) → i < N → i ≢ cond b (wrap N (head + n)) (newestOf N (λ i. test (at i)) head n) → at′ i ≡ at i)
+        → ((newestOf N (λ i. test (at i)) head n < N → at′ (newestOf N (λ i. test (at i)) head n) ≡ f (at (newestOf N (λ i. test (at i)) head n)))
+        → ((i : ℕ) → i < N → i ≢ newestOf N (λ i. test (at i)) head n → at′ i ≡ at i)
+        → contents N at′ head n ≡ changeFirst test f (contents N at head n))
+        → at′ (wrap N (head + n)) ∷ contents N at′ head n
+        ≡ cond b (f (at (wrap N (head + n))) ∷ contents N at head n) (at (wrap N (head + n)) ∷ changeFirst test f (contents N at head n))
+    go true e hr th ih =
+        ap₂ (λ (x : A) (xs : List A). x ∷ xs) (hr s-in)
+        (contents-same N at at′ head n (λ i m. th (wrap N (head + i)) (wrap-below N (head + i) (omega arith)) (places-differ N head i n h m (omega arith))))
+    go false e hr th ih =
+        ap₂ (λ (x : A) (xs : List A). x ∷ xs) (th (wrap N (head + n)) s-in (apart (scanned N (λ i. test (at i)) head n))) (ih hr th)

@@ -29,3 +29,8 @@ newestOf N same head (suc n) = cond (same (wrap N (head + n))) (wrap N (head + n
 unfoldable pub firstOf : {A B : Type 0} → (A → Bool) → (A → B) → B → List A → B
 firstOf test f d [] = d
 firstOf test f d (x ∷ xs) = cond (test x) (f x) (firstOf test f d xs)
+
+-- a list with f of its first entry that is asked for
+unfoldable pub changeFirst : {A : Type 0} → (A → Bool) → (A → A) → List A → List A
+changeFirst test f [] = []
+changeFirst test f (x ∷ xs) = cond (test x) (f x ∷ xs) (x ∷ changeFirst test f xs)

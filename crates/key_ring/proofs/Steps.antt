@@ -1,0 +1,40 @@
+-- What `evict`, `push` and `accept_key` leave, from what their callees do.
+-- Assumes nothing.
+use mathlib.Core.Path.{_≡_, refl, sym, ap, _∙_}
+use mathlib.Core.List.{List, [], _∷_}
+use Prim.Native.Nat.{ℕ, _≤_, _<_}
+use lib.ListN.{getD, set}
+use Rattle.calls.specs.declared.ReplyKey.{ReplyKey}
+use Rattle.chains.specs.declared.Ring.{Ring}
+use Rattle.chains.specs.Rings.{pushSlot, afterPush}
+use Rattle.chains.specs.Links.{linked}
+use Rattle.chains.specs.Hash.{numberHash}
+use Rattle.chains.proofs.Tests.{lt-true, lt-false}
+use Rattle.key_ring.specs.Keys.{keyAt, numbersOf}
+use Rattle.key_ring.specs.Rows.{loweredWord}
+use Rattle.key_ring.specs.Table.{Table, tableOf, evictedSlots, pushedKey, acceptedKey, hashOf, holder, evicted, pushed, accepted}
+
+module _ (secret : List ℕ) (keys slots links : List (List ℕ)) (ring : Ring) where
+  pub evict-room : ring .len < 4096 → slots ≡ evicted secret keys slots links ring
+  unfolding evictedSlots
+  evict-room l = rw (lt-true (ring .len) 4096 l)
+
+  pub evict-nobody : (at : ℕ) → 4096 ≤ ring .len → at ≡ holder secret keys slots links ring (keyAt keys (ring .head) .reflector) → 4096 ≤ at → slots ≡ evicted secret keys slots links ring
+  unfolding evictedSlots
+  evict-nobody at l e m = rw (lt-false (ring .len) 4096 l, ← e, lt-false at 4096 m)
+
+  pub evict-lowers : (at word : ℕ) → 4096 ≤ ring .len → at ≡ holder secret keys slots links ring (keyAt keys (ring .head) .reflector) → at < 4096 → word ≡ loweredWord (getD (getD slots at []) 0 0)
+      → set slots at (set (getD slots at []) 0 word) ≡ evicted secret keys slots links ring
+  unfolding evictedSlots
+  evict-lowers at word l e m f = rw (lt-false (ring .len) 4096 l, ← e, lt-true at 4096 m, f)
+
+  pub push-is : (k : ReplyKey) (p both h g : ℕ) (once twice : List (List ℕ)) (after : Ring)
+      → p ≡ pushSlot 4096 ring → both ≡ numbersOf k → h ≡ hashOf secret k → once ≡ linked 0 links h p → g ≡ numberHash secret (k .reflector) → twice ≡ linked 2 once g p → after ≡ afterPush 4096 ring
+      → tableOf (set keys p (both ∷ k .t3 ∷ [])) (set slots p (0 ∷ 0 ∷ 0 ∷ [])) twice after ≡ pushed secret (tableOf keys slots links ring) k
+  unfolding pushedKey
+  push-is k p both h g once twice after a b c d e f q = rw (f, d, c, e, b, a, q)
+
+  pub accept-is : (k : ReplyKey) (lower : List (List ℕ)) (t : Table) → lower ≡ evicted secret keys slots links ring → t ≡ pushed secret (tableOf keys lower links ring) k
+      → t ≡ accepted secret (tableOf keys slots links ring) k
+  unfolding acceptedKey
+  accept-is k lower t e f = rw (← e) f
