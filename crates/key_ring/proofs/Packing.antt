@@ -9,8 +9,9 @@ use lib.Dec.{T, eqb}
 use lib.ListN.{getD, set}
 use Rattle.calls.specs.declared.ReplyKey.{ReplyKey}
 use Rattle.chains.proofs.Tests.{Test, holds, fails, eq-test, eq-true, eq-false}
-use Rattle.key_ring.specs.Keys.{keyOf, keyRow, numbersOf, sameKey}
-use Rattle.key_ring.specs.Rows.{loweredWord, lowered, countOf, isObserved}
+use Rattle.key_ring.specs.Keys.{keyOf, keyAt, keyRow, numbersOf, sameKey}
+use Rattle.key_ring.specs.Rows.{loweredWord, isObserved, holds?}
+use Rattle.key_ring.specs.Table.{rowAt}
 
 pub sender-of : (s r : ℕ) → r < 4294967296 → (s * 4294967296 + r) / 4294967296 ≡ s
 sender-of s r l = omega arith
@@ -36,6 +37,16 @@ same-words k word t l = go (eq-test (numbersOf k) word) (eq-test (k .sender) (wo
     go (fails p a) (holds q b) (holds s c) = absurd (p (omega arith))
     go (fails p a) (holds q b) (fails s c) = rw (a, b, c)
     go (fails p a) (fails q b) u = rw (a, b)
+
+-- a row holds a number's slot, the number tested first
+pub holds-words : (keys slots : List (List ℕ)) (slot r : ℕ) → (eqb r (keyAt keys slot .reflector) && isObserved (getD slots slot [])) ≡ holds? r (rowAt keys slots slot)
+holds-words keys slots slot r = swap (eqb r (keyAt keys slot .reflector)) (isObserved (getD slots slot []))
+  where
+    swap : (a b : Bool) → (a && b) ≡ (b && a)
+    swap true true = refl
+    swap true false = refl
+    swap false true = refl
+    swap false false = refl
 
 -- equal keys are one
 pub same-key : (k x : ReplyKey) → sameKey k x ≡ true → k ≡ x

@@ -61,7 +61,7 @@ pub fn find(
         if key_is(keys, slot, key) {
             return slot;
         }
-        below = place;
+        below = place; // a link is followed only down, so that a walk ends whatever the rooms hold
         slot = chains::next(links, 0, slot);
         place = chains::place(head, slot);
     }
@@ -73,7 +73,7 @@ fn is_holder(keys: &[[u64; 2]], slots: &[[u64; 3]], slot: usize, number: u32) ->
     requires { ⌜ (slot < length (now keys)) × (slot < length (now slots)) ⌝ }
     ensures { λ q. ⌜ q ≡ holds? number (rowAt (now (keys .entry)) (now (slots .entry)) slot) ⌝ }
 {
-    (slots[slot][0] / 65536 % 2 == 1) & (wide(number) == keys[slot][0] % 4294967296)
+    (wide(number) == keys[slot][0] % 4294967296) & (slots[slot][0] / 65536 % 2 == 1)
 }
 
 // The slot of the newest observed key with a reflector number, 4,096 where there is none.
