@@ -1,7 +1,7 @@
 -- What the proofs of the calls cite: on each way, what is built is what the definition says. Assumes nothing.
 use mathlib.Core.Path.{_≡_, sym, ap, _∙_}
 use mathlib.Core.Bool.{Bool, true, false, _&&_}
-use Prim.Native.Nat.{ℕ, _+_}
+use Prim.Native.Nat.{_+_}
 use lib.Ieee.{Float, binary64, add, le}
 use Rattle.estimate.specs.declared.ClockFormat.{ClockFormat}
 use Rattle.estimate.specs.declared.ErrorEstimate.{ErrorEstimate}
@@ -16,7 +16,7 @@ use Rattle.clock_quality.specs.declared.LastEstimate.the-variants as las
 use Rattle.clock_quality.specs.declared.LargestError.{LargestError}
 use Rattle.clock_quality.specs.declared.LargestError.the-variants as largest
 use Rattle.clock_quality.specs.declared.ClockQuality.{ClockQuality}
-use Rattle.clock_quality.specs.Quality.{Class, unknown, invalid, pairClass, clockEstimateOf, classed, largerOf, largestOf, pairedOf, recordedOf}
+use Rattle.clock_quality.specs.Quality.{unknown, invalid, pairClass, clockEstimateOf, classed, largerOf, pairedOf, recordedOf}
 
 -- ---- `clock_estimate`
 pub estimated : (e : ErrorEstimate) (f : ClockFormat) (m : ErrorMs) → f ≡ formatOf (e .ptp) → m ≡ errorMs e

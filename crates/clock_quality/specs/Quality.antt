@@ -82,7 +82,7 @@ abbrev pub counted : Bool → ℕ → ℕ
 counted true n = n + 1
 counted false n = n
 
--- the larger of two errors, the second where there was none. A sum of two errors is above 0 and finite, so this is Rust's `max`
+-- the larger of two errors, the second where there was none. A combined error is above 0 and finite (`combined-positive`), so this is Rust's `max`
 abbrev pub largerOf : LargestError → Float → LargestError
 largerOf largest.Absent combined = largest.Ms combined
 largerOf (largest.Ms most) combined = largest.Ms (cond (le combined most) most combined)

@@ -1,10 +1,13 @@
 -- What a clock quality shows, from the plain list of its samples, the newest first. Assumes nothing.
 use mathlib.Core.Path.{_≡_, refl, ap, _∙_}
-use mathlib.Core.Bool.{Bool, true, false, _&&_}
+use mathlib.Core.Bool.{Bool, _&&_}
+use mathlib.Core.Logic.{_⊎_}
 use mathlib.Core.List.{List, [], _∷_}
-use Prim.Native.Nat.{ℕ, suc, _+_}
+use Prim.Native.Nat.{ℕ, suc, _+_, _<_}
 use native.Mathlib.Numerals.{add-one}
 use lib.ListN.{length}
+use lib.Dec.{T}
+use lib.Ieee.{Float, le}
 use Rattle.estimate.specs.declared.Estimates.{Estimates}
 use Rattle.estimate.specs.declared.Estimates.the-variants as estimates
 use Rattle.estimate.specs.Error.{errorMs}
@@ -47,6 +50,22 @@ largestWith m (estimates.Pair s r) = largestOf m (errorMs s) (errorMs r)
 unfoldable pub largestAmong : List Estimates → LargestError
 largestAmong [] = largest.Absent
 largestAmong (e ∷ es) = largestWith (largestAmong es) e
+
+-- t is the combined error of one of the samples
+abbrev pub Combined : Float → List Estimates → Type 0
+Combined t [] = ⊥
+Combined t (e ∷ es) = (largestWith largest.Absent e ≡ largest.Ms t) ⊎ Combined t es
+
+-- the largest of them, and none where there is none
+abbrev pub Largest : List Estimates → LargestError → Type 0
+Largest es largest.Absent = (t : Float) → Combined t es → ⊥
+Largest es (largest.Ms m) = Combined m es × ((t : Float) → Combined t es → T (le t m))
+
+-- multipliers are words of eight bits
+abbrev pub InRange : List Estimates → Type 0
+InRange [] = Unit {0}
+InRange (estimates.Absent ∷ es) = InRange es
+InRange (estimates.Pair s r ∷ es) = (s .multiplier < 256) × (r .multiplier < 256) × InRange es
 
 -- the quality that recording the samples leaves
 unfoldable pub played : List Estimates → ClockQuality

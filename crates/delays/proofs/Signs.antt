@@ -1,16 +1,15 @@
 -- Sums of integers that are given by a sign and a magnitude. Assumes nothing.
 use mathlib.Core.Path.{_≡_, refl, sym, ap, _∙_}
 use mathlib.Core.Bool.{Bool, true, false, not, _&&_, Bool·beq, true≢false, false≢true}
-use Prim.Native.Nat.{ℕ, zero, suc, _+_, _-_, _*_, _/_, _%_, _^_, _≤_, _<_}
+use Prim.Native.Nat.{ℕ, zero, suc, _+_, _-_, _^_, _≤_, _<_}
 use native.Mathlib.Nat.{add-zero, le-of-lt}
 use native.Mathlib.Omega.{arith}
-use lib.IntN.{ℤ, pos, negsuc, negℤ, _+ℤ_, subℕ, +ℤ-comm, negℤ-+ℤ, negℤ-negℤ}
+use lib.IntN.{ℤ, pos, negℤ, _+ℤ_, +ℤ-comm, negℤ-+ℤ, negℤ-negℤ}
 use lib.Dec.{ltb}
 use lib.Arith.{digits-div, digits-mod}
 use borrow.Author.Tests.{le-ltb, lt-ltb, ltb-true, ltb-false}
 use Rattle.floats.specs.Whole.{magnitude, signed}
-use Rattle.delays.specs.declared.Sum.{Sum}
-use Rattle.delays.specs.Sums.{totalOf, sumFrom, sumOf}
+use Rattle.delays.specs.Sums.{sumFrom, sumOf}
 
 -- ---- like signs
 pub alike : (s : Bool) (a b : ℕ) → signed s a +ℤ signed s b ≡ signed s (a + b)
@@ -143,6 +142,3 @@ high-bound high low l = go (ltb high (2 ^ 62)) refl
     go : (b : Bool) → ltb high (2 ^ 62) ≡ b → ltb (magnitude high low) (2 ^ 126) ≡ b
     go true e = lt-ltb (magnitude high low) (2 ^ 126) (under high low l (ltb-true high (2 ^ 62) e))
     go false e = le-ltb (magnitude high low) (2 ^ 126) (over high low (ltb-false high (2 ^ 62) e))
-
-pub high-bounded : (high low : ℕ) → magnitude high low < 2 ^ 126 → high < 2 ^ 62
-high-bounded high low h = omega arith

@@ -1,10 +1,10 @@
 -- What the proofs of the other functions cite: on each way, what is answered is what the definition says. Assumes nothing.
 use mathlib.Core.Path.{_≡_, refl, sym, ap, _∙_}
 use mathlib.Core.Bool.{Bool, true, false, _&&_, true≢false, false≢true}
-use Prim.Native.Nat.{ℕ, zero, suc, _+_, _*_, _^_, _≤_, _<_}
+use Prim.Native.Nat.{ℕ, zero, suc, _+_, _≤_, _<_}
 use native.Mathlib.Nat.{zero-lt-suc}
 use native.Mathlib.Omega.{arith}
-use lib.IntN.{ℤ, pos, negsuc, negℤ, _+ℤ_}
+use lib.IntN.{ℤ, pos, negsuc, _+ℤ_}
 use lib.Signed.{ltZ}
 use lib.Dec.{ltb}
 use lib.Ieee.{Float, binary64, ofInt, div, ofBits}
@@ -18,7 +18,6 @@ use Rattle.delays.specs.declared.Extreme.the-variants as extreme
 use Rattle.delays.specs.declared.Milliseconds.{Milliseconds}
 use Rattle.delays.specs.declared.Milliseconds.the-variants as milliseconds
 use Rattle.delays.specs.declared.Delays.{Delays}
-use Rattle.delays.specs.declared.DelaySummary.{DelaySummary}
 use Rattle.delays.specs.Sums.{valueOf, totalOf, sumOf}
 use Rattle.delays.specs.Delays.{lesser, greater, recordedOf}
 use Rattle.delays.specs.Summary.{inMs, extremeMs, quotientMs, averageMs, summaryOf}

@@ -1,18 +1,16 @@
 -- What the proof of `from_i64` cites: the magnitude of a negative i64, found without leaving i64. Assumes nothing.
 use mathlib.Core.Path.{_≡_, refl, sym, ap, _∙_, subst}
-use mathlib.Core.Bool.{Bool, true, false, true≢false, false≢true}
-use Prim.Native.Nat.{ℕ, zero, suc, _+_, _^_, _≤_, _<_, zero-le}
-use native.Mathlib.Nat.{le-suc, le-refl}
+use mathlib.Core.Bool.{true, false, true≢false}
+use Prim.Native.Nat.{ℕ, zero, suc, _+_, _^_, _<_}
 use native.Mathlib.Numerals.{add-one}
 use native.Mathlib.Omega.{arith}
 use lib.IntN.{ℤ, pos, negsuc, negℤ, natAbs, sucℤ, _+ℤ_, _-ℤ_, +ℤ-one, +ℤ-idl}
 use lib.Signed.{ltZ, nonNeg, mag}
-use lib.Dec.{T, ltb}
+use lib.Dec.{T}
 use mir.Syntax.{w64}
 use mir.Val.{Fits, SFits, ofZ, toZ}
 use mir.Facts.{toZ-ofZ}
 use borrow.Author.Tests.{ltb-true}
-use Rattle.delays.specs.declared.Nanoseconds.{Nanoseconds}
 use Rattle.delays.specs.Sums.{nanosecondsOf}
 
 -- an integer as i64 holds it

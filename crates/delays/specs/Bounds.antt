@@ -1,5 +1,5 @@
 -- When a sample is refused, and what the answer is. Assumes nothing.
-use mathlib.Core.Path.{_≡_, refl, sym, subst}
+use mathlib.Core.Path.{_≡_, sym, subst}
 use mathlib.Core.Bool.{Bool, true, false, _&&_, cond}
 use Prim.Native.Nat.{ℕ, zero, suc, _<_}
 use lib.Dec.{T, ltb, ltb→lt}

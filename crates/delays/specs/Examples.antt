@@ -1,7 +1,7 @@
 -- Worked examples of the definitions.
 use mathlib.Core.Path.{_≡_, refl}
 use mathlib.Core.Bool.{true, false}
-use mathlib.Core.List.{List, [], _∷_}
+use mathlib.Core.List.{[], _∷_}
 use Prim.Native.Nat.{_-_, _^_}
 use lib.IntN.{pos, negsuc, _+ℤ_}
 use lib.Ieee.{ofInt, div}

@@ -1,15 +1,15 @@
 -- The delays after recording any list of samples from fresh show that list, and so does their summary. Assumes nothing.
 use mathlib.Core.Path.{_≡_, refl, sym, ap, _∙_, subst}
 use mathlib.Core.Bool.{Bool, true, false, not, _&&_, cond}
-use mathlib.Core.Logic.{_⊎_, inl, inr}
+use mathlib.Core.Logic.{inl, inr}
 use mathlib.Core.List.{List, [], _∷_}
-use Prim.Native.Nat.{ℕ, zero, suc, _+_, _*_, _/_, _%_, _^_, _<_}
+use Prim.Native.Nat.{ℕ, suc, _/_, _%_, _^_}
 use native.Mathlib.Nat.{zero-lt-suc, le-trans, le-antisymm, le-of-lt, div-add-mod'}
 use native.Mathlib.Numerals.{add-one}
 use lib.ListN.{length}
 use lib.IntN.{ℤ, pos, negsuc, negℤ, _+ℤ_}
 use lib.Signed.{ltZ, leZ, _≤ℤ_, ltZ-no, ≤ℤ-refl}
-use lib.Dec.{T, ltb, leb→le, le→leb, ltb→lt}
+use lib.Dec.{T, leb→le, le→leb, ltb→lt}
 use borrow.Author.Tests.{lt-ltb}
 use Rattle.floats.specs.Whole.{magnitude, signed}
 use Rattle.delays.specs.declared.Nanoseconds.{Nanoseconds}

@@ -1,7 +1,7 @@
 -- The error of an estimate (RFC 4656, section 4.1.2): multiplier * 2 ^ (scale - 32) seconds, exact in f64, and times 1,000 still exact. Assumes nothing.
 use mathlib.Core.Path.{_≡_}
 use mathlib.Core.Bool.{Bool, true, false, _&&_}
-use Prim.Native.Nat.{ℕ, _*_, _^_}
+use Prim.Native.Nat.{_*_, _^_}
 use lib.Dec.{ltb, leb}
 use lib.Ieee.{Float, binary64, round}
 use Rattle.floats.specs.Exact.{Exactly}

@@ -1,14 +1,14 @@
 -- What the proof of `round_half_away` cites: twice an f64 is exact, and what its whole part is. Assumes nothing.
 use mathlib.Core.Path.{_≡_, refl, sym, ap, _∙_, subst}
-use mathlib.Core.Bool.{Bool, true, false, not, _&&_, cond, true≢false, false≢true}
+use mathlib.Core.Bool.{Bool, true, false, not, _&&_, true≢false, false≢true}
 use Prim.Native.Nat.{ℕ, zero, suc, _+_, _-_, _*_, _/_, _%_, _^_, _≤_, _<_, min}
-use native.Mathlib.Nat.{zero-lt-suc, mul-pos, mul-assoc, mul-comm, mul-left-comm, mul-right-comm, mul-one, one-mul, add-mul, lt-of-lt-of-le, lt-of-le-of-lt, le-trans, le-of-eq, lt-of-not-le, not-le-of-lt, lt-of-mul-lt-mul-right, mul-lt-mul-of-pos-right, div-lt-iff-lt-mul, div-div-eq-div-mul, add-mul-div-right, lt-irrefl, div-one, div-eq-of-lt, le-div-iff-mul-le}
+use native.Mathlib.Nat.{zero-lt-suc, mul-pos, mul-assoc, mul-comm, mul-right-comm, mul-one, one-mul, lt-of-lt-of-le, lt-of-le-of-lt, le-of-eq, lt-of-not-le, not-le-of-lt, lt-of-mul-lt-mul-right, mul-lt-mul-of-pos-right, div-lt-iff-lt-mul, div-div-eq-div-mul, add-mul-div-right, div-eq-of-lt, le-div-iff-mul-le}
 use native.Mathlib.Omega.{arith}
 use lib.IntN.{ℤ, pos, negsuc}
 use lib.Dec.{T, leb, ltb, eqb, ltb→lt, lt→ltb, leb→le, nltb→le}
 use lib.Pow.{pow-add, pow-pos, pow-mono, pow-lt, shl-lt}
 use lib.Ieee.{Float, nan, inf, fin, binary64, up, down, round, add, sum, lt, fits, toUnsigned, ofBits}
-use lib.Ieee.Fits.{down-pos, up-pos, and-l, and-r}
+use lib.Ieee.Fits.{down-pos, and-l, and-r}
 use lib.Ieee.Exact.{HasValue, round-exact}
 use lib.Ieee.Scale.{round-same}
 use lib.Ieee.Nearest.{div-same}

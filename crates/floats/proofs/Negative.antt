@@ -1,11 +1,11 @@
 -- A negative integer's float is that of its magnitude, negated. Assumes nothing.
-use mathlib.Core.Path.{_≡_, refl, sym, ap, _∙_, subst}
+use mathlib.Core.Path.{_≡_, refl, sym, ap, _∙_}
 use mathlib.Core.Bool.{Bool, true, false, cond}
-use Prim.Native.Nat.{ℕ, zero, suc, _+_, _*_, _^_, _<_}
+use Prim.Native.Nat.{ℕ, zero, suc, _+_, _*_, _^_}
 use native.Mathlib.Omega.{arith}
 use lib.IntN.{pos, negsuc}
 use lib.Dec.{ltb}
-use lib.Ieee.{Float, fin, inf, binary64, Format, prec, low, emax, odd, units, neg, ofInt, ofBits}
+use lib.Ieee.{Float, inf, binary64, Format, prec, low, emax, odd, units, neg, ofInt, ofBits}
 use lib.Ieee.Fits.{round-is}
 use Rattle.floats.specs.Whole.{magnitude, signed}
 

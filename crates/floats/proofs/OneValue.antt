@@ -1,8 +1,8 @@
 -- A number that is not negative is an f64 in one way: two f64s that both are a / c exactly are equal. Assumes nothing.
 use mathlib.Core.Path.{_≡_, refl, sym, ap, _∙_, subst}
-use mathlib.Core.Bool.{Bool, true, false, _&&_}
-use Prim.Native.Nat.{ℕ, zero, suc, _+_, _*_, _%_, _^_, _≤_, _<_}
-use native.Mathlib.Nat.{zero-lt-suc, mul-pos, mul-assoc, mul-comm, mul-one, one-mul, zero-mul, mul-left-comm, mul-right-comm, eq-of-mul-eq-mul-right, pow-suc, lt-irrefl, suc-inj}
+use mathlib.Core.Bool.{Bool, _&&_}
+use Prim.Native.Nat.{ℕ, zero, suc, _+_, _*_, _%_, _^_, _<_}
+use native.Mathlib.Nat.{zero-lt-suc, mul-pos, mul-assoc, mul-one, one-mul, zero-mul, mul-right-comm, eq-of-mul-eq-mul-right, pow-suc, lt-irrefl, suc-inj}
 use native.Mathlib.Omega.{arith}
 use lib.IntN.{ℤ, pos, negsuc}
 use lib.Dec.{T, leb, ltb, eqb, eqb→eq}

@@ -2,13 +2,13 @@
 use mathlib.Core.Path.{_≡_, refl, sym, ap, _∙_, subst}
 use mathlib.Core.Bool.{Bool, true, false, not, cond, true≢false}
 use Prim.Native.Nat.{ℕ, zero, suc, _+_, _-_, _*_, _/_, _%_, _^_, _≤_, _<_}
-use native.Mathlib.Nat.{zero-lt-suc, mul-pos, mul-assoc, mul-comm, mul-left-comm, mul-right-comm, mul-mul-mul-comm, mul-mod-left, mul-div-cancel, mod-eq-of-lt, lt-of-lt-of-le, lt-of-le-of-lt, le-of-eq, le-of-lt, add-assoc, mul-one, one-mul, not-le-of-lt, eq-of-mul-eq-mul-right, add-mul, lt-irrefl, pow-suc}
+use native.Mathlib.Nat.{zero-lt-suc, mul-pos, mul-assoc, mul-comm, mul-right-comm, mul-mul-mul-comm, mul-mod-left, mul-div-cancel, mod-eq-of-lt, lt-of-lt-of-le, lt-of-le-of-lt, le-of-eq, add-assoc, mul-one, one-mul, not-le-of-lt, eq-of-mul-eq-mul-right, add-mul, lt-irrefl, pow-suc}
 use Rattle.floats.specs.Exact.{Exactly}
 use native.Mathlib.Omega.{arith}
 use lib.IntN.{pos}
-use lib.Dec.{T, leb, le→leb, eqb, lit<, lit≤, leb→le, eqb→eq, not-T}
+use lib.Dec.{T, leb, eqb, lit<, leb→le, eqb→eq, not-T}
 use lib.Pow.{pow-add, pow-pos, pow-mono, pow-lt, shl-lt}
-use lib.Ieee.{Float, nan, inf, fin, Format, binary64, up, down, round, odd, mul, add, sum, ofInt, ofBits, ofFields, nanBits, isNan, inFloat}
+use lib.Ieee.{Float, nan, inf, fin, Format, binary64, up, down, round, odd, mul, add, sum, ofInt, ofBits, ofFields, nanBits, isNan}
 use lib.Ieee.Fits.{down-pos, round-fits}
 use lib.Ieee.Bits.{is-false, nanBits-is, ofBits-fits}
 use lib.Ieee.Exact.{HasValue, odd-sign, round-exact}

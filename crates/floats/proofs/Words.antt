@@ -1,14 +1,14 @@
 -- What the proofs of `nearest_leading` and `nearest_magnitude` cite: the words high and low, high's top bit brought to bit 63 by the shift z, and k = 64 - z.
 -- q is the 64 leading digits of high * 2 ^ 64 + low, and low % 2 ^ k is what stands below them. Assumes nothing.
 use mathlib.Core.Path.{_≡_, refl, sym, ap, _∙_, subst}
-use Prim.Native.Nat.{ℕ, zero, suc, _+_, _-_, _*_, _/_, _%_, _^_, _≤_, _<_}
-use native.Mathlib.Nat.{le-trans, le-of-eq, lt-of-lt-of-le, lt-of-mul-lt-mul-right, le-add-right, mul-assoc, mul-right-comm, mul-one, one-mul, add-mul, add-assoc, mod-lt, mod-eq-of-lt, div-add-mod', add-zero, zero-mul, zero-add, add-comm}
+use Prim.Native.Nat.{ℕ, _+_, _-_, _*_, _/_, _%_, _^_, _≤_, _<_}
+use native.Mathlib.Nat.{le-trans, le-of-eq, lt-of-lt-of-le, lt-of-mul-lt-mul-right, le-add-right, mul-assoc, mul-right-comm, mul-one, one-mul, add-mul, add-assoc, mod-lt, mod-eq-of-lt, div-add-mod', add-zero, zero-add, add-comm}
 use mathlib.Core.Bool.{false}
 use native.Mathlib.Omega.{arith}
 use lib.IntN.{pos}
 use lib.Arith.{digits-lt}
 use lib.Pow.{pow-add, pow-pos, pow-lt, shr-lt}
-use lib.Ieee.{Float, binary64, round, ofInt}
+use lib.Ieee.{binary64, round, ofInt}
 use Rattle.floats.specs.Whole.{magnitude}
 use Rattle.floats.proofs.Sticky.{sticky}
 

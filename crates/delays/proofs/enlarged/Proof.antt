@@ -1,5 +1,5 @@
 -- `delays::enlarged` meets its contract. Assumes nothing.
-use mathlib.Core.Path.{refl, sym, ap, _∙_}
+use mathlib.Core.Path.{refl, ap, _∙_}
 use Rattle.delays.specs.Sums.{sumFrom}
 use Rattle.delays.proofs.Signs.{carried, not-carried}
 use borrow.Author.Needs.{needs}

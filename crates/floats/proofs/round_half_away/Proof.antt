@@ -1,5 +1,5 @@
 -- `floats::round_half_away` meets its contract. Assumes nothing.
-use mathlib.Core.Path.{_≡_, sym, ap, _∙_, subst}
+use mathlib.Core.Path.{sym, ap, _∙_, subst}
 use Prim.Native.Nat.{ℕ, _+_, _/_, _%_, min}
 use lib.Dec.{T}
 use lib.Ieee.{binary64, fits}

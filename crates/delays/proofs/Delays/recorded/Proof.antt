@@ -1,5 +1,4 @@
 -- `delays::Delays::recorded` meets its contract. Assumes nothing.
-use Rattle.delays.proofs.Signs.{high-bounded}
 use Rattle.delays.proofs.Steps.{together}
 use borrow.Author.Needs.{needs}
 use Rattle.delays.proofs.Delays.recorded.Statement.{statement}
