@@ -1,4 +1,3 @@
-pub mod Signed
 pub mod Joins
 pub mod Span
 pub mod Back

@@ -2,8 +2,6 @@
 // follow-up for that number finds. By value; a room keeps a slot as three words (specs/Words.antt).
 ghost use mathlib.Core.Path.{_≡_};
 ghost use Prim.Native.Nat.{_-_, _<_, _≤_};
-ghost use mir.Syntax.{w64};
-ghost use mir.Val.{ofZ, toZ};
 ghost use Rattle.correlation.specs.Words.{bit, flag, part, timed, timeWord, isPTP, estimated, senderWire, reflectorWire};
 ghost use Rattle.correlation.specs.Words.{slotFlags, recordFlags, joined, wordsBy, wordsOf};
 ghost use Rattle.correlation.specs.Words.{timeBy, formatBy, wiresBy, uniqueOf, slotOf};
@@ -42,26 +40,6 @@ pub struct Slot {
     pub unique: Unique,
 }
 
-// A signed value in two's complement.
-pub fn word_of(z: i64) -> u64
-    ensures { λ r. ⌜ r ≡ ofZ w64 z ⌝ }
-{
-    if z < 0 {
-        return 18446744073709551615 - ((-1 - z) as u64);
-    }
-    z as u64
-}
-
-// The signed value that a word says in two's complement.
-pub fn signed_of(w: u64) -> i64
-    ensures { λ r. ⌜ r ≡ toZ w64 w ⌝ }
-{
-    if w < 9223372036854775808 {
-        return w as i64;
-    }
-    -1 - ((18446744073709551615 - w) as i64)
-}
-
 // 1 for true.
 fn one_if(b: bool) -> u64
     ensures { λ r. ⌜ (r ≡ bit b) × (r < 2) ⌝ }
@@ -83,7 +61,7 @@ fn time_word(t4: Time) -> u64
 {
     match t4 {
         Time::Absent => 0,
-        Time::Nanoseconds(z) => word_of(z),
+        Time::Nanoseconds(z) => words::word64(z),
     }
 }
 
@@ -160,7 +138,7 @@ fn time_of(word: u64, t4: u64) -> Time
     ensures { λ r. ⌜ r ≡ timeBy (flag 19 word) t4 ⌝ }
 {
     if flag_at(word, 19) {
-        return Time::Nanoseconds(signed_of(t4));
+        return Time::Nanoseconds(words::signed64(t4));
     }
     Time::Absent
 }
@@ -191,7 +169,7 @@ fn unique_of(word: u64, t4: u64, reference: u64) -> Unique
             quality: wires_of(word),
             t4: time_of(word, t4),
             format: format_of(word),
-            reference: signed_of(reference),
+            reference: words::signed64(reference),
         });
     }
     Unique::Absent
@@ -307,7 +285,7 @@ impl Slot {
                 let sender = sender_wire(quality);
                 let reflector = reflector_wire(quality);
                 let word = joined_word(self.count, own, record_flags(reply), sender, reflector);
-                [word, time_word(t4), word_of(reply.reference)]
+                [word, time_word(t4), words::word64(reply.reference)]
             }
         }
     }

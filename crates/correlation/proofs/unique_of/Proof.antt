@@ -10,7 +10,6 @@ use Rattle.correlation.proofs.unique_of.Reads as reads
 use Rattle.correlation.proofs.unique_of.Lts as lts
 use Rattle.correlation.proofs.flag_at.Reads as flag-at-reads
 use Rattle.correlation.proofs.format_of.Reads as format-of-reads
-use Rattle.correlation.proofs.signed_of.Reads as signed-of-reads
 use Rattle.correlation.proofs.time_of.Reads as time-of-reads
 use Rattle.correlation.proofs.wires_of.Reads as wires-of-reads
 
@@ -31,8 +30,8 @@ format-of-requires : tie.Need-format-of-requires
 format-of-requires c κs = search needs
 
 -- src/lib.rt:191:24
-signed-of-requires : tie.Need-signed-of-requires
-signed-of-requires c κs = search needs
+signed64-requires : tie.Need-signed64-requires
+signed64-requires c κs = search needs
 
 -- src/lib.rt:187:9
 returns : tie.Need-returns
@@ -40,7 +39,7 @@ returns c =
     unique-kept (c .before .before .before .before .before .before .args .word) (c .before .before .before .before .before .before .args .t4) (c .before .before .before .before .before .before .args .reference) _ _ _ _ _
     (c .before .before .before .before .if1 .taken) (c .before .before .before .before .before .flag-at .ensures)
     (c .before .before .before .wires-of .ensures) (c .before .before .time-of .ensures) (c .before .format-of .ensures)
-    (read-signed _ _ (c .before .before .before .before .before .before .fits .reference) (c .signed-of .ensures))
+    (read-signed _ _ (c .before .before .before .before .before .before .fits .reference) (c .signed64 .ensures))
 
 -- src/lib.rt:183:1
 returns-2 : tie.Need-returns-2
@@ -54,6 +53,6 @@ unique-of-spec =
     wires-of-requires
     time-of-requires
     format-of-requires
-    signed-of-requires
+    signed64-requires
     returns
     returns-2)

@@ -13,7 +13,6 @@ use Rattle.correlation.proofs.reflector_wire.Reads as reflector-wire-re
 use Rattle.correlation.proofs.sender_wire.Reads as sender-wire-reads
 use Rattle.correlation.proofs.slot_flags.Reads as slot-flags-reads
 use Rattle.correlation.proofs.time_word.Reads as time-word-reads
-use Rattle.correlation.proofs.word_of.Reads as word-of-reads
 
 -- src/lib.rt:202:13
 slot-flags-requires : tie.Need-slot-flags-requires
@@ -52,8 +51,8 @@ time-word-requires : tie.Need-time-word-requires
 time-word-requires c κs = search needs
 
 -- src/lib.rt:212:39
-word-of-requires : tie.Need-word-of-requires
-word-of-requires c κs = search needs
+word64-requires : tie.Need-word64-requires
+word64-requires c κs = search needs
 
 -- src/lib.rt:199:5
 returns : tie.Need-returns
@@ -70,7 +69,7 @@ returns-2 c =
     (c .before .before .before .before .before .reflector-wire .ensures)
     (c .before .before .before .joined-word2 .ensures)
     (c .before .before .time-word .ensures)
-    (c .word-of .ensures ∙ bits-again (c .before .before .before .before .before .before .before .before .unique .given .0 .0 .reference) (c .before .struct-told .given .1 .1 .1 .0 .1))
+    (c .word64 .ensures ∙ bits-again (c .before .before .before .before .before .before .before .before .unique .given .0 .0 .reference) (c .before .struct-told .given .1 .1 .1 .0 .1))
 
 pub words-spec : {M : Type 1} → statement M
 words-spec =
@@ -85,6 +84,6 @@ words-spec =
     record-flags-requires
     joined-word-requires-2
     time-word-requires
-    word-of-requires
+    word64-requires
     returns
     returns-2)

@@ -1,0 +1,4 @@
+pub mod Offsets
+pub mod Outcomes
+pub mod Shown
+pub mod Examples
