@@ -274,20 +274,14 @@ fn follow(counts: Counts, epoch: Epoch, point: CounterPoint, again: bool) -> Ste
     let latest = epoch.latest;
     if breaks(anchor, point) {
         let observed = counts.one_observed();
-        return step_of(
-            observed.one_discontinuity(),
-            Window::Closed,
-            Offsets::Cleared,
-        );
+        let discontinued = observed.one_discontinuity();
+        return step_of(discontinued, Window::Closed, Offsets::Cleared);
     }
     if again {
         let observed = counts.one_observed();
         let unavailable = observed.one_unavailable(); // distinct replies must advance R_TxC
-        return step_of(
-            unavailable.one_discontinuity(),
-            Window::Closed,
-            Offsets::Cleared,
-        );
+        let seen_again = unavailable.one_discontinuity();
+        return step_of(seen_again, Window::Closed, Offsets::Cleared);
     }
     if epoch.seen == scope::CAPACITY {
         let observed = counts.one_observed();
