@@ -1,0 +1,11 @@
+pub mod Lists
+pub mod Rings
+pub mod Rising
+pub mod Marks
+pub mod Losses
+pub mod Popping
+pub mod Standing
+pub mod Searching
+pub mod Following
+pub mod Model
+pub mod Outcomes
