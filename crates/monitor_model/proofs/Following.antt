@@ -3,27 +3,29 @@
 use mathlib.Core.Path.{_≡_, refl, sym, ap, subst, _∙_}
 use mathlib.Core.Bool.{Bool, true, false, not, _&&_, _||_}
 use mathlib.Core.List.{List, [], _∷_, map}
-use Prim.Native.Nat.{ℕ, zero, suc, _+_, _-_, _<_, _≤_, _^_, zero-le}
+use Prim.Native.Nat.{ℕ, zero, suc, _+_, _-_, _%_, _<_, _≤_, _^_, zero-le}
+use native.Mathlib.Nat.{add-zero, mod-eq-of-lt}
 use native.Mathlib.Omega.{arith}
-use lib.ListN.{length, take as taking, drop}
+use lib.ListN.{length, getD, take as taking, drop}
 use lib.Dec.{eqb, leb, ltb}
-use borrow.Author.Tests.{eq-eqb, lt-leb, le-ltb, eqb-true, ltb-true}
+use borrow.Author.Tests.{eq-eqb, ne-eqb, lt-leb, le-ltb, eqb-true, ltb-true}
 use Rattle.scope.specs.Limits.{capacity}
 use Rattle.scope.specs.Refusals.{wrongRoom, deadlinePasses, countsFull, queueFull}
 use Rattle.probe_queue.specs.declared.Probe.{Probe}
 use Rattle.probe_queue.specs.declared.Rule.the-variants.{Due, Until}
-use Rattle.probe_queue.specs.Queue.{choose, at, queued, leading, passes}
+use Rattle.probe_queue.specs.Queue.{choose, nil, at, tabulate, queued, leading, passes}
 use Rattle.monitor.specs.declared.State.the-variants.{Idle, Active}
 use Rattle.monitor.specs.declared.Monitor.{Monitor}
 use Rattle.monitor.specs.declared.Summary.{Summary}
+use Rattle.monitor.specs.declared.Deadline.the-variants.{Absent, At, Refused as Denied}
 use Rattle.monitor.specs.declared.Answer.{Answer}
 use Rattle.monitor.specs.declared.Answer.the-variants.{Served, Refused}
 use Rattle.monitor.specs.Refusals.{misplaced, counted, passing, refusalOf, refusalOfSent, served}
 use Rattle.monitor.specs.States.{mostLosses, same, losing, enters, transition, loses, hears, stops}
 use Rattle.monitor.specs.Operations.{Stand, pops, due, taken, searched, queues, starts, sentOn, replyOn, advanceOn, idleOn, unchanged, sentIf, replyIf, advanceIf}
-use Rattle.monitor.specs.Answers.{outcome, answered, sentTo, replyTo, advanceTo, idleTo}
+use Rattle.monitor.specs.Answers.{outcome, answered, sentTo, replyTo, advanceTo, idleTo, deadlineOf}
 use Rattle.monitor.proofs.Served.{serves-sent-none, roomy}
-use Rattle.monitor_model.specs.Plain.{Sent, Marks, Plain, Left, Advanced, popTo, hear, reply, sent, start, queue, advance, advanceBy, advancing as plainAdvancing, idle, refusal, sentRefusal}
+use Rattle.monitor_model.specs.Plain.{Sent, Marks, Plain, Left, Advanced, popTo, hear, reply, sent, start, queue, advance, advanceBy, advancing as plainAdvancing, idle, deadline, refusal, sentRefusal}
 use Rattle.monitor_model.specs.Playing.{Call, sending, replying, advancing, idling, PlainStep, RingStep, serve, playPlain, take, playRing, probeOf}
 use Rattle.monitor_model.proofs.Lists.{tabulate-length, leading-le}
 use Rattle.monitor_model.proofs.Rising.{Rises, rises-drop}
@@ -82,6 +84,15 @@ module _ (x : Stand) (marks : Marks) (kept : Kept x marks) where
       ap (λ (u : Bool). choose u wrongRoom (choose (passing m t) deadlinePasses (choose (counted (m .summary)) countsFull (choose (ltb 0 (m .timeout) && leb capacity (m .ring .len)) queueFull 0)))) in-place
       ∙ ap (λ (n : ℕ). choose (passing m t) deadlinePasses (choose (counted (m .summary)) countsFull (choose (ltb 0 (m .timeout) && leb capacity n) queueFull 0)))
       (sym (probes-length xs ∙ tabulate-length (m .ring .len) (at (x .room) (m .ring))))
+
+  -- ---- `deadline`
+  front-by : (len : ℕ) → choose (eqb len 0) Absent (At (getD (x .room) (m .ring .head) nil .deadline)) ≡ deadline (map probeOf (tabulate len (at (x .room) (m .ring))))
+  front-by zero = refl
+  front-by (suc n) = ap (λ (t : Bool). choose t Absent (At (getD (x .room) (m .ring .head) nil .deadline))) (ne-eqb (suc n) 0 (λ e. omega (arith, e))) ∙ ap (λ (k : ℕ). At (getD (x .room) k nil .deadline)) (sym (ap (λ (k : ℕ). k % capacity) (add-zero (m .ring .head)) ∙ mod-eq-of-lt (kept .held .0)))
+
+  pub same-deadline : deadlineOf m (x .room) ≡ deadline (p .probes)
+  unfolding deadlineOf
+  same-deadline = ap (λ (t : Bool). choose t (Denied wrongRoom) (choose (eqb (m .ring .len) 0) Absent (At (getD (x .room) (m .ring .head) nil .deadline)))) in-place ∙ front-by (m .ring .len)
 
   -- ---- nothing changes
   pub stays : Next x p

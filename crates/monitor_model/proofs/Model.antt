@@ -11,11 +11,12 @@ use Rattle.scope.specs.Limits.{capacity}
 use Rattle.probe_queue.specs.declared.Probe.{Probe}
 use Rattle.monitor.specs.declared.Summary.{Summary}
 use Rattle.monitor.specs.Operations.{Stand, fresh}
-use Rattle.monitor_model.specs.Plain.{Sent, Marks, Plain, new}
+use Rattle.monitor.specs.Answers.{deadlineOf}
+use Rattle.monitor_model.specs.Plain.{Sent, Marks, Plain, new, deadline}
 use Rattle.monitor_model.specs.Playing.{Call, playPlain, playRing, plainNumbers, ringNumbers, plainAfter, ringAfter, Shows}
 use Rattle.monitor_model.proofs.Rising.{rises-drop}
 use Rattle.monitor_model.proofs.Standing.{seen, Kept, Next}
-use Rattle.monitor_model.proofs.Following.{Agrees, agrees}
+use Rattle.monitor_model.proofs.Following.{same-deadline, Agrees, agrees}
 
 -- a fresh monitor with any room of its size
 pub begins : (threshold timeout : ℕ) (room : List Probe) → length room ≡ capacity → Kept (record { monitor = fresh threshold timeout; room = room }) (λ s. false)
@@ -43,6 +44,16 @@ shows-next x p n =
       probes = sym (ap (λ (r : Plain). r .probes) (n .1 .0));
       received = λ s. n .1 .1 .received s ∙ sym (ap (λ (r : Plain). r .received s) (n .1 .0));
     }
+
+-- the front deadline is the plain model's too
+deadline-next : (x : Stand) (p : Plain) → Next x p → deadlineOf (x .monitor) (x .room) ≡ deadline (p .probes)
+deadline-next x p n = same-deadline x (n .0) (n .1 .1) ∙ ap (λ (r : Plain). deadline (r .probes)) (sym (n .1 .0))
+
+pub deadline-follows : (threshold timeout : ℕ) (room : List Probe) (calls : List Call) → length room ≡ capacity
+    → deadlineOf (ringAfter calls (record { monitor = fresh threshold timeout; room = room }) .monitor) (ringAfter calls (record { monitor = fresh threshold timeout; room = room }) .room) ≡ deadline (plainAfter calls (new threshold timeout) .probes)
+deadline-follows threshold timeout room calls long =
+    let x : Stand = record { monitor = fresh threshold timeout; room = room } in
+    deadline-next (ringAfter calls x) (plainAfter calls (new threshold timeout)) (follows-kept calls x (λ s. false) (begins threshold timeout room long) .1)
 
 -- THE THEOREM
 pub follows : (threshold timeout : ℕ) (room : List Probe) (calls : List Call) → length room ≡ capacity

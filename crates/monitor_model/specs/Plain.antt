@@ -8,6 +8,8 @@ use Rattle.scope.specs.Limits.{capacity}
 use Rattle.scope.specs.Refusals.{deadlinePasses, countsFull, queueFull}
 use Rattle.probe_queue.specs.Queue.{choose}
 use Rattle.monitor.specs.declared.State.the-variants.{Idle, Active, Failed}
+use Rattle.monitor.specs.declared.Deadline.{Deadline}
+use Rattle.monitor.specs.declared.Deadline.the-variants.{Absent, At}
 use Rattle.monitor.specs.declared.Summary.{Summary}
 use Rattle.monitor.specs.Refusals.{counted}
 use Rattle.monitor.specs.States.{mostLosses, losing, transition, failing, stops}
@@ -98,6 +100,11 @@ advance p t = advanceBy p (advancing (p .transmitting) t (p .summary) (p .probes
 -- `idle` stops and empties
 abbrev pub idle : Plain → Plain
 idle p = record { summary = stops (p .transmitting) (p .summary); timeout = p .timeout; transmitting = false; probes = []; received = λ s. false }
+
+-- `deadline`: the front probe's, or none
+abbrev pub deadline : List Sent → Deadline
+deadline [] = Absent
+deadline (x ∷ xs) = At (x .deadline)
 
 -- document 01's refusals: 6, 4 and 3 in the table's order, 0 where the call is served
 abbrev pub refusal : Plain → ℕ
