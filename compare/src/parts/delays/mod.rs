@@ -14,7 +14,7 @@ const FRESH: u64 = 0;
 const ROUND_TRIP: u64 = 1;
 /// A signed delay in ns.
 const DELAY: u64 = 2;
-/// Count, the sum's two words, minimum, maximum: a state as a host could hand it over.
+/// Count, the sum's sign and two words, minimum, maximum: a state as a host could hand it over.
 const LOAD: u64 = 3;
 
 pub const PART: Part = Part {
@@ -30,11 +30,15 @@ pub const PART: Part = Part {
     answer: &[
         "refusal",
         "samples",
-        "sum, high word",
-        "sum, low word",
+        "1 for a sum below 0",
+        "its magnitude, high word",
+        "low word",
         "1 if there is a minimum and a maximum",
-        "minimum",
-        "maximum",
+        "1 for a minimum below 0",
+        "its magnitude",
+        "1 for a maximum below 0",
+        "its magnitude",
+        "which of the three in ms there are",
         "minimum in ms",
         "average in ms",
         "maximum in ms",
@@ -78,17 +82,26 @@ impl Delayed {
     fn shown(&self, refusal: u64) -> Answer {
         let (count, sum, min, max) = self.sums.state();
         let shown = self.sums.summary();
+        let known = [shown.min_ms, shown.avg_ms, shown.max_ms].map(|x| u64::from(x.is_some()));
+        let bits = |x: Option<f64>| x.map_or(0, f64::to_bits);
+        let [low, least] = signed(min);
+        let [high, most] = signed(max);
+        let magnitude = sum.unsigned_abs();
         answer(&[
             refusal,
             count,
-            (sum >> 64) as u64,
-            sum as u64,
+            u64::from(sum < 0),
+            (magnitude >> 64) as u64,
+            magnitude as u64,
             u64::from(min.is_some()),
-            min.map_or(0, |x| x as u64),
-            max.map_or(0, |x| x as u64),
-            shown.min_ms.map_or(0, f64::to_bits),
-            shown.avg_ms.map_or(0, f64::to_bits),
-            shown.max_ms.map_or(0, f64::to_bits),
+            low,
+            least,
+            high,
+            most,
+            known[0] | known[1] << 1 | known[2] << 2,
+            bits(shown.min_ms),
+            bits(shown.avg_ms),
+            bits(shown.max_ms),
         ])
     }
 
@@ -117,13 +130,19 @@ impl Delayed {
     }
 
     fn load(&mut self, call: &Call) -> Answer {
-        let sum = (i128::from(call[2] as i64) << 64) | i128::from(call[3]);
+        let magnitude = (i128::from(call[3]) << 64) | i128::from(call[4]);
+        let sum = if call[2] != 0 { -magnitude } else { magnitude };
         // Minimum and maximum are signed words.
-        let (min, max) = (call[4] as i64, call[5] as i64);
+        let (min, max) = (call[5] as i64, call[6] as i64);
         self.sums
             .load(call[1], sum, i128::from(min), i128::from(max));
         self.shown(0)
     }
+}
+
+/// A sign and a magnitude.
+fn signed(ns: Option<i128>) -> [u64; 2] {
+    ns.map_or([0, 0], |x| [u64::from(x < 0), x.unsigned_abs() as u64])
 }
 
 fn show(call: &Call) -> String {
@@ -132,8 +151,8 @@ fn show(call: &Call) -> String {
         ROUND_TRIP => format!("round trip {}", call[1]),
         DELAY => format!("delay {}", call[1] as i64),
         _ => format!(
-            "load count {} sum {:x} {:x} minimum {} maximum {}",
-            call[1], call[2], call[3], call[4] as i64, call[5] as i64
+            "load count {} sum {} {:x} {:x} minimum {} maximum {}",
+            call[1], call[2], call[3], call[4], call[5] as i64, call[6] as i64
         ),
     }
 }

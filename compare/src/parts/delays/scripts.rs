@@ -68,10 +68,12 @@ fn sum_limits(random: &mut Random) -> Script {
         };
         let ends = [random.word() >> 2, random.word() >> 2];
         let (min, max) = (ends[0].min(ends[1]), ends[0].max(ends[1]));
+        let magnitude = sum.unsigned_abs();
         let words = [
             count,
-            (sum >> 64) as u64,
-            sum as u64,
+            u64::from(sum < 0),
+            (magnitude >> 64) as u64,
+            magnitude as u64,
             min.wrapping_neg(),
             max,
         ];

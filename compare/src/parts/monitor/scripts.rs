@@ -10,13 +10,13 @@ use crate::{
 
 pub fn scripts(random: &mut Random, long: bool) -> Vec<Script> {
     let mut all = Vec::new();
-    let rounds = if long { 120 } else { 40 };
+    let rounds = if long { 40 } else { 9 };
     for _ in 0..rounds {
-        all.push(typical(random, 300));
+        all.push(typical(random, 150));
         all.push(dense(random, 300));
         all.push(limits(random));
     }
-    all.push(full(random, if long { 24_000 } else { 5_200 }));
+    all.push(full(random, if long { 21_000 } else { 4_000 }));
     all
 }
 
