@@ -3,9 +3,9 @@
 use mathlib.Core.Bool.{Bool, true, false}
 use mathlib.Core.List.{List, [], _∷_, _++_}
 use mathlib.Core.Path.{_≡_, refl, sym, ap, _∙_}
-use mathlib.Core.Logic.{⊎-elim}
-use Prim.Native.Nat.{ℕ, suc, _+_, _^_, _≤_, _<_}
-use native.Mathlib.Nat.{min-le-left}
+use mathlib.Core.Logic.{_⊎_, inl, inr, ⊎-elim}
+use Prim.Native.Nat.{ℕ, suc, _+_, _-_, _^_, _≤_, _<_}
+use native.Mathlib.Nat.{min-le-left, eq-zero-or-pos}
 use native.Mathlib.Numerals.{add-one}
 use native.Mathlib.Omega.{arith}
 use lib.Dec.{ltb}
@@ -14,6 +14,9 @@ use lib.Seq.{take-suc, length-take-le}
 use borrow.Author.Tests.{lt-ltb, le-ltb, ltb-true}
 use Rattle.exact_rank.specs.Rank.{shifted}
 use Rattle.exact_rank.specs.Counting.{oneIf, below}
+
+pub lt-or-le : (j k : ℕ) → (j < k) ⊎ (k ≤ j)
+lt-or-le j k = ⊎-elim (λ z. inr (omega (arith, z))) (λ p. inl (omega (arith, p))) (eq-zero-or-pos (k - j))
 
 pub one-below : (a k : ℕ) → a < k → oneIf (ltb a k) ≡ 1
 unfolding oneIf
@@ -80,6 +83,12 @@ module _ (key : ℕ → ℕ) where
 
   pub below-take-most : (k : ℕ) (xs : List ℕ) (i : ℕ) → below key k (take i xs) ≤ i
   below-take-most k xs i = omega (arith, below-length k (take i xs), length-take i xs, min-le-left i (length xs))
+
+  pub below-take-grows : (k : ℕ) (xs : List ℕ) (i : ℕ) → i < length xs → below key k (take i xs) ≤ below key k (take (i + 1) xs)
+  below-take-grows k xs i l = omega (arith, below-more k xs i l)
+
+  pub below-take-one : (k : ℕ) (xs : List ℕ) (i : ℕ) → i < length xs → below key k (take (i + 1) xs) ≤ below key k (take i xs) + 1
+  below-take-one k xs i l = omega (arith, below-more k xs i l, one-if-most (ltb (key (getD xs i 0)) k))
 
   -- where every key is below k, all are counted
   pub below-all : (k : ℕ) → ((x : ℕ) → key x < k) → (xs : List ℕ) → below key k xs ≡ length xs

@@ -5,13 +5,14 @@ use mathlib.Core.List.{List, [], _∷_, map}
 use mathlib.Core.Path.{_≡_, refl, sym, ap, _∙_}
 use Prim.Native.Nat.{ℕ, zero, suc, _+_, _^_, _≤_, _<_, suc-le-suc}
 use native.Mathlib.Nat.{le-of-suc-le-suc, not-suc-le-zero, zero-lt-suc}
+use native.Mathlib.Numerals.{add-one}
 use native.Mathlib.Omega.{arith}
 use lib.Dec.{leb}
 use lib.ListN.{length, getD, take}
 use lib.Seq.{length-take-le, getD-take}
-use Rattle.exact_rank.specs.Rank.{unsigned, shifted, choose, insert, sorted, atRank, atRanks}
+use Rattle.exact_rank.specs.Rank.{unsigned, shifted, choose, insert, sorted, atRank, atRanks, InOrder}
 use Rattle.exact_rank.specs.Counting.{KeyOfRank}
-use Rattle.exact_rank.proofs.Sorting.{length-sorted, sorted-is-counted, one-key}
+use Rattle.exact_rank.proofs.Sorting.{length-sorted, sorted-is-counted, one-key, sorted-same}
 
 -- every sample is a word
 data Words : List ℕ → Type 0 where
@@ -90,3 +91,17 @@ module _ (xs : List ℕ) (count : ℕ) (within : count ≤ length xs) (small : (
   pub shifted-unsigned-all : (ranks : List ℕ) → atRanks (shifted 0) xs count ranks ≡ atRanks unsigned xs count ranks
   unfolding atRanks
   shifted-unsigned-all ranks = map-same shifted-unsigned ranks
+
+-- where the samples are in order, the sample of a rank stands at its rank
+pub in-order-at : (key : ℕ → ℕ) (xs : List ℕ) (count rank : ℕ) → count ≤ length xs → rank < count → InOrder key xs count
+    → getD xs rank 0 ≡ atRank key xs count rank
+unfolding atRank
+in-order-at key xs count rank within l h =
+    let first : List ℕ = take count xs in
+    let long : length first ≡ count = length-take-le count xs within in
+    let rising : (i : ℕ) → suc i < length first → key (getD first i 0) ≤ key (getD first (suc i) 0) =
+    (λ i m.
+    let a : getD first i 0 ≡ getD xs i 0 = getD-take count xs i 0 (omega (arith, m, long)) in
+    let b : getD first (suc i) 0 ≡ getD xs (suc i) 0 = getD-take count xs (suc i) 0 (omega (arith, m, long)) in
+    rw (a, b) (rw (add-one i) at (h i (omega (arith, m, long)))))
+    in sym (rw (sorted-same key first rising) (getD-take count xs rank 0 l))

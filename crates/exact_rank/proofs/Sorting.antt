@@ -3,25 +3,22 @@
 use mathlib.Core.Bool.{Bool, true, false}
 use mathlib.Core.List.{List, [], _∷_}
 use mathlib.Core.Path.{_≡_, refl, sym, ap, _∙_}
-use mathlib.Core.Logic.{_⊎_, inl, inr, ⊎-elim}
-use Prim.Native.Nat.{ℕ, zero, suc, _+_, _-_, _≤_, _<_}
-use native.Mathlib.Nat.{le-refl, le-trans, le-of-suc-le-suc, not-suc-le-zero, eq-or-lt-of-le, eq-zero-or-pos}
+use mathlib.Core.Logic.{⊎-elim}
+use Prim.Native.Nat.{ℕ, zero, suc, _+_, _≤_, _<_, suc-le-suc}
+use native.Mathlib.Nat.{le-refl, le-trans, le-of-suc-le-suc, not-suc-le-zero, zero-lt-suc, eq-or-lt-of-le}
 use native.Mathlib.Omega.{arith}
 use lib.Dec.{leb, ltb}
 use lib.ListN.{length, getD}
-use borrow.Author.Tests.{leb-true, leb-false}
+use borrow.Author.Tests.{leb-true, leb-false, le-leb}
 use Rattle.exact_rank.specs.Rank.{choose, insert, sorted}
 use Rattle.exact_rank.specs.Counting.{oneIf, below, KeyOfRank}
-use Rattle.exact_rank.proofs.Counting.{one-below, none-below, one-if-most, below-grows}
+use Rattle.exact_rank.proofs.Counting.{one-below, none-below, one-if-most, below-grows, lt-or-le}
 
 choose-length : (t : Bool) (x y : ℕ) (ys zs : List ℕ) → length zs ≡ suc (length ys)
     → length (choose t (x ∷ y ∷ ys) (y ∷ zs)) ≡ suc (suc (length ys))
 unfolding choose
 choose-length true x y ys zs e = refl
 choose-length false x y ys zs e = ap suc e
-
-lt-or-le : (j k : ℕ) → (j < k) ⊎ (k ≤ j)
-lt-or-le j k = ⊎-elim (λ z. inr (omega (arith, z))) (λ p. inl (omega (arith, p))) (eq-zero-or-pos (k - j))
 
 module _ (key : ℕ → ℕ) where
   choose-below : (t : Bool) (k x y : ℕ) (ys zs : List ℕ) → below key k zs ≡ oneIf (ltb (key x) k) + below key k ys
@@ -138,3 +135,11 @@ module _ (key : ℕ → ℕ) where
   pub one-key : (xs : List ℕ) (rank j k : ℕ) → KeyOfRank key xs rank j → KeyOfRank key xs rank k → j ≡ k
   one-key xs rank j k p q =
       ⊎-elim (λ l. absurd (not-higher xs rank j k p q l)) (λ l. ⊎-elim (λ e. sym e) (λ m. absurd (not-higher xs rank k j q p m)) (eq-or-lt-of-le l)) (lt-or-le j k)
+
+  -- samples in order are their own sorted list
+  pub sorted-same : (xs : List ℕ) → ((i : ℕ) → suc i < length xs → key (getD xs i 0) ≤ key (getD xs (suc i) 0)) → sorted key xs ≡ xs
+  unfolding sorted insert choose
+  sorted-same [] h = refl
+  sorted-same (x ∷ []) h = refl
+  sorted-same (x ∷ y ∷ ys) h =
+      rw (sorted-same (y ∷ ys) (λ i l. h (suc i) (suc-le-suc l)), le-leb (key x) (key y) (h zero (suc-le-suc (zero-lt-suc (length ys)))))

@@ -1,2 +1,5 @@
 pub mod Rank
 pub mod Counting
+pub mod Samples
+pub mod Passes
+pub mod Searches

@@ -2,7 +2,7 @@
 -- which samples are ordered, so that the signed order is the same law at another key.
 use mathlib.Core.Bool.{Bool, true, false}
 use mathlib.Core.List.{List, [], _∷_, map}
-use Prim.Native.Nat.{ℕ, _+_, _%_, _^_}
+use Prim.Native.Nat.{ℕ, _+_, _%_, _^_, _≤_, _<_}
 use lib.Dec.{leb}
 use lib.ListN.{getD, take}
 
@@ -40,3 +40,15 @@ atRank key samples count rank = getD (sorted key (take count samples)) rank 0
 -- the samples of several ranks
 unfoldable pub atRanks : (ℕ → ℕ) → List ℕ → ℕ → List ℕ → List ℕ
 atRanks key samples count ranks = map (atRank key samples count) ranks
+
+-- no sample has a lower key than the one before it
+abbrev pub InOrder : (ℕ → ℕ) → List ℕ → ℕ → Type 0
+InOrder key samples count = (k : ℕ) → k + 1 < count → key (getD samples k 0) ≤ key (getD samples (k + 1) 0)
+
+-- every rank is that of a sample
+abbrev pub Ranks : List ℕ → ℕ → Type 0
+Ranks ranks count = (k : ℕ) → k < 4 → getD ranks k 0 < count
+
+-- the samples that stand at the ranks
+unfoldable pub standingAt : List ℕ → List ℕ → List ℕ
+standingAt samples ranks = map (λ (rank : ℕ). getD samples rank 0) ranks

@@ -1,61 +1,377 @@
 // The samples of given ranks: what the exact mode of src/stats/quantiles.rs reads out of its sorted copy. Here nothing is
-// copied and the samples are not touched.
+// copied and the samples are not touched: a search counts the keys of 256 equal parts of a range, and goes on in the part
+// that holds the rank. Searches for several ranks share each count that they have in common.
 ghost use mathlib.Core.Path.{_≡_};
-ghost use Prim.Native.Nat.{ℕ, _+_, _^_, _<_, _≤_};
+ghost use mathlib.Core.Logic.{_⊎_};
+ghost use Prim.Native.Nat.{ℕ, _+_, _-_, _*_, _^_, _<_, _≤_};
 ghost use lib.ListN.{length, getD, take};
-ghost use Rattle.exact_rank.specs.Rank.{unsigned, shifted, signed, atRank, atRanks};
-ghost use Rattle.exact_rank.specs.Counting.{below, KeyOfRank};
+ghost use Rattle.exact_rank.specs.Rank.{unsigned, shifted, signed, atRank, atRanks, Ranks, standingAt};
+ghost use Rattle.exact_rank.specs.Counting.{below};
+ghost use Rattle.exact_rank.specs.Passes.{capped, edge, Counted, sumTo, Placed};
+ghost use Rattle.exact_rank.specs.Searches.{
+  AllInside,
+  AllFollow,
+  SameKeys,
+  EndedAt,
+  Leads,
+  Led,
+  LedWith,
+  EndedWith,
+  LeadsAll,
+  AllLed,
+  AllEnded,
+  Begins,
+  Ends,
+  Stepped,
+  AllAtEnd,
+  whole,
+  turnedOnce,
+};
+
+mod passes;
 
 // What is added to a signed sample, so that its key is in unsigned order.
 const SIGNED: u64 = 9223372036854775808;
 
-// The number by which samples are ordered.
-fn key(sample: u64, bias: u64) -> u64
-    ensures { λ r. ⌜ r ≡ shifted bias sample ⌝ }
-{
-    std::num::wrapping_add_u64(sample, bias)
+// With more keys than these in its range, a search first finds where they begin and end: two passes, which pay where most
+// keys would otherwise fall into few parts.
+const MANY: u64 = 256;
+
+// A search for the sample of a rank, counted from 0. Its key is one of low to high. While these differ, `before` samples have
+// a key below low, and `through` have one of at most high.
+struct Search {
+    low: u64,
+    high: u64,
+    rank: u64,
+    before: u64,
+    through: u64,
 }
 
-// How many of the first `count` samples have a key of at most `most`.
-fn through(samples: &[u64], count: usize, bias: u64, most: u64) -> u64
-    requires { ⌜ count ≤ length (now samples) ⌝ }
-    ensures { λ r. ⌜ r ≡ below (shifted bias) (most + 1) (take count (now (samples .entry))) ⌝ }
+// Four searches at once.
+struct Four {
+    first: Search,
+    second: Search,
+    third: Search,
+    fourth: Search,
+}
+
+// The digit that holds a rank, and the rank within it.
+struct Place {
+    digit: usize,
+    left: u64,
+}
+
+// How far keys of a range are shifted, so that 256 digits hold them: the bit length of the range, less 8, not below 0.
+fn shift_of(span: u64) -> u32
+    ensures { λ r. ⌜ (r < 64) × (span < 256 * 2 ^ r) × ((r ≡ 0) ⊎ (2 ^ r ≤ span)) ⌝ }
 {
-    let mut n: u64 = 0;
-    let mut i = 0;
-    while i < count {
-        if key(samples[i], bias) <= most {
-            n += 1;
+    let length = 64 - u64::leading_zeros(span);
+    if length < 8 { 0 } else { length - 8 }
+}
+
+// The digit of a rank among the counts.
+fn place_of(counts: &[u64; 256], rank: u64) -> Place
+    requires { ⌜ rank < sumTo (now counts) 256 ⌝ }
+    ensures { λ r. ⌜ Placed (now (counts .entry)) rank (r .digit) (r .left) ⌝ }
+{
+    let mut left = rank;
+    let mut digit: usize = 0;
+    while digit < 255 {
+        let n = counts[digit];
+        if left < n {
+            return Place { digit, left };
         }
-        i += 1;
+        left -= n;
+        digit += 1;
     }
-    n
+    Place { digit, left }
 }
 
-// The key of the sample of a rank.
-fn key_of_rank(samples: &[u64], count: usize, bias: u64, rank: u64) -> u64
-    requires { ⌜ (count ≤ length (now samples)) × (rank < count) ⌝ }
-    ensures { λ r. ⌜ KeyOfRank (shifted bias) (take count (now (samples .entry))) rank r ⌝ }
+// The lowest key of a digit.
+fn start_of(low: u64, digit: usize, shift: u32) -> u64
+    requires { ⌜ (shift < 64) × (low + digit * 2 ^ shift < 2 ^ 64) ⌝ }
+    ensures { λ r. ⌜ r ≡ low + digit * 2 ^ shift ⌝ }
 {
-    let mut low: u64 = 0;
-    let mut high: u64 = 18446744073709551615;
-    while low < high {
-        let middle = low + (high - low) / 2;
-        if through(samples, count, bias, middle) <= rank {
-            low = middle + 1;
-        } else {
-            high = middle;
+    low + ((digit as u64) << shift)
+}
+
+// The highest key of a digit that starts at `start`.
+fn end_of(start: u64, high: u64, shift: u32) -> u64
+    requires { ⌜ (shift < 64) × (start ≤ high) ⌝ }
+    ensures { λ r. ⌜ r + 1 ≡ capped (start + 2 ^ shift) (high + 1) ⌝ }
+{
+    let last = (1u64 << shift) - 1;
+    if high - start < last {
+        high
+    } else {
+        start + last
+    }
+}
+
+// The search, led to the digit that holds its rank.
+fn led(counts: &[u64; 256], low: u64, high: u64, shift: u32, search: Search) -> Search
+    requires { ⌜ (shift < 64) × Leads (now counts) low high shift search ⌝ }
+    ensures { λ r. ⌜ Led (now (counts .entry)) low high shift search r ⌝ }
+{
+    let place = place_of(counts, search.rank - search.before);
+    let digit = place.digit;
+    let start = start_of(low, digit, shift);
+    let before = search.rank - place.left;
+    Search {
+        low: start,
+        high: end_of(start, high, shift),
+        rank: search.rank,
+        before: before,
+        through: before + counts[digit],
+    }
+}
+
+// The search, led with the node where it is among the node's keys.
+fn led_with(
+    counts: &[u64; 256],
+    low: u64,
+    high: u64,
+    shift: u32,
+    node: Search,
+    search: Search,
+) -> Search
+    requires { ⌜ (shift < 64) × (SameKeys search node → Leads (now counts) low high shift search) ⌝ }
+    ensures { λ r. ⌜ LedWith (now (counts .entry)) low high shift node search r ⌝ }
+{
+    if search.low == node.low {
+        if search.high == node.high {
+            return led(counts, low, high, shift, search);
         }
     }
-    low
+    search
 }
 
-// The sample of a rank in an order.
+// The first search, led to its digit, and the others that are among the same keys to theirs.
+fn all_led(counts: &[u64; 256], low: u64, high: u64, shift: u32, four: Four) -> Four
+    requires { ⌜ (shift < 64) × LeadsAll (now counts) low high shift four ⌝ }
+    ensures { λ r. ⌜ AllLed (now (counts .entry)) low high shift four r ⌝ }
+{
+    let node = four.first;
+    Four {
+        first: led(counts, low, high, shift, node),
+        second: led_with(counts, low, high, shift, node, four.second),
+        third: led_with(counts, low, high, shift, node, four.third),
+        fourth: led_with(counts, low, high, shift, node, four.fourth),
+    }
+}
+
+// The search, ended at a key.
+fn ended(value: u64, search: Search) -> Search
+    ensures { λ r. ⌜ EndedAt value search r ⌝ }
+{
+    Search {
+        low: value,
+        high: value,
+        rank: search.rank,
+        before: 0,
+        through: 0,
+    }
+}
+
+// The search, ended with the node where it is for the node's rank among the node's keys.
+fn ended_with(value: u64, node: Search, search: Search) -> Search
+    ensures { λ r. ⌜ EndedWith value node search r ⌝ }
+{
+    if search.low == node.low {
+        if search.high == node.high {
+            if search.rank == node.rank {
+                return ended(value, search);
+            }
+        }
+    }
+    search
+}
+
+// The first search, ended at a key, and the others that are for the same rank.
+fn all_ended(value: u64, four: Four) -> Four
+    ensures { λ r. ⌜ AllEnded value four r ⌝ }
+{
+    let node = four.first;
+    Four {
+        first: ended(value, node),
+        second: ended_with(value, node, four.second),
+        third: ended_with(value, node, four.third),
+        fourth: ended_with(value, node, four.fourth),
+    }
+}
+
+// Where the node's keys begin: looked for where there are many.
+fn begin(samples: &[u64], count: usize, bias: u64, node: Search) -> u64
+    requires { ⌜ (count ≤ length (now samples)) × (node .low ≤ node .high) × (node .before ≤ node .through) ⌝ }
+    ensures { λ r. ⌜ Begins (shifted bias) (take count (now (samples .entry))) (node .low) (node .high) r ⌝ }
+{
+    if node.through - node.before > MANY {
+        return passes::least(samples, count, bias, node.low, node.high);
+    }
+    node.low
+}
+
+// Where the node's keys end, from `low`: looked for where there are many.
+fn finish(samples: &[u64], count: usize, bias: u64, low: u64, node: Search) -> u64
+    requires { ⌜ (count ≤ length (now samples)) × (low ≤ node .high) × (node .before ≤ node .through) ⌝ }
+    ensures { λ r. ⌜ Ends (shifted bias) (take count (now (samples .entry))) low (node .high) r ⌝ }
+{
+    if node.through - node.before > MANY {
+        return passes::most(samples, count, bias, low, node.high);
+    }
+    node.high
+}
+
+// The keys of the first search, counted by digits, and every search among them led on.
+fn divided(samples: &[u64], count: usize, bias: u64, four: Four) -> Four
+    requires { ⌜ (count ≤ length (now samples)) × AllInside (shifted bias) (take count (now samples)) four
+        × (four .first .low < four .first .high) ⌝ }
+    ensures { λ r. ⌜ Stepped (shifted bias) (take count (now (samples .entry))) four r ⌝ }
+{
+    let node = four.first;
+    let low = begin(samples, count, bias, node);
+    let high = finish(samples, count, bias, low, node);
+    let shift = shift_of(high - low);
+    let counts = passes::digits(samples, count, bias, low, high, shift);
+    all_led(&counts, low, high, shift, four)
+}
+
+// One step of the first search. The first and the last rank of a range are read off in one pass.
+fn step(samples: &[u64], count: usize, bias: u64, four: Four) -> Four
+    requires { ⌜ (count ≤ length (now samples)) × AllInside (shifted bias) (take count (now samples)) four
+        × (four .first .low < four .first .high) ⌝ }
+    ensures { λ r. ⌜ Stepped (shifted bias) (take count (now (samples .entry))) four r ⌝ }
+{
+    let node = four.first;
+    if node.rank == node.before {
+        return all_ended(
+            passes::least(samples, count, bias, node.low, node.high),
+            four,
+        );
+    }
+    if node.through - node.rank == 1 {
+        return all_ended(
+            passes::most(samples, count, bias, node.low, node.high),
+            four,
+        );
+    }
+    divided(samples, count, bias, four)
+}
+
+// The four searches, with the first at its end.
+fn found(samples: &[u64], count: usize, bias: u64, four: Four) -> Four
+    requires { ⌜ (count ≤ length (now samples)) × AllInside (shifted bias) (take count (now samples)) four ⌝ }
+    ensures { λ r. ⌜ AllFollow (shifted bias) (take count (now (samples .entry))) four r × (r .first .low ≡ r .first .high) ⌝ }
+{
+    let mut moved = four;
+    while moved.first.low < moved.first.high {
+        moved = step(samples, count, bias, moved);
+    }
+    moved
+}
+
+// The search for a rank among all keys.
+fn search_all(count: usize, rank: u64) -> Search
+    ensures { λ r. ⌜ r ≡ whole count rank ⌝ }
+{
+    Search {
+        low: 0,
+        high: 18446744073709551615,
+        rank: rank,
+        before: 0,
+        through: count as u64,
+    }
+}
+
+// The searches, the next one first.
+fn turned(four: Four) -> Four
+    ensures { λ r. ⌜ r ≡ turnedOnce four ⌝ }
+{
+    let first = four.second;
+    let second = four.third;
+    let third = four.fourth;
+    let fourth = four.first;
+    Four {
+        first,
+        second,
+        third,
+        fourth,
+    }
+}
+
+// The four searches, each at its end, in their order.
+fn all_found(samples: &[u64], count: usize, bias: u64, four: Four) -> Four
+    requires { ⌜ (count ≤ length (now samples)) × AllInside (shifted bias) (take count (now samples)) four ⌝ }
+    ensures { λ r. ⌜ AllFollow (shifted bias) (take count (now (samples .entry))) four r × AllAtEnd r ⌝ }
+{
+    let first = found(samples, count, bias, four);
+    let second = found(samples, count, bias, turned(first));
+    let third = found(samples, count, bias, turned(second));
+    turned(found(samples, count, bias, turned(third)))
+}
+
+// The sample that has a key.
+fn sample_of(key: u64, bias: u64) -> u64
+    ensures { λ r. ⌜ shifted bias r ≡ key ⌝ }
+{
+    std::num::wrapping_sub_u64(key, bias)
+}
+
+// The samples of four ranks, searched for.
+fn search_four(samples: &[u64], count: usize, bias: u64, ranks: [u64; 4]) -> [u64; 4]
+    requires { ⌜ (count ≤ length (now samples)) × Ranks ranks count ⌝ }
+    ensures { λ r. ⌜ r ≡ atRanks (shifted bias) (now (samples .entry)) count ranks ⌝ }
+{
+    let four = Four {
+        first: search_all(count, ranks[0]),
+        second: search_all(count, ranks[1]),
+        third: search_all(count, ranks[2]),
+        fourth: search_all(count, ranks[3]),
+    };
+    let end = all_found(samples, count, bias, four);
+    [
+        sample_of(end.first.low, bias),
+        sample_of(end.second.low, bias),
+        sample_of(end.third.low, bias),
+        sample_of(end.fourth.low, bias),
+    ]
+}
+
+// The samples that stand at four ranks.
+fn read_four(samples: &[u64], ranks: [u64; 4]) -> [u64; 4]
+    requires { ⌜ Ranks ranks (length (now samples)) ⌝ }
+    ensures { λ r. ⌜ r ≡ standingAt (now (samples .entry)) ranks ⌝ }
+{
+    let first = ranks[0] as usize;
+    let second = ranks[1] as usize;
+    let third = ranks[2] as usize;
+    let fourth = ranks[3] as usize;
+    [
+        samples[first],
+        samples[second],
+        samples[third],
+        samples[fourth],
+    ]
+}
+
+// The samples of four ranks in an order.
+fn pick_four(samples: &[u64], count: usize, bias: u64, ranks: [u64; 4]) -> [u64; 4]
+    requires { ⌜ (count ≤ length (now samples)) × Ranks ranks count ⌝ }
+    ensures { λ r. ⌜ r ≡ atRanks (shifted bias) (now (samples .entry)) count ranks ⌝ }
+{
+    if passes::in_order(samples, count, bias) {
+        return read_four(samples, ranks);
+    }
+    search_four(samples, count, bias, ranks)
+}
+
+// The sample of a rank in an order: four searches for one rank go together all the way.
 fn pick(samples: &[u64], count: usize, bias: u64, rank: u64) -> u64
     requires { ⌜ (count ≤ length (now samples)) × (rank < count) ⌝ }
     ensures { λ r. ⌜ r ≡ atRank (shifted bias) (now (samples .entry)) count rank ⌝ }
 {
-    std::num::wrapping_sub_u64(key_of_rank(samples, count, bias, rank), bias)
+    let four = pick_four(samples, count, bias, [rank, rank, rank, rank]);
+    four[0]
 }
 
 // The sample of a rank among unsigned samples.
@@ -74,22 +390,9 @@ pub fn pick_signed(samples: &[u64], count: usize, rank: u64) -> u64
     pick(samples, count, SIGNED, rank)
 }
 
-// The samples of four ranks in an order.
-fn pick_four(samples: &[u64], count: usize, bias: u64, ranks: [u64; 4]) -> [u64; 4]
-    requires { ⌜ (count ≤ length (now samples)) × ((k : ℕ) → k < 4 → getD ranks k 0 < count) ⌝ }
-    ensures { λ r. ⌜ r ≡ atRanks (shifted bias) (now (samples .entry)) count ranks ⌝ }
-{
-    [
-        pick(samples, count, bias, ranks[0]),
-        pick(samples, count, bias, ranks[1]),
-        pick(samples, count, bias, ranks[2]),
-        pick(samples, count, bias, ranks[3]),
-    ]
-}
-
 // The samples of four ranks among unsigned samples.
 pub fn pick_four_unsigned(samples: &[u64], count: usize, ranks: [u64; 4]) -> [u64; 4]
-    requires { ⌜ (count ≤ length (now samples)) × ((k : ℕ) → k < 4 → getD ranks k 0 < count) ⌝ }
+    requires { ⌜ (count ≤ length (now samples)) × Ranks ranks count ⌝ }
     ensures { λ r. ⌜ r ≡ atRanks unsigned (now (samples .entry)) count ranks ⌝ }
 {
     pick_four(samples, count, 0, ranks)
@@ -97,7 +400,7 @@ pub fn pick_four_unsigned(samples: &[u64], count: usize, ranks: [u64; 4]) -> [u6
 
 // The samples of four ranks among signed samples, in two's complement.
 pub fn pick_four_signed(samples: &[u64], count: usize, ranks: [u64; 4]) -> [u64; 4]
-    requires { ⌜ (count ≤ length (now samples)) × ((k : ℕ) → k < 4 → getD ranks k 0 < count) ⌝ }
+    requires { ⌜ (count ≤ length (now samples)) × Ranks ranks count ⌝ }
     ensures { λ r. ⌜ r ≡ atRanks signed (now (samples .entry)) count ranks ⌝ }
 {
     pick_four(samples, count, SIGNED, ranks)

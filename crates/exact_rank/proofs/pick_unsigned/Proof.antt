@@ -1,21 +1,16 @@
-use Prim.Native.Nat.{ℕ, _≤_, _<_, _-_, _+_, _*_, _^_}
-use mathlib.Core.Path.{_≡_, refl, sym, ap, _∙_}
-use mathlib.Core.List.{List, map}
+-- `exact_rank::pick_unsigned` meets its contract: bias 0 is the unsigned order.
+-- Assumes nothing.
+use Prim.Native.Nat.{_-_}
+use mathlib.Core.Path.{_∙_}
 use native.Mathlib.Omega.{arith}
-use lib.ListN.{length, getD, take}
 use Rattle.exact_rank.proofs.Samples.{shifted-unsigned}
 use borrow.Author.Needs.{needs}
 use Rattle.exact_rank.proofs.pick_unsigned.Statement.{statement}
 use Rattle.exact_rank.proofs.pick_unsigned.Tie as tie
-use Rattle.exact_rank.proofs.pick_unsigned.Reads as reads
-use Rattle.exact_rank.proofs.pick_unsigned.Lts as lts
-use Rattle.exact_rank.proofs.pick.Reads as pick-reads
 
--- src/lib.rt:66:5
 pick-requires : tie.Need-pick-requires
 pick-requires c κs = search needs
 
--- src/lib.rt:62:1
 returns : tie.Need-returns
 returns c =
     c .pick .ensures

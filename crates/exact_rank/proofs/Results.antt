@@ -1,8 +1,8 @@
 -- An array of four is its four elements.
 -- Assumes nothing.
 use mathlib.Core.List.{List, [], _∷_, map}
-use mathlib.Core.Path.{_≡_, refl}
-use Prim.Native.Nat.{ℕ}
+use mathlib.Core.Path.{_≡_, refl, sym, _∙_}
+use Prim.Native.Nat.{ℕ, zero, suc, _<_}
 use native.Mathlib.Omega.{arith}
 use lib.ListN.{length, getD}
 
@@ -20,3 +20,17 @@ pub four-results : (f : ℕ → ℕ) (xs : List ℕ) (a b c d : ℕ) → length 
     → a ≡ f (getD xs 0 0) → b ≡ f (getD xs 1 0) → c ≡ f (getD xs 2 0) → d ≡ f (getD xs 3 0)
     → a ∷ b ∷ c ∷ d ∷ [] ≡ map f xs
 four-results f xs a b c d e p q r s = rw (p, q, r, s) (map-four f xs e)
+
+-- two functions that agree at each of the four are the same at all
+pub four-same : (f g : ℕ → ℕ) (xs : List ℕ) → length xs ≡ 4 → ((k : ℕ) → k < 4 → f (getD xs k 0) ≡ g (getD xs k 0)) → map f xs ≡ map g xs
+four-same f g xs e h =
+    sym (map-four f xs e)
+    ∙ four-results g xs (f (getD xs 0 0)) (f (getD xs 1 0)) (f (getD xs 2 0)) (f (getD xs 3 0)) e (h 0 (omega arith)) (h 1 (omega arith)) (h 2 (omega arith)) (h 3 (omega arith))
+
+-- one rank four times
+pub same-ranks : (rank count : ℕ) → rank < count → (k : ℕ) → k < 4 → getD (rank ∷ rank ∷ rank ∷ rank ∷ []) k 0 < count
+same-ranks rank count l zero m = l
+same-ranks rank count l (suc zero) m = l
+same-ranks rank count l (suc (suc zero)) m = l
+same-ranks rank count l (suc (suc (suc zero))) m = l
+same-ranks rank count l (suc (suc (suc (suc k)))) m = absurd (omega (arith, m))
