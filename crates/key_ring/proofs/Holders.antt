@@ -11,7 +11,8 @@ use lib.Dec.{T, eqb, ltb}
 use lib.ListN.{length, take, getD, set}
 use Rattle.chains.specs.Walk.{firstOf, changeFirst}
 use Rattle.chains.proofs.Tests.{Test, holds, fails, eq-test, eq-true, eq-false, true-not-false}
-use Rattle.key_ring.specs.Rows.{noSlot, countOf, isObserved, loweredWord, lowered, Row, holds?, wordsOf, taken, slotIn, with, change, observedIn, Counted, newRow}
+use Rattle.key_ring.specs.Rows.{noSlot, countOf, isObserved, lowered, Row, holds?, wordsOf, taken, slotIn, with, change, observedIn, Counted, newRow}
+use Rattle.correlation.specs.Slots.{lowerWord}
 use Rattle.key_ring.proofs.Packing.{lowered-zero, lowered-count, lowered-rest}
 
 -- ---- what a row that holds says
@@ -115,8 +116,8 @@ first-set : (words : List ℕ) (v : ℕ → ℕ) → v 0 ≡ 0 → getD (set wor
 first-set [] v e = sym e
 first-set (w ∷ ws) v e = refl
 
-lowered-word : (words : List ℕ) → getD (lowered words) 0 0 ≡ loweredWord (getD words 0 0)
-lowered-word words = first-set words loweredWord (sym (lowered-zero 0 refl))
+lowered-word : (words : List ℕ) → getD (lowered words) 0 0 ≡ lowerWord (getD words 0 0)
+lowered-word words = first-set words lowerWord (sym (lowered-zero 0 refl))
 
 pub lowered-keeps : (words : List ℕ) → isObserved (lowered words) ≡ isObserved words
 lowered-keeps words = ap (λ (n : ℕ). eqb (n % 2) 1) (ap (λ (w : ℕ). w / 65536) (lowered-word words) ∙ lowered-rest (getD words 0 0))
@@ -127,6 +128,9 @@ lowered-counts words = ap (λ (w : ℕ). w % 65536) (lowered-word words) ∙ low
 taken-none : (words : List ℕ) → countOf words ≡ 0 → taken words ≡ noSlot
 taken-none words e = rw (eq-true (countOf words) 0 e)
 
+taken-some : (words : List ℕ) → (countOf words ≡ 0 → ⊥) → taken words ≡ words
+taken-some words ne = rw (eq-false (countOf words) 0 ne)
+
 -- lowering a slot, or the words behind it, is one thing
 taken-lowered : (words : List ℕ) → taken (lowered (taken words)) ≡ taken (lowered words)
 taken-lowered words = go (eq-test (countOf words) 0)
@@ -135,8 +139,9 @@ taken-lowered words = go (eq-test (countOf words) 0)
     none = taken-none (lowered noSlot) (lowered-counts noSlot)
 
     go : Test (countOf words ≡ 0) (eqb (countOf words) 0) → taken (lowered (taken words)) ≡ taken (lowered words)
-    go (holds p t) = rw t (none ∙ sym (taken-none (lowered words) (lowered-counts words ∙ ap (λ (n : ℕ). n - 1) p)))
-    go (fails p t) = rw t
+    go (holds p t) =
+        ap (λ (w : List ℕ). taken (lowered w)) (taken-none words p) ∙ none ∙ sym (taken-none (lowered words) (lowered-counts words ∙ ap (λ (n : ℕ). n - 1) p))
+    go (fails p t) = ap (λ (w : List ℕ). taken (lowered w)) (taken-some words p)
 
 -- ---- the oldest row
 

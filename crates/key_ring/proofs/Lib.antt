@@ -5,3 +5,4 @@ pub mod Holders
 pub mod Tables
 pub mod Accepts
 pub mod Fresh
+pub mod Meaning

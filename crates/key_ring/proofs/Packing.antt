@@ -9,9 +9,8 @@ use lib.Dec.{T, eqb}
 use lib.ListN.{getD, set}
 use Rattle.calls.specs.declared.ReplyKey.{ReplyKey}
 use Rattle.chains.proofs.Tests.{Test, holds, fails, eq-test, eq-true, eq-false}
-use Rattle.key_ring.specs.Keys.{keyOf, keyAt, keyRow, numbersOf, sameKey}
-use Rattle.key_ring.specs.Rows.{loweredWord, isObserved, holds?}
-use Rattle.key_ring.specs.Table.{rowAt}
+use Rattle.key_ring.specs.Keys.{keyOf, keyRow, numbersOf, sameKey}
+use Rattle.correlation.specs.Slots.{lowerWord}
 
 pub sender-of : (s r : ℕ) → r < 4294967296 → (s * 4294967296 + r) / 4294967296 ≡ s
 sender-of s r l = omega arith
@@ -38,16 +37,6 @@ same-words k word t l = go (eq-test (numbersOf k) word) (eq-test (k .sender) (wo
     go (fails p a) (holds q b) (fails s c) = rw (a, b, c)
     go (fails p a) (fails q b) u = rw (a, b)
 
--- a row holds a number's slot, the number tested first
-pub holds-words : (keys slots : List (List ℕ)) (slot r : ℕ) → (eqb r (keyAt keys slot .reflector) && isObserved (getD slots slot [])) ≡ holds? r (rowAt keys slots slot)
-holds-words keys slots slot r = swap (eqb r (keyAt keys slot .reflector)) (isObserved (getD slots slot []))
-  where
-    swap : (a b : Bool) → (a && b) ≡ (b && a)
-    swap true true = refl
-    swap true false = refl
-    swap false true = refl
-    swap false false = refl
-
 -- equal keys are one
 pub same-key : (k x : ReplyKey) → sameKey k x ≡ true → k ≡ x
 same-key k x e = go (eq-test (k .sender) (x .sender)) (eq-test (k .reflector) (x .reflector)) (eq-test (k .t3) (x .t3))
@@ -64,25 +53,23 @@ same-key k x e = go (eq-test (k .sender) (x .sender)) (eq-test (k .reflector) (x
 
 -- ---- a row's first word
 
-pub lowered-zero : (word : ℕ) → word % 65536 ≡ 0 → word ≡ loweredWord word
-unfolding loweredWord
+pub lowered-zero : (word : ℕ) → word % 65536 ≡ 0 → word ≡ lowerWord word
 lowered-zero word e = rw (eq-true (word % 65536) 0 e)
 
-pub lowered-some : (word : ℕ) → (word % 65536 ≡ 0 → ⊥) → word - 1 ≡ loweredWord word
-unfolding loweredWord
+pub lowered-some : (word : ℕ) → (word % 65536 ≡ 0 → ⊥) → word - 1 ≡ lowerWord word
 lowered-some word ne = rw (eq-false (word % 65536) 0 ne)
 
 -- the count falls by one, and not below 0; the flags and the rest stay
-pub lowered-count : (word : ℕ) → loweredWord word % 65536 ≡ word % 65536 - 1
+pub lowered-count : (word : ℕ) → lowerWord word % 65536 ≡ word % 65536 - 1
 lowered-count word = go (eq-test (word % 65536) 0)
   where
-    go : Test (word % 65536 ≡ 0) (eqb (word % 65536) 0) → loweredWord word % 65536 ≡ word % 65536 - 1
+    go : Test (word % 65536 ≡ 0) (eqb (word % 65536) 0) → lowerWord word % 65536 ≡ word % 65536 - 1
     go (holds p t) = rw (← lowered-zero word p) (omega arith)
     go (fails p t) = rw (← lowered-some word p) (let some : 0 < word % 65536 = omega arith in omega arith)
 
-pub lowered-rest : (word : ℕ) → loweredWord word / 65536 ≡ word / 65536
+pub lowered-rest : (word : ℕ) → lowerWord word / 65536 ≡ word / 65536
 lowered-rest word = go (eq-test (word % 65536) 0)
   where
-    go : Test (word % 65536 ≡ 0) (eqb (word % 65536) 0) → loweredWord word / 65536 ≡ word / 65536
+    go : Test (word % 65536 ≡ 0) (eqb (word % 65536) 0) → lowerWord word / 65536 ≡ word / 65536
     go (holds p t) = rw (← lowered-zero word p)
     go (fails p t) = rw (← lowered-some word p) (let some : 0 < word % 65536 = omega arith in omega arith)

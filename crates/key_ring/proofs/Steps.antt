@@ -11,7 +11,7 @@ use Rattle.chains.specs.Links.{linked}
 use Rattle.chains.specs.Hash.{numberHash}
 use Rattle.chains.proofs.Tests.{lt-true, lt-false}
 use Rattle.key_ring.specs.Keys.{keyAt, numbersOf}
-use Rattle.key_ring.specs.Rows.{loweredWord}
+use Rattle.correlation.specs.Slots.{lowerWord}
 use Rattle.key_ring.specs.Table.{Table, tableOf, evictedSlots, pushedKey, acceptedKey, hashOf, holder, evicted, pushed, accepted}
 
 module _ (secret : List ℕ) (keys slots links : List (List ℕ)) (ring : Ring) where
@@ -23,7 +23,7 @@ module _ (secret : List ℕ) (keys slots links : List (List ℕ)) (ring : Ring) 
   unfolding evictedSlots
   evict-nobody at l e m = rw (lt-false (ring .len) 4096 l, ← e, lt-false at 4096 m)
 
-  pub evict-lowers : (at word : ℕ) → 4096 ≤ ring .len → at ≡ holder secret keys slots links ring (keyAt keys (ring .head) .reflector) → at < 4096 → word ≡ loweredWord (getD (getD slots at []) 0 0)
+  pub evict-lowers : (at word : ℕ) → 4096 ≤ ring .len → at ≡ holder secret keys slots links ring (keyAt keys (ring .head) .reflector) → at < 4096 → word ≡ lowerWord (getD (getD slots at []) 0 0)
       → set slots at (set (getD slots at []) 0 word) ≡ evicted secret keys slots links ring
   unfolding evictedSlots
   evict-lowers at word l e m f = rw (lt-false (ring .len) 4096 l, ← e, lt-true at 4096 m, f)

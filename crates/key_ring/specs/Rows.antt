@@ -1,12 +1,15 @@
 -- Correlation slots without a table of their own. Each accepted key has a row of three words beside it, zeros until the key is observed;
 -- the slot of a reflector number is the row of its newest observed key. Rows are newest first.
--- The first word of a row holds the count in bits 0 to 15 and in bit 16 whether the key was observed; the rest is carried along.
+-- The words are those of crate `correlation`: the first has the count in bits 0 to 15 and in bit 16 whether the key was observed; the rest is
+-- carried along.
 -- Assumes nothing.
 use mathlib.Core.Bool.{Bool, true, false, _&&_, cond}
 use mathlib.Core.List.{List, [], _∷_}
 use Prim.Native.Nat.{ℕ, suc, _+_, _-_, _/_, _%_, _≤_}
 use lib.Dec.{eqb, ltb}
 use lib.ListN.{length, take, getD, set}
+use Rattle.correlation.specs.Words.{flag}
+use Rattle.correlation.specs.Slots.{lowerWord}
 use Rattle.chains.specs.Walk.{firstOf, changeFirst}
 
 -- the row of a key that was not observed, which is also what stands for no slot
@@ -17,14 +20,11 @@ abbrev pub countOf : List ℕ → ℕ
 countOf words = getD words 0 0 % 65536
 
 abbrev pub isObserved : List ℕ → Bool
-isObserved words = eqb (getD words 0 0 / 65536 % 2) 1
+isObserved words = flag 16 (getD words 0 0)
 
 -- a row whose count is one less, and not below 0
-unfoldable pub loweredWord : ℕ → ℕ
-loweredWord word = cond (eqb (word % 65536) 0) word (word - 1)
-
 abbrev pub lowered : List ℕ → List ℕ
-lowered words = set words 0 (loweredWord (getD words 0 0))
+lowered words = set words 0 (lowerWord (getD words 0 0))
 
 -- an accepted key's reflector number, and its words
 pub record Row : Type 0 where

@@ -8,7 +8,7 @@ ghost use lib.ListN.{length, getD};
 ghost use Rattle.scope.specs.Limits.{capacity};
 ghost use Rattle.chains.specs.Rings.{RingFits};
 ghost use Rattle.key_ring.specs.Keys.{numbersOf, keyAt, sameKey};
-ghost use Rattle.key_ring.specs.Rows.{loweredWord, isObserved, holds?};
+ghost use Rattle.key_ring.specs.Rows.{holds?};
 ghost use Rattle.key_ring.specs.Table.{tableOf, rowAt, wordsAt, storedAt, newestIs, newestSlot, hashOf, find as findKey, holder as holderOf, evicted, pushed, accepted};
 use calls::ReplyKey;
 use chains::Ring;
@@ -73,7 +73,7 @@ fn is_holder(keys: &[[u64; 2]], slots: &[[u64; 3]], slot: usize, number: u32) ->
     requires { ⌜ (slot < length (now keys)) × (slot < length (now slots)) ⌝ }
     ensures { λ q. ⌜ q ≡ holds? number (rowAt (now (keys .entry)) (now (slots .entry)) slot) ⌝ }
 {
-    (wide(number) == keys[slot][0] % 4294967296) & (slots[slot][0] / 65536 % 2 == 1)
+    (slots[slot][0] / 65536 % 2 == 1) & (wide(number) == keys[slot][0] % 4294967296)
 }
 
 // The slot of the newest observed key with a reflector number, 4,096 where there is none.
@@ -143,13 +143,6 @@ pub fn is_newest(keys: &[[u64; 2]], ring: Ring, key: ReplyKey) -> bool
     key_is(keys, newest(ring), key)
 }
 
-// The first word of a row whose count is one less.
-fn lowered(word: u64) -> u64
-    ensures { λ q. ⌜ q ≡ loweredWord word ⌝ }
-{
-    if word % 65536 == 0 { word } else { word - 1 }
-}
-
 // The oldest key goes where the ring is full: the slot of its reflector number falls by one.
 fn evict(
     keys: &[[u64; 2]],
@@ -168,7 +161,7 @@ fn evict(
     let number = (keys[head][0] % 4294967296) as u32;
     let at = holder(keys, slots, links, ring, secret, number);
     if at < CAPACITY {
-        slots[at][0] = lowered(slots[at][0]);
+        slots[at][0] = correlation::lower_word(slots[at][0]);
     }
 }
 

@@ -26,17 +26,17 @@ cast-number c = search needs
 holder-requires : tie.Need-holder-requires
 holder-requires c κs = search needs
 
-mul-lowered : tie.Need-mul-lowered
-mul-lowered c = search needs
+mul-lower-word : tie.Need-mul-lower-word
+mul-lower-word c = search needs
 
-index-1-lowered : tie.Need-index-1-lowered
-index-1-lowered c = search needs
+index-1-lower-word : tie.Need-index-1-lower-word
+index-1-lower-word c = search needs
 
-index-2-lowered : tie.Need-index-2-lowered
-index-2-lowered c = search needs
+index-2-lower-word : tie.Need-index-2-lower-word
+index-2-lower-word c = search needs
 
-lowered-requires : tie.Need-lowered-requires
-lowered-requires c κs = search needs
+lower-word-requires : tie.Need-lower-word-requires
+lower-word-requires c κs = search needs
 
 mul-slots : tie.Need-mul-slots
 mul-slots c = search needs
@@ -51,7 +51,7 @@ same-length : tie.Need-same-length
 same-length c = search needs
 
 returns-2 : tie.Need-returns-2
-returns-2 c = evict-lowers (c .before .before .before .before .before .before .before .before .args .secret) (now (c .before .before .before .before .before .before .before .before .args .keys)) (now (c .before .before .before .before .before .before .before .before .args .slots)) (now (c .before .before .before .before .before .before .before .before .args .links)) (c .before .before .before .before .before .before .before .before .args .ring) _ _ (omega (arith, ltb-false)) (c .before .before .before .holder .ensures) (omega (arith, ltb-true)) (c .lowered .ensures)
+returns-2 c = evict-lowers (c .before .before .before .before .before .before .before .before .args .secret) (now (c .before .before .before .before .before .before .before .before .args .keys)) (now (c .before .before .before .before .before .before .before .before .args .slots)) (now (c .before .before .before .before .before .before .before .before .args .links)) (c .before .before .before .before .before .before .before .before .args .ring) _ _ (omega (arith, ltb-false)) (c .before .before .before .holder .ensures) (omega (arith, ltb-true)) (c .lower-word .ensures)
 
 same-length-2 : tie.Need-same-length-2
 same-length-2 c = search needs
@@ -69,10 +69,10 @@ evict-spec =
     index-2-number
     cast-number
     holder-requires
-    mul-lowered
-    index-1-lowered
-    index-2-lowered
-    lowered-requires
+    mul-lower-word
+    index-1-lower-word
+    index-2-lower-word
+    lower-word-requires
     mul-slots
     index-1-slots
     index-2-slots

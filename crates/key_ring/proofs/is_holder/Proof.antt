@@ -1,13 +1,8 @@
--- `key_ring::is_holder` meets its contract: the number is tested first, and the words' room is read only where it agrees.
+-- `key_ring::is_holder` meets its contract.
 -- Assumes nothing.
-use Rattle.key_ring.proofs.Packing.{holds-words}
-use denote.Ref.{now}
 use borrow.Author.Needs.{needs}
 use Rattle.key_ring.proofs.is_holder.Statement.{statement}
 use Rattle.key_ring.proofs.is_holder.Tie as tie
-
-wide-requires : tie.Need-wide-requires
-wide-requires c κs = search needs
 
 mul-result : tie.Need-mul-result
 mul-result c = search needs
@@ -17,6 +12,9 @@ index-1-result c = search needs
 
 index-2-result : tie.Need-index-2-result
 index-2-result c = search needs
+
+wide-requires : tie.Need-wide-requires
+wide-requires c κs = search needs
 
 mul-result-2 : tie.Need-mul-result-2
 mul-result-2 c = search needs
@@ -28,16 +26,16 @@ index-2-result-2 : tie.Need-index-2-result-2
 index-2-result-2 c = search needs
 
 returns : tie.Need-returns
-returns c = rw (c .before .before .wide .ensures .0) (holds-words (now (c .before .before .before .args .keys)) (now (c .before .before .before .args .slots)) (c .before .before .before .args .slot) (c .before .before .before .args .number))
+returns c = rw (c .before .wide .ensures .0)
 
 pub is-holder-spec : {M : Type 1} → statement M
 is-holder-spec =
     tie.close
     (tie.spec
-    wide-requires
     mul-result
     index-1-result
     index-2-result
+    wide-requires
     mul-result-2
     index-1-result-2
     index-2-result-2
