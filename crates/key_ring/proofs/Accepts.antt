@@ -1,10 +1,9 @@
 -- What an accepted key and an observation do to the keys, to the rows and to the slot of each reflector number. Any capacity N, any hashes below it.
 -- Assumes nothing.
 use mathlib.Core.Path.{_≡_, refl, sym, ap, ap₂, _∙_}
-use mathlib.Core.Bool.{Bool, true, false, _&&_, cond}
-use mathlib.Core.Logic.{_≢_}
+use mathlib.Core.Bool.{true, false, _&&_, cond}
 use mathlib.Core.List.{List, [], _∷_, _++_}
-use mathlib.Core.Option.{Option, none, some}
+use mathlib.Core.Option.{none, some}
 use Prim.Native.Nat.{ℕ, zero, suc, _+_, _-_, _≤_, _<_}
 use native.Mathlib.Omega.{arith}
 use lib.Dec.{eqb, ltb}
@@ -13,7 +12,7 @@ use lib.Seq.{getD-set-same, getD-set-other, take-all}
 use Rattle.calls.specs.declared.ReplyKey.{ReplyKey}
 use Rattle.chains.specs.declared.Ring.{Ring}
 use Rattle.chains.specs.Rings.{wrap, contents, pushSlot, afterPush, RingFits}
-use Rattle.chains.proofs.Tests.{Test, holds, fails, eq-test, lt-test, lt-true, lt-false}
+use Rattle.chains.proofs.Tests.{Test, holds, fails, lt-test, lt-true, lt-false}
 use Rattle.chains.proofs.Places.{Pushed, room, full, push-is, last-place, wrap-below, places-differ}
 use Rattle.chains.proofs.Contents.{contents-same, length-contents, contents-oldest}
 use Rattle.key_ring.specs.Keys.{keyAt, keyRow, sameKey, firstIs}

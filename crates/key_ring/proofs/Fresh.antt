@@ -1,23 +1,22 @@
 -- From a ring that is empty, whatever its rooms hold: which keys are found, and that no count exceeds the observed keys of its number.
 -- Assumes nothing.
 use mathlib.Core.Path.{_≡_, refl, sym, ap, _∙_}
-use mathlib.Core.Bool.{Bool, true, false, cond}
+use mathlib.Core.Bool.{true, false}
 use mathlib.Core.List.{List, [], _∷_}
-use Prim.Native.Nat.{ℕ, zero, suc, _+_, _≤_, _<_}
+use Prim.Native.Nat.{ℕ, zero, suc, _≤_, _<_}
 use native.Mathlib.Omega.{arith}
 use lib.Dec.{ltb}
 use lib.ListN.{length, take, getD}
 use lib.Seq.{take-nil}
 use Rattle.calls.specs.declared.ReplyKey.{ReplyKey}
-use Rattle.chains.specs.declared.Ring.{Ring}
-use Rattle.chains.specs.Rings.{contents, RingFits}
+use Rattle.chains.specs.Rings.{contents}
 use Rattle.chains.specs.Links.{Rows}
 use Rattle.chains.specs.Hash.{numberHash}
 use Rattle.chains.proofs.Chains.{empty-indexed}
 use Rattle.chains.proofs.Contents.{length-contents}
 use Rattle.chains.proofs.Hashes.{key-hash-below, number-hash-below}
 use Rattle.key_ring.specs.Keys.{keyAt, hasKey, numbersOf}
-use Rattle.key_ring.specs.Rows.{countOf, isObserved, wordsOf, Row, Counted}
+use Rattle.key_ring.specs.Rows.{countOf, isObserved, wordsOf, Counted}
 use Rattle.key_ring.specs.Table.{Table, tableOf, rowAt, storedAt, changeAt, newestSlot, keysOf, rowsOf, findIn, holderIn, acceptedKey, acceptedAll, Sound, hashOf, find}
 use Rattle.key_ring.proofs.Holders.{change-counted, empty-counted, observed-at-most}
 use Rattle.key_ring.proofs.Tables.{find-is, change-rows, store-sound, change-sound}

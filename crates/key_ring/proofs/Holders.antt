@@ -1,13 +1,13 @@
 -- The slots of reflector numbers over rows, newest first: what an accepted key, an observation and a change at a holder do to each.
 -- No count exceeds the observed rows of its number, so where a holder itself is evicted its count falls to 0, and the slot is free.
 -- Assumes nothing.
-use mathlib.Core.Path.{_≡_, refl, sym, ap, _∙_, subst}
+use mathlib.Core.Path.{_≡_, refl, sym, ap, _∙_}
 use mathlib.Core.Bool.{Bool, true, false, _&&_, cond}
 use mathlib.Core.Logic.{_≢_}
 use mathlib.Core.List.{List, [], _∷_, _++_}
-use Prim.Native.Nat.{ℕ, zero, suc, _+_, _-_, _/_, _%_, _≤_, _<_}
+use Prim.Native.Nat.{ℕ, suc, _-_, _/_, _%_, _≤_}
 use native.Mathlib.Omega.{arith}
-use lib.Dec.{T, eqb, ltb}
+use lib.Dec.{eqb}
 use lib.ListN.{length, take, getD, set}
 use Rattle.chains.specs.Walk.{firstOf, changeFirst}
 use Rattle.chains.proofs.Tests.{Test, holds, fails, eq-test, eq-true, eq-false, true-not-false}

@@ -1,13 +1,10 @@
 -- What a row's words say as a correlation slot: lowering the row lowers the slot, and no slot has count 0.
 -- Assumes nothing.
-use mathlib.Core.Path.{_≡_, refl, ap, _∙_}
-use mathlib.Core.Bool.{false}
+use mathlib.Core.Path.{_≡_, refl}
 use mathlib.Core.List.{List, [], _∷_}
 use Prim.Native.Nat.{ℕ}
-use lib.ListN.{getD}
-use Rattle.correlation.specs.declared.Slot.{Slot}
-use Rattle.correlation.specs.Words.{slotBy, slotOf}
-use Rattle.correlation.specs.Slots.{lowerWord, lowered as loweredSlot}
+use Rattle.correlation.specs.Words.{slotOf}
+use Rattle.correlation.specs.Slots.{lowered as loweredSlot}
 use Rattle.correlation.proofs.Lowers.{lower-word}
 use Rattle.key_ring.specs.Rows.{noSlot, countOf, isObserved, lowered}
 

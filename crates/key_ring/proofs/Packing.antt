@@ -1,12 +1,10 @@
 -- A key in two words: nothing is lost, and comparing both words compares all three parts. And a row's first word with its count lowered.
 -- Assumes nothing.
-use mathlib.Core.Path.{_≡_, refl, sym, ap, _∙_, subst}
-use mathlib.Core.Bool.{Bool, true, false, _&&_, cond}
-use mathlib.Core.List.{List, [], _∷_}
+use mathlib.Core.Path.{_≡_, sym, subst}
+use mathlib.Core.Bool.{true, false, _&&_}
 use Prim.Native.Nat.{ℕ, _+_, _-_, _*_, _/_, _%_, _<_}
 use native.Mathlib.Omega.{arith}
 use lib.Dec.{T, eqb}
-use lib.ListN.{getD, set}
 use Rattle.calls.specs.declared.ReplyKey.{ReplyKey}
 use Rattle.chains.proofs.Tests.{Test, holds, fails, eq-test, eq-true, eq-false}
 use Rattle.key_ring.specs.Keys.{keyOf, keyRow, numbersOf, sameKey}

@@ -1,30 +1,27 @@
 -- The rooms hold what the plain lists say: a key is found exactly if it is among the last N accepted, the holder's words are the slot's, and an
 -- accepted key, an observation and a change at a holder do to the lists what specs/Rows.antt says. Any capacity N, any hashes below it.
 -- Assumes nothing.
-use mathlib.Core.Path.{_≡_, refl, sym, ap, ap₂, _∙_, subst}
-use mathlib.Core.Bool.{Bool, true, false, _||_, _&&_, cond}
+use mathlib.Core.Path.{_≡_, refl, sym, ap, _∙_}
+use mathlib.Core.Bool.{Bool, true, false, _||_, cond}
 use mathlib.Core.Logic.{_≢_}
-use mathlib.Core.List.{List, [], _∷_, _++_}
-use Prim.Native.Nat.{ℕ, zero, suc, _+_, _-_, _/_, _%_, _≤_, _<_}
+use mathlib.Core.List.{List, [], _∷_}
+use Prim.Native.Nat.{ℕ, _<_}
 use native.Mathlib.Omega.{arith}
-use lib.Dec.{T, eqb, ltb}
+use lib.Dec.{ltb}
 use lib.ListN.{length, take, getD, set, length-set}
-use lib.Seq.{getD-set-same, getD-set-other, take-nil}
+use lib.Seq.{getD-set-same, getD-set-other}
 use Rattle.calls.specs.declared.ReplyKey.{ReplyKey}
-use Rattle.chains.specs.declared.Ring.{Ring}
-use Rattle.chains.specs.Rings.{wrap, contents, pushSlot, afterPush, RingFits}
-use Rattle.chains.specs.Links.{newest, older, linked, Rows}
-use Rattle.chains.specs.Walk.{walk, newestOf, firstOf, changeFirst}
-use Rattle.chains.specs.Whole.{Indexed}
-use Rattle.chains.proofs.Tests.{Test, holds, fails, eq-test, lt-test, lt-true, lt-false}
-use Rattle.chains.proofs.Places.{push-below, push-fits, wrap-below}
-use Rattle.chains.proofs.Contents.{push-contents, contents-same, length-contents, contents-oldest}
-use Rattle.chains.proofs.Chains.{empty-indexed}
+use Rattle.chains.specs.Rings.{contents, pushSlot}
+use Rattle.chains.specs.Links.{linked, Rows}
+use Rattle.chains.specs.Walk.{newestOf, firstOf}
+use Rattle.chains.proofs.Tests.{Test, holds, fails, lt-test, lt-true}
+use Rattle.chains.proofs.Places.{push-below, push-fits}
+use Rattle.chains.proofs.Contents.{push-contents}
 use Rattle.chains.proofs.Lanes.{set-row, linked-fits, link-indexed, other-indexed}
 use Rattle.chains.proofs.Scan.{walk-scans, scan-first, scan-change}
-use Rattle.key_ring.specs.Keys.{keyOf, keyAt, keyRow, numbersOf, sameKey, hasKey}
-use Rattle.key_ring.specs.Rows.{noSlot, isObserved, lowered, Row, holds?, wordsOf, with, change, newRow}
-use Rattle.key_ring.specs.Table.{Table, tableOf, rowAt, wordsAt, storedAt, newestSlot, newestIs, keysOf, rowsOf, findIn, holderIn, changeAt, evictedSlots, pushedKey, acceptedKey, Sound}
+use Rattle.key_ring.specs.Keys.{keyOf, keyAt, keyRow, sameKey, hasKey}
+use Rattle.key_ring.specs.Rows.{noSlot, lowered, holds?, wordsOf, with, change, newRow}
+use Rattle.key_ring.specs.Table.{Table, tableOf, rowAt, wordsAt, storedAt, keysOf, rowsOf, findIn, holderIn, changeAt, evictedSlots, pushedKey, Sound}
 use Rattle.key_ring.proofs.Packing.{key-of-row, same-key}
 use Rattle.key_ring.proofs.Holders.{holds-number}
 

@@ -3,11 +3,11 @@
 -- The words are those of crate `correlation`: the first has the count in bits 0 to 15 and in bit 16 whether the key was observed; the rest is
 -- carried along.
 -- Assumes nothing.
-use mathlib.Core.Bool.{Bool, true, false, _&&_, cond}
+use mathlib.Core.Bool.{Bool, _&&_, cond}
 use mathlib.Core.List.{List, [], _∷_}
-use Prim.Native.Nat.{ℕ, suc, _+_, _-_, _/_, _%_, _≤_}
-use lib.Dec.{eqb, ltb}
-use lib.ListN.{length, take, getD, set}
+use Prim.Native.Nat.{ℕ, suc, _%_, _≤_}
+use lib.Dec.{eqb}
+use lib.ListN.{getD, set}
 use Rattle.correlation.specs.Words.{flag}
 use Rattle.correlation.specs.Slots.{lowerWord}
 use Rattle.chains.specs.Walk.{firstOf, changeFirst}
@@ -16,9 +16,11 @@ use Rattle.chains.specs.Walk.{firstOf, changeFirst}
 abbrev pub noSlot : List ℕ
 noSlot = 0 ∷ 0 ∷ 0 ∷ []
 
+-- the count of a row
 abbrev pub countOf : List ℕ → ℕ
 countOf words = getD words 0 0 % 65536
 
+-- whether the key of a row was observed
 abbrev pub isObserved : List ℕ → Bool
 isObserved words = flag 16 (getD words 0 0)
 
@@ -31,7 +33,7 @@ pub record Row : Type 0 where
   pub number : ℕ
   pub words : List ℕ
 
--- a row holds the slot of r if it was observed and is the first of r
+-- a row that can hold the slot of r: it was observed, and its key has that number
 abbrev pub holds? : ℕ → Row → Bool
 holds? r x = isObserved (x .words) && eqb r (x .number)
 

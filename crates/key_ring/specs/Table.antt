@@ -1,11 +1,10 @@
 -- The accepted keys with their rows and chains in lent rooms: what each function does, on any contents. Any capacity N, any hashes.
 -- Lane 0 of the links chains the keys by the whole key, lane 2 by the reflector number.
 -- Assumes nothing.
-use mathlib.Core.Path.{_≡_}
-use mathlib.Core.Bool.{Bool, true, false, _&&_, cond}
+use mathlib.Core.Bool.{Bool, _&&_, cond}
 use mathlib.Core.List.{List, [], _∷_}
-use Prim.Native.Nat.{ℕ, _+_, _-_, _<_}
-use lib.Dec.{eqb, ltb}
+use Prim.Native.Nat.{ℕ, _+_, _-_}
+use lib.Dec.{ltb}
 use lib.ListN.{getD, set}
 use Rattle.calls.specs.declared.ReplyKey.{ReplyKey}
 use Rattle.scope.specs.Limits.{capacity}
@@ -16,7 +15,7 @@ use Rattle.chains.specs.Walk.{walk}
 use Rattle.chains.specs.Whole.{Indexed}
 use Rattle.chains.specs.Hash.{keyHash, numberHash}
 use Rattle.key_ring.specs.Keys.{keyAt, keyRow, numbersOf, sameKey}
-use Rattle.key_ring.specs.Rows.{noSlot, isObserved, lowered, Row, holds?}
+use Rattle.key_ring.specs.Rows.{noSlot, lowered, Row, holds?}
 
 -- the three rooms and the ring
 pub record Table : Type 0 where
@@ -25,6 +24,7 @@ pub record Table : Type 0 where
   pub links : List (List ℕ)
   pub ring : Ring
 
+-- these rooms and this ring
 abbrev pub tableOf : List (List ℕ) → List (List ℕ) → List (List ℕ) → Ring → Table
 tableOf keys slots links ring = record { keys = keys; slots = slots; links = links; ring = ring }
 
@@ -111,17 +111,22 @@ module _ (N : ℕ) (byKey : ReplyKey → ℕ) (byNumber : ℕ → ℕ) where
 abbrev pub hashOf : List ℕ → ReplyKey → ℕ
 hashOf secret k = keyHash secret (numbersOf k) (k .t3)
 
+-- what `find` answers
 abbrev pub find : List ℕ → List (List ℕ) → List (List ℕ) → Ring → ReplyKey → ℕ
 find secret = findIn capacity (hashOf secret) (numberHash secret)
 
+-- what `holder` answers
 abbrev pub holder : List ℕ → List (List ℕ) → List (List ℕ) → List (List ℕ) → Ring → ℕ → ℕ
 holder secret = holderIn capacity (hashOf secret) (numberHash secret)
 
+-- the words that `evict` leaves
 abbrev pub evicted : List ℕ → List (List ℕ) → List (List ℕ) → List (List ℕ) → Ring → List (List ℕ)
 evicted secret = evictedSlots capacity (hashOf secret) (numberHash secret)
 
+-- what `push` leaves
 abbrev pub pushed : List ℕ → Table → ReplyKey → Table
 pushed secret = pushedKey capacity (hashOf secret) (numberHash secret)
 
+-- what `accept_key` leaves
 abbrev pub accepted : List ℕ → Table → ReplyKey → Table
 accepted secret = acceptedKey capacity (hashOf secret) (numberHash secret)
