@@ -1,18 +1,20 @@
--- What `evict`, `push` and `accept_key` leave, from what their callees do.
+-- What `evict`, `push` and `accept_key` leave, from what their callees do, and the newest slot of an empty ring.
 -- Assumes nothing.
-use mathlib.Core.Path.{_≡_}
+use mathlib.Core.Path.{_≡_, sym, ap, _∙_}
 use mathlib.Core.List.{List, [], _∷_}
-use Prim.Native.Nat.{ℕ, _≤_, _<_}
+use Prim.Native.Nat.{ℕ, _+_, _-_, _≤_, _<_}
+use native.Mathlib.Omega.{arith}
 use lib.ListN.{getD, set}
 use Rattle.calls.specs.declared.ReplyKey.{ReplyKey}
 use Rattle.chains.specs.declared.Ring.{Ring}
-use Rattle.chains.specs.Rings.{pushSlot, afterPush}
+use Rattle.chains.specs.Rings.{wrap, pushSlot, afterPush}
+use Rattle.chains.proofs.Places.{wrap-low}
 use Rattle.chains.specs.Links.{linked}
 use Rattle.chains.specs.Hash.{numberHash}
 use Rattle.chains.proofs.Tests.{lt-true, lt-false}
 use Rattle.key_ring.specs.Keys.{keyAt, numbersOf}
 use Rattle.correlation.specs.Slots.{lowerWord}
-use Rattle.key_ring.specs.Table.{Table, tableOf, evictedSlots, pushedKey, acceptedKey, hashOf, holder, evicted, pushed, accepted}
+use Rattle.key_ring.specs.Table.{Table, tableOf, newestSlot, evictedSlots, pushedKey, acceptedKey, hashOf, holder, evicted, pushed, accepted}
 
 module _ (secret : List ℕ) (keys slots links : List (List ℕ)) (ring : Ring) where
   pub evict-room : ring .len < 4096 → slots ≡ evicted secret keys slots links ring
@@ -38,3 +40,9 @@ module _ (secret : List ℕ) (keys slots links : List (List ℕ)) (ring : Ring) 
       → t ≡ accepted secret (tableOf keys slots links ring) k
   unfolding acceptedKey
   accept-is k lower t e f = rw (← e) f
+
+-- of an empty ring the newest slot is the head
+pub newest-empty : (ring : Ring) → ring .head < 4096 → ring .len ≡ 0 → ring .head ≡ newestSlot 4096 ring
+newest-empty ring l e =
+    let same : ring .head + (ring .len - 1) ≡ ring .head = omega arith in
+    sym (ap (wrap 4096) same ∙ wrap-low 4096 (ring .head) l)

@@ -40,7 +40,7 @@ wordsAt N slots p = cond (ltb p N) (getD slots p []) noSlot
 abbrev pub storedAt : ℕ → List (List ℕ) → ℕ → List ℕ → List (List ℕ)
 storedAt N slots p words = cond (ltb p N) (set slots p words) slots
 
--- the slot of the newest key
+-- the slot of the newest key; of an empty ring the head
 abbrev pub newestSlot : ℕ → Ring → ℕ
 newestSlot N ring = wrap N (ring .head + (ring .len - 1))
 

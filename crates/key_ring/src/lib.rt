@@ -124,12 +124,17 @@ pub fn store(slots: &mut [[u64; 3]], slot: usize, words: [u64; 3])
     }
 }
 
-// The slot of the newest key, whose own row an observation writes.
+// The slot of the newest key, whose own row an observation writes; of an empty ring the head.
 pub fn newest(ring: Ring) -> usize
-    requires { ⌜ RingFits capacity ring × (0 < ring .len) ⌝ }
+    requires { ⌜ RingFits capacity ring ⌝ }
     ensures { λ q. ⌜ (q ≡ newestSlot capacity ring) × (q < capacity) ⌝ }
 {
-    chains::wrapped(ring.head + (ring.len - 1))
+    let head = ring.head;
+    let len = ring.len;
+    if len == 0 {
+        return head;
+    }
+    chains::wrapped(head + (len - 1))
 }
 
 // Whether the newest key is this one: the only key that can await its observation.
