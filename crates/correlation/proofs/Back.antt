@@ -1,6 +1,6 @@
 -- A slot's words say that slot: nothing that fits is lost. Assumes nothing.
 use mathlib.Core.Path.{_≡_, refl, sym, ap, _∙_, subst}
-use mathlib.Core.Bool.{Bool, true, false}
+use mathlib.Core.Bool.{Bool, true, false, _&&_}
 use mathlib.Core.List.{List, [], _∷_}
 use Prim.Native.Nat.{ℕ, zero, suc, _+_, _*_, _/_, _%_, _^_, _<_}
 use native.Mathlib.Omega.{arith}
@@ -10,6 +10,7 @@ use borrow.Author.Tests.{eq-eqb, ne-eqb}
 use mir.Syntax.{w64}
 use mir.Val.{SFits, ofZ, toZ}
 use mir.ValLaws.{toZ-ofZ}
+use Rattle.ranges.specs.Ranges.{timeWithin}
 use Rattle.calls.specs.declared.Time.{Time}
 use Rattle.calls.specs.declared.Time.the-variants as time
 use Rattle.estimate.specs.declared.ClockFormat.{ClockFormat}
@@ -26,7 +27,7 @@ use Rattle.correlation.specs.Words.{wordsBy, wordsOf, uniqueBy, uniqueOf
 -- what a time, the estimates, a record and a slot of the declared types hold
 abbrev pub TimeFits : Time → Type 0
 TimeFits time.Absent = Unit
-TimeFits (time.Nanoseconds z) = SFits w64 z
+TimeFits (time.Nanoseconds z) = SFits w64 z × (timeWithin z ≡ true)
 
 abbrev pub WiresFit : Wires → Type 0
 WiresFit wires.Absent = Unit
@@ -92,9 +93,10 @@ wires-small : (q : Wires) → WiresFit q → (senderWire q < 65536) × (reflecto
 wires-small wires.Absent f = (omega arith, omega arith)
 wires-small (wires.Pair s r) f = f
 
-time-back : (t : Time) (b : Bool) → TimeFits t → b ≡ timed t → timeBy b (timeWord t) ≡ t
-time-back time.Absent b f e = ap (λ (b : Bool). timeBy b 0) e
-time-back (time.Nanoseconds z) b f e = ap (λ (b : Bool). timeBy b (ofZ w64 z)) e ∙ ap time.Nanoseconds (toZ-ofZ w64 z f)
+time-back : (t : Time) (b : Bool) → TimeFits t → b ≡ timed t → timeBy (b && timeWithin (toZ w64 (timeWord t))) (timeWord t) ≡ t
+time-back time.Absent b f e = ap (λ (b : Bool). timeBy (b && timeWithin (toZ w64 0)) 0) e
+time-back (time.Nanoseconds z) b f e =
+    (λ i. timeBy (e i && (ap timeWithin (toZ-ofZ w64 z (f .0)) ∙ f .1) i) (ofZ w64 z)) ∙ ap time.Nanoseconds (toZ-ofZ w64 z (f .0))
 
 format-back : (f : ClockFormat) (b : Bool) → b ≡ isPTP f → formatBy b ≡ f
 format-back NTP b e = ap formatBy e

@@ -18,7 +18,7 @@ use Rattle.correlation.specs.declared.Unique.the-variants as unique
 use Rattle.correlation.specs.declared.ReplyRecord.{ReplyRecord}
 use Rattle.correlation.specs.declared.Wires.{Wires}
 use Rattle.correlation.specs.Words.{bit, flag, timed, isPTP, estimated, timeWord, senderWire, reflectorWire, slotFlags, recordFlags, joined}
-use Rattle.correlation.specs.Words.{wordsBy, wordsOf, uniqueBy, uniqueOf, recordOf, slotOf, timeBy, formatBy, wiresBy, part}
+use Rattle.correlation.specs.Words.{wordsBy, wordsOf, uniqueBy, uniqueOf, recordOf, slotOf, timeOf, formatBy, wiresBy, part}
 
 -- a signed result that is what a word says, read through its bits
 pub read-signed : (z : ℤ) (w : ℕ) → Fits w64 w → z ≡ toZ w64 w → toZ w64 (ofZ w64 z) ≡ toZ w64 w
@@ -47,7 +47,7 @@ words-kept s r own flags sender reflector w t z e o f a b j p q =
     first n o o′ f f′ a a′ b b′ w t t′ z z′ e1 e2 e3 e4 e5 e6 e7 = cc
 
 pub unique-kept : (w t r : ℕ) (b : Bool) (q : Wires) (x : Time) (f : ClockFormat) (z : ℤ) → b ≡ true → b ≡ flag 18 w
-    → q ≡ wiresBy (flag 21 w) (part 32 w) (part 48 w) → x ≡ timeBy (flag 19 w) t → f ≡ formatBy (flag 20 w) → z ≡ toZ w64 r
+    → q ≡ wiresBy (flag 21 w) (part 32 w) (part 48 w) → x ≡ timeOf w t → f ≡ formatBy (flag 20 w) → z ≡ toZ w64 r
     → unique.Record (record { quality = q; t4 = x; format = f; reference = z }) ≡ uniqueOf w t r
 unique-kept w t r b q x f z e o eq ex ef ez =
     (λ i. unique.Record (record { quality = eq i; t4 = ex i; format = ef i; reference = ez i }))

@@ -69,3 +69,11 @@ timeInRange z = natAbs z ≤ 4000000000000000000
 
 abbrev pub offsetInRange : ℤ → Type 0
 offsetInRange z = natAbs z ≤ 86400
+
+-- the times of a matched follow-up are in range; that they are, whatever the words of the slot, is shown in proofs/Ranged.antt
+abbrev pub MatchedInRange : Class → Type 0
+MatchedInRange class.Unavailable = Unit
+MatchedInRange class.Ambiguous = Unit
+MatchedInRange class.Unmatched = Unit
+MatchedInRange class.Repeated = Unit
+MatchedInRange (class.Matched m) = timeInRange (m .t4) × timeInRange (m .t3)

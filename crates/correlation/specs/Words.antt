@@ -1,13 +1,14 @@
 -- A correlation slot as three words of a room, and back. The first word is four numbers below 2 ^ 16, the lowest first: the count, the
 -- flags, the sender's and the reflector's estimate as on the wire. The second is T4, the third the reference, in two's complement
 -- (`ofZ` and `toZ` are the logic's own). What is absent is 0. That nothing is lost is shown in proofs/Words.antt.
-use mathlib.Core.Bool.{Bool, true, false}
+use mathlib.Core.Bool.{Bool, true, false, _&&_}
 use mathlib.Core.List.{List, [], _∷_}
 use Prim.Native.Nat.{ℕ, _+_, _*_, _/_, _%_, _^_}
 use lib.Dec.{eqb}
 use lib.ListN.{getD}
 use mir.Syntax.{w64}
 use mir.Val.{ofZ, toZ}
+use Rattle.ranges.specs.Ranges.{timeWithin}
 use Rattle.calls.specs.declared.Time.{Time}
 use Rattle.calls.specs.declared.Time.the-variants as time
 use Rattle.estimate.specs.declared.ClockFormat.{ClockFormat}
@@ -85,6 +86,10 @@ abbrev pub timeBy : Bool → ℕ → Time
 timeBy true t = time.Nanoseconds (toZ w64 t)
 timeBy false t = time.Absent
 
+-- a word outside refusal 1's range, which no call writes, says no time: so what a slot shows is always in range
+abbrev pub timeOf : ℕ → ℕ → Time
+timeOf w t = timeBy (flag 19 w && timeWithin (toZ w64 t)) t
+
 abbrev pub formatBy : Bool → ClockFormat
 formatBy true = PTP
 formatBy false = NTP
@@ -100,7 +105,7 @@ uniqueBy false r = unique.Absent
 abbrev pub recordOf : ℕ → ℕ → ℕ → ReplyRecord
 recordOf w t r = record {
   quality = wiresBy (flag 21 w) (part 32 w) (part 48 w);
-  t4 = timeBy (flag 19 w) t;
+  t4 = timeOf w t;
   format = formatBy (flag 20 w);
   reference = toZ w64 r;
 }

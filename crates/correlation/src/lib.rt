@@ -4,7 +4,7 @@ ghost use mathlib.Core.Path.{_≡_};
 ghost use Prim.Native.Nat.{_-_, _<_, _≤_};
 ghost use Rattle.correlation.specs.Words.{bit, flag, part, timed, timeWord, isPTP, estimated, senderWire, reflectorWire};
 ghost use Rattle.correlation.specs.Words.{slotFlags, recordFlags, joined, wordsBy, wordsOf};
-ghost use Rattle.correlation.specs.Words.{timeBy, formatBy, wiresBy, uniqueOf, slotOf};
+ghost use Rattle.correlation.specs.Words.{timeOf, formatBy, wiresBy, uniqueOf, slotOf};
 ghost use Rattle.correlation.specs.Slots.{next, withheld, recorded, raised, lowered, correctedSlot, lowerWord};
 
 pub mod follow;
@@ -135,10 +135,11 @@ fn flag_at(word: u64, k: u64) -> bool
 }
 
 fn time_of(word: u64, t4: u64) -> Time
-    ensures { λ r. ⌜ r ≡ timeBy (flag 19 word) t4 ⌝ }
+    ensures { λ r. ⌜ r ≡ timeOf word t4 ⌝ }
 {
-    if flag_at(word, 19) {
-        return Time::Nanoseconds(words::signed64(t4));
+    let z = words::signed64(t4);
+    if flag_at(word, 19) & ranges::time_within(z) {
+        return Time::Nanoseconds(z);
     }
     Time::Absent
 }

@@ -1,0 +1,32 @@
+-- Refusal 4 over the follow-ups: their counts, the delay's count and sum, and the counts of the clock quality.
+use mathlib.Core.Bool.{Bool, _&&_}
+use Prim.Native.Nat.{ℕ, _<_}
+use lib.Dec.{ltb}
+use Rattle.scope.specs.Limits.{countBound}
+use Rattle.delays.specs.Bounds as delays
+use Rattle.clock_quality.specs.Bounds as quality
+use Rattle.follow_ups.specs.declared.FollowCounts.{FollowCounts}
+use Rattle.follow_ups.specs.declared.FollowUps.{FollowUps}
+
+pub record CountsIn (n : FollowCounts) : Type 0 where
+  pub observations : n .observations < countBound
+  pub matched : n .matched < countBound
+  pub repeated : n .repeated < countBound
+  pub unmatched : n .unmatched < countBound
+  pub ambiguous : n .ambiguous < countBound
+  pub unavailable : n .unavailable < countBound
+
+pub record InBounds (f : FollowUps) : Type 0 where
+  pub counts : CountsIn (f .counts)
+  pub delay : delays.Bounded (f .delay)
+  pub quality : quality.Bounded (f .quality)
+
+abbrev pub fits : ℕ → Bool
+fits n = ltb n countBound
+
+abbrev pub countsFit : FollowCounts → Bool
+countsFit n =
+    fits (n .observations) && fits (n .matched) && fits (n .repeated) && fits (n .unmatched) && fits (n .ambiguous) && fits (n .unavailable)
+
+abbrev pub followUpsFit : FollowUps → Bool
+followUpsFit f = countsFit (f .counts) && delays.countsFit (f .delay) && quality.countsFit (f .quality)
