@@ -4,12 +4,12 @@
 use mathlib.Core.Bool.{Bool, true, false}
 use mathlib.Core.List.{List, [], _∷_}
 use mathlib.Core.Path.{_≡_, refl}
-use Prim.Native.Nat.{ℕ, zero, suc, _<_}
+use Prim.Native.Nat.{ℕ, zero, suc, _^_, _<_}
 use native.Mathlib.Nat.{le-of-suc-le-suc, not-suc-le-zero}
 use native.Mathlib.Omega.{arith}
 use lib.Dec.{leb}
 use lib.ListN.{length, getD}
-use Rattle.exact_rank.specs.Rank.{unsigned, choose, insert, sorted}
+use Rattle.exact_rank.specs.Rank.{unsigned, signed, choose, insert, sorted}
 use Rattle.exact_rank.specs.Samples.{In, here, there, SampleOfRank}
 use Rattle.exact_rank.proofs.Sorting.{length-sorted, sorted-is-counted, one-key}
 
@@ -66,3 +66,9 @@ module _ (key : ℕ → ℕ) where
 pub unsigned-sample-is-sorted : (xs : List ℕ) (rank v : ℕ) → rank < length xs → SampleOfRank unsigned xs rank v
     → v ≡ getD (sorted unsigned xs) rank 0
 unsigned-sample-is-sorted xs rank v l s = sample-is-sorted unsigned xs (λ a b m n e. e) rank v l s
+
+-- of signed samples that are words no two share a key
+pub signed-sample-is-sorted : (xs : List ℕ) → ((a : ℕ) → In a xs → a < 2 ^ 64) → (rank v : ℕ) → rank < length xs → SampleOfRank signed xs rank v
+    → v ≡ getD (sorted signed xs) rank 0
+signed-sample-is-sorted xs words rank v l s =
+    sample-is-sorted signed xs (λ a b m n e. omega (arith, words a m, words b n, e)) rank v l s

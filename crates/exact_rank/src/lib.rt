@@ -4,10 +4,9 @@
 ghost use mathlib.Core.Path.{_≡_};
 ghost use mathlib.Core.Logic.{_⊎_};
 ghost use Prim.Native.Nat.{ℕ, _+_, _-_, _*_, _^_, _<_, _≤_};
-ghost use lib.ListN.{length, getD, take};
+ghost use lib.ListN.{length, take};
 ghost use Rattle.exact_rank.specs.Rank.{unsigned, shifted, signed, atRank, atRanks, Ranks, standingAt};
-ghost use Rattle.exact_rank.specs.Counting.{below};
-ghost use Rattle.exact_rank.specs.Passes.{capped, edge, Counted, sumTo, Placed};
+ghost use Rattle.exact_rank.specs.Passes.{capped, sumTo, Placed};
 ghost use Rattle.exact_rank.specs.Searches.{
   AllInside,
   AllFollow,

@@ -27,7 +27,7 @@ element-copy-out-n c = search needs
 
 returns : tie.Need-returns Inv-loop μ-loop
 returns c =
-    record { small = omega arith; split = c .before .before .before .loop .inv .2; within = c .if1 .taken }
+    record { small = omega arith; split = c .before .before .before .loop .inv .2; within = omega (arith, c .if1 .taken) }
 
 add-digit : tie.Need-add-digit Inv-loop μ-loop
 add-digit c = search needs
