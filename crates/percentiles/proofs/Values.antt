@@ -1,0 +1,129 @@
+-- What is shown for a rank, by its tests. Assumes nothing.
+use mathlib.Core.Path.{_≡_, refl, sym, _∙_, ap, ap₂, subst}
+use mathlib.Core.Bool.{Bool, true, false, not, _&&_, _||_}
+use mathlib.Core.List.{List, [], _∷_, _++_, map, append-assoc, append-nil}
+use Prim.Native.Nat.{ℕ, zero, suc, _+_, _-_, _≤_, _<_}
+use native.Mathlib.Omega.{arith}
+use native.Mathlib.Numerals.{add-one}
+use borrow.Author.Tests.{lt-ltb, le-ltb, le-leb, lt-leb, eq-eqb, ne-eqb, eqb-true}
+use lib.Dec.{ltb, leb, eqb}
+use lib.Ieee.{Float}
+use lib.ListN.{length, getD, set, take, drop, length-map, drop-of-length-le}
+use lib.Seq.{getD-drop, drop-cons, take-suc, take-all, set-at, length-take-le}
+use Rattle.rank.specs.Rank.{rankOf}
+use Rattle.exact_rank.specs.Rank.{atRank}
+use Rattle.buckets.specs.Buckets.{pick}
+use Rattle.buckets.specs.Signed.{bucketCount, order, valueOf}
+use Rattle.buckets.proofs.SignedFacts.{pick-below, pick-above}
+use Rattle.histogram.specs.Histogram.{total, bucketAt}
+use Rattle.quantiles.specs.declared.Quantiles.{Quantiles}
+use Rattle.percentiles.specs.Percentiles.{spoilt, clamped, histogramValue, valueAt, percentile}
+
+module _ (s : Bool) (x low high : ℕ) where
+  pub clamp-low : order s x < order s low → low ≡ clamped s x low high
+  unfolding clamped
+  clamp-low h = sym (pick-below (order s x) (order s low) low (pick (ltb (order s high) (order s x)) high x) h)
+
+  pub clamp-high : order s low ≤ order s x → order s high < order s x → high ≡ clamped s x low high
+  unfolding clamped
+  clamp-high g h =
+      sym (pick-above (order s x) (order s low) low (pick (ltb (order s high) (order s x)) high x) g ∙ pick-below (order s high) (order s x) high x h)
+
+  pub clamp-between : order s low ≤ order s x → order s x ≤ order s high → x ≡ clamped s x low high
+  unfolding clamped
+  clamp-between g h =
+      sym (pick-above (order s x) (order s low) low (pick (ltb (order s high) (order s x)) high x) g ∙ pick-above (order s high) (order s x) high x h)
+
+-- a histogram's value by whether the rank is the first, or the last
+by-rank : Quantiles → List ℕ → ℕ → Bool → Bool → ℕ
+by-rank q room r first last = pick first (q .min) (pick last (q .max) (clamped (q .signed) (valueOf (q .signed) (bucketAt (drop 4096 room) r)) (q .min) (q .max)))
+
+by-rank-is : (q : Quantiles) (room : List ℕ) (r : ℕ) (first last : Bool) → eqb r 0 ≡ first → eqb r (q .count - 1) ≡ last → by-rank q room r first last ≡ histogramValue q room r
+unfolding histogramValue by-rank
+by-rank-is q room r first last e f = sym (ap (λ (t : Bool). by-rank q room r t (eqb r (q .count - 1))) e ∙ ap (by-rank q room r first) f)
+
+module _ (q : Quantiles) (room : List ℕ) (r : ℕ) where
+  pub shows-min : r ≡ 0 → q .min ≡ histogramValue q room r
+  unfolding by-rank
+  shows-min e = by-rank-is q room r true (eqb r (q .count - 1)) (eq-eqb r 0 e) refl
+
+  pub shows-max : (r ≡ 0 → ⊥) → r ≡ q .count - 1 → q .max ≡ histogramValue q room r
+  unfolding by-rank
+  shows-max n e = by-rank-is q room r false true (ne-eqb r 0 n) (eq-eqb r (q .count - 1) e)
+
+  pub shows-bucket : (r ≡ 0 → ⊥) → (r ≡ q .count - 1 → ⊥) → clamped (q .signed) (valueOf (q .signed) (bucketAt (drop 4096 room) r)) (q .min) (q .max) ≡ histogramValue q room r
+  unfolding by-rank
+  shows-bucket n m = by-rank-is q room r false false (ne-eqb r 0 n) (ne-eqb r (q .count - 1) m)
+
+  pub shows-sample : q .count ≤ 4096 → atRank (order (q .signed)) room (q .count) r ≡ valueAt q room r
+  unfolding valueAt
+  shows-sample h = sym (ap (λ (t : Bool). pick t (atRank (order (q .signed)) room (q .count) r) (histogramValue q room r)) (le-leb (q .count) 4096 h))
+
+  pub shows-histogram : 4096 < q .count → histogramValue q room r ≡ valueAt q room r
+  unfolding valueAt
+  shows-histogram h = sym (ap (λ (t : Bool). pick t (atRank (order (q .signed)) room (q .count) r) (histogramValue q room r)) (lt-leb (q .count) 4096 h))
+
+pub percentile-is : (q : Quantiles) (room : List ℕ) (p : Float) (r v : ℕ) → r ≡ rankOf p (q .count) → v ≡ valueAt q room r → v ≡ percentile q room p
+unfolding percentile
+percentile-is q room p r v e f = f ∙ ap (valueAt q room) e
+
+-- one percentile more in the lent answer
+map-append' : (f : Float → ℕ) (a b : List Float) → map f (a ++ b) ≡ map f a ++ map f b
+map-append' f [] b = refl
+map-append' f (x ∷ xs) b = ap (λ (l : List ℕ). f x ∷ l) (map-append' f xs b)
+
+pub shown-next : (f : Float → ℕ) (ps : List Float) (d : Float) (shown₀ : List ℕ) (i v : ℕ) → i < length ps → length shown₀ ≡ length ps → v ≡ f (getD ps i d)
+    → set (map f (take i ps) ++ drop i shown₀) i v ≡ map f (take (i + 1) ps) ++ drop (i + 1) shown₀
+shown-next f ps d shown₀ i v h l e =
+    ap (λ (s : List ℕ). set (map f (take i ps) ++ s) i v) (drop-cons shown₀ i 0 (subst (λ (n : ℕ). i < n) (sym l) h))
+    ∙ set-at (map f (take i ps)) (getD shown₀ i 0) (drop (suc i) shown₀) v i (length-map (take i ps) f ∙ length-take-le i ps (omega arith))
+    ∙ ap (λ (x : ℕ). map f (take i ps) ++ (x ∷ drop (suc i) shown₀)) e
+    ∙ sym (append-assoc (map f (take i ps)) (f (getD ps i d) ∷ []) (drop (suc i) shown₀))
+    ∙ ap (λ (m : List ℕ). m ++ drop (suc i) shown₀) (sym (map-append' f (take i ps) (getD ps i d ∷ [])) ∙ ap (map f) (sym (take-suc ps i d h)))
+    ∙ ap (λ (n : ℕ). map f (take n ps) ++ drop n shown₀) (sym (add-one i))
+
+pub shown-all : (f : Float → ℕ) (ps : List Float) (shown₀ : List ℕ) (i : ℕ) → length ps ≤ i → length shown₀ ≡ length ps → map f (take i ps) ++ drop i shown₀ ≡ map f ps
+shown-all f ps shown₀ i h l =
+    ap (λ (s : List ℕ). map f (take i ps) ++ s) (drop-of-length-le shown₀ (subst (λ (n : ℕ). n ≤ i) (sym l) h)) ∙ append-nil (map f (take i ps))
+    ∙ ap (map f) (take-all i ps h)
+
+-- a histogram that is spoilt, by its tests
+or-false : (b : Bool) → b ≡ b || false
+or-false true = refl
+or-false false = refl
+
+spoilt-by : Quantiles → List ℕ → Bool → Bool → Bool
+spoilt-by q room t s = not t || (s && not (eqb (getD (drop 4096 room) 14592 0) 0))
+
+spoilt-is : (q : Quantiles) (room : List ℕ) (t s : Bool) → t ≡ eqb (total (drop 4096 room)) (q .count) → q .signed ≡ s → spoilt-by q room t s ≡ spoilt q room
+unfolding spoilt spoilt-by
+spoilt-is q room t s e f = ap (λ (b : Bool). spoilt-by q room b s) e ∙ ap (spoilt-by q room (eqb (total (drop 4096 room)) (q .count))) (sym f)
+
+pub spoilt-signed : (q : Quantiles) (room : List ℕ) (t : Bool) → q .signed ≡ true → t ≡ eqb (total (drop 4096 room)) (q .count) → not t || not (eqb (getD room 18688 0) 0) ≡ spoilt q room
+unfolding spoilt-by
+spoilt-signed q room t s e = ap (λ (x : ℕ). not t || not (eqb x 0)) (sym (getD-drop 4096 room 14592 0)) ∙ spoilt-is q room t true e s
+
+pub spoilt-unsigned : (q : Quantiles) (room : List ℕ) (t : Bool) → q .signed ≡ false → t ≡ eqb (total (drop 4096 room)) (q .count) → not t ≡ spoilt q room
+unfolding spoilt-by
+spoilt-unsigned q room t s e = or-false (not t) ∙ spoilt-is q room t false e s
+
+-- the bucket sum of one that is not spoilt is the count
+pub unspoilt-total : (q : Quantiles) (room : List ℕ) → spoilt q room ≡ false → total (drop 4096 room) ≡ q .count
+unfolding spoilt
+unspoilt-total q room e = eqb-true (total (drop 4096 room)) (q .count) (sound (eqb (total (drop 4096 room)) (q .count)) (q .signed && not (eqb (getD (drop 4096 room) 14592 0) 0)) e)
+  where
+    sound : (a b : Bool) → not a || b ≡ false → a ≡ true
+    sound true b e = refl
+    sound false b e = sym e
+
+-- a signed room has bucket 14,592
+pub signed-length : (s : Bool) (n : ℕ) → s ≡ true → n ≡ 4096 + bucketCount s → 18688 < n
+signed-length s n e h = above n (subst (λ (b : Bool). n ≡ 4096 + bucketCount b) e h)
+  where
+    above : (n : ℕ) → n ≡ 18689 → 18688 < n
+    above n h = omega arith
+
+-- and neither kind has too many
+pub few-buckets : (s : Bool) → bucketCount s ≤ 65536
+few-buckets true = omega arith
+few-buckets false = omega arith
