@@ -1,0 +1,13 @@
+pub mod Mends
+pub mod Removal
+pub mod Moved
+pub mod Slides
+pub mod Search
+pub mod Leaves
+pub mod Lists
+pub mod Rows
+pub mod Laws
+pub mod Taken
+pub mod Remembering
+pub mod Replies
+pub mod Determined

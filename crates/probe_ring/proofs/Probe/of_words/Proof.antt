@@ -1,0 +1,46 @@
+use Rattle.probe_ring.specs.Row.{probeOf}
+use borrow.Author.Needs.{needs}
+use Rattle.probe_ring.proofs.Probe.of_words.Statement.{statement}
+use Rattle.probe_ring.proofs.Probe.of_words.Tie as tie
+
+array-read-low : tie.Need-array-read-low
+array-read-low c = search needs
+
+low-requires : tie.Need-low-requires
+low-requires c κs = search needs
+
+array-read-count-of : tie.Need-array-read-count-of
+array-read-count-of c = search needs
+
+count-of-requires : tie.Need-count-of-requires
+count-of-requires c κs = search needs
+
+array-read-ordinal-of : tie.Need-array-read-ordinal-of
+array-read-ordinal-of c = search needs
+
+ordinal-of-requires : tie.Need-ordinal-of-requires
+ordinal-of-requires c κs = search needs
+
+array-read-t9 : tie.Need-array-read-t9
+array-read-t9 c = search needs
+
+array-read-t18 : tie.Need-array-read-t18
+array-read-t18 c = search needs
+
+returns : tie.Need-returns
+unfolding probeOf
+returns c = rw (c .before .before .low .ensures, c .before .count-of .ensures, c .ordinal-of .ensures)
+
+pub of-words-spec : {M : Type 1} → statement M
+of-words-spec =
+    tie.close
+    (tie.spec
+    array-read-low
+    low-requires
+    array-read-count-of
+    count-of-requires
+    array-read-ordinal-of
+    ordinal-of-requires
+    array-read-t9
+    array-read-t18
+    returns)

@@ -1,0 +1,48 @@
+-- Document 01: "Held probes are the 4,096 most recently remembered distinct sequences. Remembering a held one makes it the newest,
+-- unanswered, with no replies and the new ordinal; nothing is evicted." Here over plain lists, newest first, and any number N of them.
+-- Assumes nothing.
+use mathlib.Core.Path.{_≡_}
+use mathlib.Core.Bool.{Bool, true, false, not, _||_, _&&_, cond}
+use mathlib.Core.List.{List, [], _∷_, map}
+use Prim.Native.Nat.{ℕ}
+use lib.Dec.{eqb, leb}
+use lib.ListN.{length, take}
+use Rattle.probe_ring.specs.declared.Probe.{Probe}
+
+-- whether a sequence is held
+unfoldable pub holds : List Probe → ℕ → Bool
+holds [] s = false
+holds (p ∷ ps) s = eqb s (p .sequence) || holds ps s
+
+-- the probes of other sequences
+unfoldable pub others : ℕ → List Probe → List Probe
+others s [] = []
+others s (p ∷ ps) = cond (eqb s (p .sequence)) (others s ps) (p ∷ others s ps)
+
+-- each sequence once, as it was remembered last
+unfoldable pub once : List Probe → List Probe
+once [] = []
+once (p ∷ ps) = p ∷ others (p .sequence) (once ps)
+
+-- a probe that is remembered is the newest, what was held of its sequence goes, and N are held
+unfoldable pub remembering : ℕ → Probe → List Probe → List Probe
+remembering N p ps = take N (p ∷ others (p .sequence) ps)
+
+-- whether the oldest goes for it
+unfoldable pub evicts : ℕ → Probe → List Probe → Bool
+evicts N p ps = not (holds ps (p .sequence)) && leb N (length ps)
+
+-- another row for the probe of the same sequence
+unfoldable pub replacing : Probe → List Probe → List Probe
+replacing p [] = []
+replacing p (q ∷ qs) = cond (eqb (p .sequence) (q .sequence)) p q ∷ replacing p qs
+
+-- all of these remembered, the last of the list first
+unfoldable pub rememberingAll : ℕ → List Probe → List Probe
+rememberingAll N [] = []
+rememberingAll N (p ∷ ps) = remembering N p (rememberingAll N ps)
+
+-- no sequence stands twice
+unfoldable pub Distinct : List Probe → Type 0
+Distinct [] = Unit
+Distinct (p ∷ ps) = (holds ps (p .sequence) ≡ false) × Distinct ps

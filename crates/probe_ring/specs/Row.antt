@@ -1,0 +1,83 @@
+-- A held probe, and the four words of its row: sequence and replies, the ordinal, and the packet's two words.
+-- Assumes nothing.
+use mathlib.Core.Path.{_≡_}
+use mathlib.Core.Bool.{Bool, cond, not}
+use mathlib.Core.List.{List, [], _∷_}
+use Prim.Native.Nat.{ℕ, _+_, _-_, _*_, _/_, _%_, _^_, _<_}
+use lib.Dec.{eqb, ltb}
+use lib.ListN.{getD}
+use Rattle.calls.specs.declared.Ordinal.{Ordinal}
+use Rattle.calls.specs.declared.Ordinal.the-variants.{Absent, Number}
+use Rattle.calls.specs.declared.PendingPacket.{PendingPacket}
+use Rattle.calls.specs.declared.Pending.{Pending}
+use Rattle.calls.specs.declared.Pending.the-variants as pending
+use Rattle.probe_ring.specs.declared.Probe.{Probe}
+
+-- the most replies that a probe counts: beyond it the count stays
+abbrev pub mostReplies : ℕ
+mostReplies = 65535
+
+-- a probe just remembered: unanswered, with no replies
+abbrev pub unanswered : ℕ → PendingPacket → Ordinal → Probe
+unanswered s p o = record { sequence = s; replies = 0; ordinal = o; packet = p }
+
+-- a pending packet replaces the stored one
+abbrev pub packetAfter : Pending → PendingPacket → PendingPacket
+packetAfter pending.Absent p = p
+packetAfter (pending.Held q) p = q
+
+-- one reply more, up to the most
+unfoldable pub oneMore : ℕ → ℕ
+oneMore replies = cond (ltb replies mostReplies) (replies + 1) replies
+
+-- a probe after one more reply
+unfoldable pub afterReply : Pending → Probe → Probe
+afterReply pending p = record {
+  sequence = p .sequence;
+  replies = oneMore (p .replies);
+  ordinal = p .ordinal;
+  packet = packetAfter pending (p .packet);
+}
+
+-- a probe is answered once it has a reply
+abbrev pub isAnswered : Probe → Bool
+isAnswered p = ltb 0 (p .replies)
+
+-- ---- the words of a row
+
+-- an ordinal as a word: one more than it, or 0 for none
+abbrev pub ordinalWord : Ordinal → ℕ
+ordinalWord Absent = 0
+ordinalWord (Number n) = n + 1
+
+-- a word as an ordinal
+unfoldable pub ordinalOf : ℕ → Ordinal
+ordinalOf word = cond (eqb word 0) Absent (Number ((word - 1) % 2 ^ 32))
+
+-- the row of a probe
+unfoldable pub wordsOf : Probe → List ℕ
+wordsOf p = (p .sequence + p .replies * 2 ^ 32) ∷ ordinalWord (p .ordinal) ∷ p .packet .time ∷ p .packet .tag ∷ []
+
+-- the sequence of a row
+abbrev pub sequenceOf : List ℕ → ℕ
+sequenceOf row = getD row 0 0 % 2 ^ 32
+
+-- a row as a probe, whatever its words
+unfoldable pub probeOf : List ℕ → Probe
+probeOf row = record {
+  sequence = sequenceOf row;
+  replies = getD row 0 0 / 2 ^ 32 % 2 ^ 16;
+  ordinal = ordinalOf (getD row 1 0);
+  packet = record { time = getD row 2 0; tag = getD row 3 0 };
+}
+
+-- ---- what the types of a probe's fields say
+
+abbrev pub OrdinalFits : Ordinal → Type 0
+OrdinalFits Absent = Unit
+OrdinalFits (Number n) = n < 2 ^ 32
+
+pub record ProbeFits (p : Probe) : Type 0 where
+  pub sequence-in : p .sequence < 2 ^ 32
+  pub replies-in : p .replies < 2 ^ 16
+  pub ordinal-in : OrdinalFits (p .ordinal)
