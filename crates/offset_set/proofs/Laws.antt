@@ -4,22 +4,20 @@ use mathlib.Core.Path.{_≡_, refl, sym, ap, _∙_}
 use mathlib.Core.Bool.{Bool, true, false, _||_, cond}
 use mathlib.Core.Logic.{_≢_}
 use mathlib.Core.List.{List, [], _∷_}
-use Prim.Native.Nat.{ℕ, zero, suc, _+_, _≤_, _<_}
+use Prim.Native.Nat.{ℕ, _+_, _≤_, _<_}
 use native.Mathlib.Nat.{zero-add}
-use native.Mathlib.Numerals.{add-one}
 use native.Mathlib.Omega.{arith}
 use lib.Dec.{eqb, ltb}
-use lib.ListN.{length, getD, set, take, length-set}
+use lib.ListN.{length, getD, set, length-set}
 use lib.Seq.{getD-set-same, getD-set-other, take-all}
 use Rattle.scope.specs.Limits.{capacity}
-use Rattle.chains.specs.declared.Ring.{Ring}
-use Rattle.chains.specs.Rings.{wrap, contents, pushSlot, afterPush, RingFits}
+use Rattle.chains.specs.Rings.{contents, pushSlot, afterPush, RingFits}
 use Rattle.chains.specs.Links.{wordOf, newest, older, linked, Rows}
 use Rattle.chains.specs.Whole.{Indexed}
 use Rattle.chains.specs.Walk.{newestOf, firstOf}
 use Rattle.chains.specs.Hash.{numberHash}
 use Rattle.chains.proofs.Tests.{Test, holds, fails, eq-test, lt-true, lt-false}
-use Rattle.chains.proofs.Places.{Pushed, room, full, push-is, wrap-low}
+use Rattle.chains.proofs.Places.{room, wrap-low}
 use Rattle.chains.proofs.Contents.{length-contents, push-contents}
 use Rattle.chains.proofs.Chains.{empty-indexed}
 use Rattle.chains.proofs.Scan.{walk-scans, scan-first}

@@ -4,16 +4,15 @@ use mathlib.Core.Path.{_≡_, refl, sym, ap, _∙_}
 use mathlib.Core.Bool.{Bool, true, false, _||_, cond}
 use mathlib.Core.Logic.{_≢_}
 use mathlib.Core.List.{List, [], _∷_}
-use Prim.Native.Nat.{ℕ, zero, suc, _+_, _-_, _≤_, _<_}
+use Prim.Native.Nat.{ℕ, suc, _+_, _-_, _<_}
 use native.Mathlib.Omega.{arith}
 use lib.Dec.{eqb, ltb}
 use lib.ListN.{length, getD, set, take, length-set}
 use lib.Seq.{getD-set-same, getD-set-other}
-use Rattle.chains.specs.declared.Ring.{Ring}
 use Rattle.chains.specs.Rings.{wrap, contents, pushSlot, afterPush, RingFits}
-use Rattle.chains.specs.Links.{wordOf, newest, older, linked, Rows}
+use Rattle.chains.specs.Links.{wordOf, newest, older, Rows}
 use Rattle.chains.specs.Whole.{Indexed}
-use Rattle.chains.specs.Walk.{walk, newestOf, firstOf}
+use Rattle.chains.specs.Walk.{firstOf}
 use Rattle.chains.proofs.Tests.{Test, holds, fails, eq-test, eq-true, true-not-false}
 use Rattle.chains.proofs.Places.{last-place, Pushed, room, full, push-is, push-below, push-fits}
 use Rattle.chains.proofs.Contents.{push-contents}
@@ -24,7 +23,7 @@ use Rattle.chains.proofs.Lanes.{linked-fits, linked-newest, linked-elsewhere, l
 use Rattle.probe_ring.specs.declared.Probe.{Probe}
 use Rattle.probe_ring.specs.Row.{sequenceOf, wordsOf, probeOf, ProbeFits}
 use Rattle.probe_ring.specs.Held as list
-use Rattle.probe_ring.specs.Held.{Distinct, remembering}
+use Rattle.probe_ring.specs.Held.{Distinct}
 use Rattle.probe_ring.specs.Rooms.{Rooms, rooms, lane, roomsAfter, slotOf, pushed, held}
 use Rattle.probe_ring.proofs.Rows.{sequence-back, probe-back}
 use Rattle.probe_ring.proofs.Lists.{remembering-new, remembering-distinct}

@@ -1,17 +1,17 @@
 -- Held probes as a list, newest first: no sequence stands twice, and they are the N most recently remembered distinct sequences.
 -- Assumes nothing.
-use mathlib.Core.Path.{_≡_, refl, sym, ap, ap₂, _∙_, subst}
-use mathlib.Core.Bool.{Bool, true, false, not, _||_, _&&_, cond}
-use mathlib.Core.List.{List, [], _∷_, map}
-use Prim.Native.Nat.{ℕ, zero, suc, _≤_, _<_}
+use mathlib.Core.Path.{_≡_, refl, sym, ap, subst}
+use mathlib.Core.Bool.{Bool, true, false, not, _||_, cond}
+use mathlib.Core.List.{List, [], _∷_}
+use Prim.Native.Nat.{ℕ, zero, suc}
 use native.Mathlib.Omega.{arith}
-use lib.Dec.{eqb, leb}
-use lib.ListN.{length, take}
+use lib.Dec.{eqb}
+use lib.ListN.{take}
 use lib.Seq.{take-take, take-nil}
-use Rattle.chains.proofs.Tests.{Test, holds, fails, eq-test, eq-true, eq-false, true-not-false}
+use Rattle.chains.proofs.Tests.{Test, holds, fails, eq-test, true-not-false}
 use Rattle.probe_ring.specs.declared.Probe.{Probe}
 use Rattle.probe_ring.specs.Held as held
-use Rattle.probe_ring.specs.Held.{others, once, remembering, rememberingAll, replacing, Distinct}
+use Rattle.probe_ring.specs.Held.{others, once, remembering, rememberingAll, Distinct}
 
 or-false : (a b : Bool) → (a || b) ≡ false → (a ≡ false) × (b ≡ false)
 or-false true b e = (e, absurd (true-not-false refl e))

@@ -1,12 +1,10 @@
 -- What a mended link is, in places: one to a lower place stays, one to a higher place goes one down, one to the entry that went becomes that
 -- entry's own link.
 -- Assumes nothing.
-use mathlib.Core.Path.{_≡_, refl, sym, ap, _∙_}
-use mathlib.Core.Bool.{cond}
-use Prim.Native.Nat.{ℕ, zero, suc, _+_, _-_, _%_, _≤_, _<_}
+use mathlib.Core.Path.{_≡_, refl, _∙_}
+use Prim.Native.Nat.{ℕ, suc, _+_, _-_, _%_, _≤_, _<_}
 use native.Mathlib.Omega.{arith}
 use native.Mathlib.Nat.{mod-eq-of-lt, add-mod-right}
-use lib.Dec.{eqb, ltb}
 use Rattle.chains.specs.Rings.{wrap}
 use Rattle.chains.proofs.Tests.{lt-true, lt-false, eq-true, eq-false}
 use Rattle.chains.proofs.Places.{Wrapped, low, high, wrap-is, wrap-below}

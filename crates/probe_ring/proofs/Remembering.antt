@@ -1,32 +1,28 @@
 -- What `remember` and `put` leave, over the held probes as a list; and from an empty ring on, whatever its rooms held.
 -- Assumes nothing.
-use mathlib.Core.Path.{_≡_, refl, sym, ap, ap₂, _∙_, subst}
-use mathlib.Core.Bool.{Bool, true, false, not, _||_, _&&_, cond}
+use mathlib.Core.Path.{_≡_, refl, sym, ap, _∙_}
+use mathlib.Core.Bool.{true, false, not}
 use mathlib.Core.Logic.{_≢_}
-use mathlib.Core.List.{List, [], _∷_, map}
-use Prim.Native.Nat.{ℕ, zero, suc, _+_, _-_, _≤_, _<_}
+use mathlib.Core.List.{List, [], _∷_}
+use Prim.Native.Nat.{ℕ, suc, _+_, _-_, _<_}
 use native.Mathlib.Omega.{arith}
 use borrow.Author.Tests.{lt-leb}
 use lib.Dec.{eqb, ltb, leb}
-use lib.ListN.{length, getD, set, take, length-set}
-use lib.Seq.{getD-set-same, getD-set-other}
+use lib.ListN.{length, getD, take}
 use Rattle.scope.specs.Limits.{capacity}
-use Rattle.chains.specs.declared.Ring.{Ring}
-use Rattle.chains.specs.Rings.{wrap, contents, RingFits}
-use Rattle.chains.specs.Links.{wordOf, newest, older, Rows}
-use Rattle.chains.specs.Whole.{Indexed}
-use Rattle.chains.specs.Walk.{walk}
+use Rattle.chains.specs.Rings.{wrap}
+use Rattle.chains.specs.Links.{wordOf, older, Rows}
 use Rattle.chains.specs.Hash.{numberHash}
-use Rattle.chains.proofs.Tests.{Test, holds, fails, lt-test, lt-true, lt-false, eq-test, true-not-false}
+use Rattle.chains.proofs.Tests.{Test, holds, fails, lt-test}
 use Rattle.chains.proofs.Walks.{Walked, found, nothing, walked}
 use Rattle.chains.proofs.Contents.{length-contents}
 use Rattle.chains.proofs.Hashes.{number-hash-below}
 use Rattle.probe_ring.specs.declared.Probe.{Probe}
-use Rattle.probe_ring.specs.Row.{sequenceOf, wordsOf, probeOf, ProbeFits}
+use Rattle.probe_ring.specs.Row.{sequenceOf, probeOf, ProbeFits}
 use Rattle.probe_ring.specs.Held as list
-use Rattle.probe_ring.specs.Held.{others, remembering, rememberingAll, once, evicts, Distinct}
+use Rattle.probe_ring.specs.Held.{others, remembering, rememberingAll, once, evicts}
 use Rattle.probe_ring.specs.Rooms.{Rooms, rooms, lane, Outcome, roomsAfter, takenOut, closedUp, slotOf, pushed, rememberedAt, remembered, held}
-use Rattle.probe_ring.proofs.Lists.{others-gone, others-twice, remembering-new, held-are}
+use Rattle.probe_ring.proofs.Lists.{others-gone, remembering-new, held-are}
 use Rattle.probe_ring.proofs.Laws.{Sound, empty-sound, empty-held, found-sequence, find-is, pushed-held, pushed-sound, pushed-elsewhere, pushed-found}
 use Rattle.probe_ring.proofs.Taken.{taken-held, taken-sound, taken-elsewhere}
 

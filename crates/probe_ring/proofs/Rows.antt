@@ -1,11 +1,9 @@
 -- A probe survives its row: what is written is read back.
 -- Assumes nothing.
-use mathlib.Core.Path.{_≡_, refl, sym, ap, _∙_}
-use mathlib.Core.Bool.{cond}
-use Prim.Native.Nat.{ℕ, _+_, _-_, _*_, _/_, _%_, _^_, _≤_, _<_}
+use mathlib.Core.Path.{_≡_, refl, _∙_}
+use Prim.Native.Nat.{_+_, _-_, _/_, _%_, _^_}
 use native.Mathlib.Omega.{arith}
 use native.Mathlib.Nat.{mod-eq-of-lt, add-mul-mod-self-right, add-mul-div-right, div-eq-of-lt, zero-add}
-use lib.Dec.{eqb}
 use lib.ListN.{getD}
 use Rattle.calls.specs.declared.Ordinal.{Ordinal}
 use Rattle.calls.specs.declared.Ordinal.the-variants.{Absent, Number}

@@ -2,14 +2,14 @@
 -- Assumes nothing.
 use mathlib.Core.Path.{_≡_, refl, sym, ap, _∙_}
 use mathlib.Core.List.{List, [], map}
-use Prim.Native.Nat.{ℕ, zero, suc, _+_, _-_, _≤_, _<_}
+use Prim.Native.Nat.{ℕ, suc, _+_, _-_, _≤_, _<_}
 use native.Mathlib.Omega.{arith}
 use native.Mathlib.Numerals.{add-one}
 use lib.Dec.{eqb}
 use lib.ListN.{length, getD, set, length-set, length-map, List·getD-map}
 use lib.Seq.{getD-set-same, getD-set-other, ext-getD}
 use Rattle.chains.proofs.Tests.{Test, holds, fails, eq-test}
-use Rattle.probe_ring.specs.Rooms.{moved, lane, mendNewest}
+use Rattle.probe_ring.specs.Rooms.{moved}
 use Rattle.probe_ring.proofs.Moved.{moved-none, moved-on}
 
 -- ---- slots from `from` to `to` that each take the next one

@@ -1,21 +1,19 @@
 -- A probe is taken out of the middle: the others are held as they were, and their chains are whole.
 -- Assumes nothing.
-use mathlib.Core.Path.{_≡_, refl, sym, ap, ap₂, _∙_, subst}
+use mathlib.Core.Path.{_≡_, refl, sym, ap, ap₂, _∙_}
 use mathlib.Core.Bool.{Bool, true, false, _||_, cond}
 use mathlib.Core.Logic.{_≢_}
-use mathlib.Core.List.{List, [], _∷_, map}
-use mathlib.Core.Option.{Option, none, some}
+use mathlib.Core.List.{List, [], _∷_}
+use mathlib.Core.Option.{none, some}
 use Prim.Native.Nat.{ℕ, zero, suc, _+_, _-_, _≤_, _<_}
 use native.Mathlib.Omega.{arith}
 use native.Mathlib.Nat.{zero-add, suc-add}
-use lib.Dec.{eqb, ltb}
-use lib.ListN.{length, getD, set, getElem?, length-set, length-map, List·getD-map}
+use lib.Dec.{eqb}
+use lib.ListN.{length, getD, getElem?, length-set, length-map, List·getD-map}
 use lib.Seq.{getD-set-same, getD-set-other}
-use Rattle.chains.specs.declared.Ring.{Ring}
-use Rattle.chains.specs.Rings.{wrap, contents, RingFits}
-use Rattle.chains.specs.Links.{wordOf, setWord, newest, older, Rows}
+use Rattle.chains.specs.Rings.{wrap, contents}
+use Rattle.chains.specs.Links.{wordOf, newest, older, Rows}
 use Rattle.chains.specs.Whole.{Indexed}
-use Rattle.chains.specs.Walk.{placeOf}
 use Rattle.chains.proofs.Tests.{Test, holds, fails, eq-test, eq-true, true-not-false}
 use Rattle.chains.proofs.Places.{place-of-slot, wrap-below}
 use Rattle.chains.proofs.Contents.{contents-same}
@@ -28,7 +26,7 @@ use Rattle.probe_ring.specs.Rooms.{Rooms, rooms, lane, moved, moveRow, m
 use Rattle.probe_ring.proofs.Mends.{mends}
 use Rattle.probe_ring.proofs.Removal.{removed-indexed}
 use Rattle.probe_ring.proofs.Moved.{moved-fits, moved-out, moved-in, moved-keeps}
-use Rattle.probe_ring.proofs.Lists.{others-here, others-there, others-absent, distinct-others}
+use Rattle.probe_ring.proofs.Lists.{others-absent, distinct-others}
 use Rattle.probe_ring.proofs.Laws.{Sound}
 
 -- ---- lists: one element out

@@ -1,7 +1,7 @@
 -- The held probes in their two lent rooms, on any contents: how one is found, remembered, read and written back.
 -- N is how many are held at most, and `hash` says which chain is walked: it decides nothing.
 -- Assumes nothing.
-use mathlib.Core.Bool.{Bool, true, false, cond}
+use mathlib.Core.Bool.{cond}
 use mathlib.Core.List.{List, [], map}
 use Prim.Native.Nat.{ℕ, zero, suc, _+_, _-_, _%_}
 use lib.Dec.{eqb, ltb, leb}
@@ -9,7 +9,7 @@ use lib.ListN.{getD, set}
 use Rattle.chains.specs.declared.Ring.{Ring}
 use Rattle.chains.specs.Rings.{wrap, contents, pushSlot, afterPush}
 use Rattle.chains.specs.Walk.{walk, placeOf}
-use Rattle.chains.specs.Links.{wordOf, setWord, newest, older, linked}
+use Rattle.chains.specs.Links.{setWord, newest, older, linked}
 use Rattle.probe_ring.specs.declared.Probe.{Probe}
 use Rattle.probe_ring.specs.declared.Remembered.{Remembered}
 use Rattle.probe_ring.specs.Row.{sequenceOf, wordsOf, probeOf}

@@ -2,13 +2,13 @@
 // A row of `probes` has a probe's four words, and lane 4 of `links` has the chains of equal hash of their sequences.
 ghost use mathlib.Core.Path.{_≡_};
 ghost use mathlib.Core.List.{[]};
-ghost use Prim.Native.Nat.{ℕ, _+_, _-_, _*_, _/_, _%_, _≤_, _<_};
+ghost use Prim.Native.Nat.{_+_, _-_, _*_, _/_, _%_, _≤_, _<_};
 ghost use lib.ListN.{length, getD, set};
 ghost use Rattle.scope.specs.Limits.{capacity};
 ghost use Rattle.chains.specs.Rings.{RingFits};
 ghost use Rattle.chains.specs.Hash.{numberHash};
 ghost use Rattle.chains.specs.Walk.{placeOf};
-ghost use Rattle.probe_ring.specs.Row.{oneMore, packetAfter, unanswered, afterReply, isAnswered, ordinalWord, ordinalOf, wordsOf, probeOf, sequenceOf};
+ghost use Rattle.probe_ring.specs.Row.{oneMore, packetAfter, unanswered, afterReply, isAnswered, ordinalWord, ordinalOf, wordsOf, probeOf};
 ghost use Rattle.probe_ring.specs.Rooms.{rooms, outcome, slotOf, pushed, remembered, takenOut, moved, moveRow, moveLink, mendedLink, mendNewest};
 use calls::Ordinal;
 use calls::Pending;

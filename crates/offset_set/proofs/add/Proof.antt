@@ -1,6 +1,6 @@
+-- `offset_set::add` meets its contract: with room it is the definition's first case, and a full set is left as it is (Laws).
+-- Assumes nothing.
 use Rattle.offset_set.proofs.Laws.{added-room, added-full}
-use borrow.Author.Tests.{lt-ltb, le-ltb}
-use Rattle.offset_set.specs.Offsets.{added}
 use borrow.Author.Needs.{needs}
 use Rattle.offset_set.proofs.add.Statement.{statement}
 use Rattle.offset_set.proofs.add.Tie as tie

@@ -1,7 +1,8 @@
+-- `offset_set::contains` meets its contract: the loop walks the chain of the offset's hash (Search). The measure is the slot below which is left to walk.
+-- Assumes nothing.
 use borrow.Author.Needs.{needs}
 use native.Mathlib.Omega.{arith}
 use borrow.Author.Tests.{eq-eqb, ne-eqb}
-use Prim.Native.Nat.{_≤_}
 use Rattle.chains.specs.Hash.{numberHash}
 use Rattle.offset_set.specs.Offsets.{offsetSet}
 use Rattle.offset_set.proofs.Search.{Searching, searching-starts, searching-found, searching-on, searching-ends}

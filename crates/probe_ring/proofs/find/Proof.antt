@@ -1,3 +1,5 @@
+-- `probe_ring::find` meets its contract: the loop walks the chain of the sequence's hash (Search). The measure is the place below which is left to walk.
+-- Assumes nothing.
 use mathlib.Core.Path.{refl}
 use native.Mathlib.Omega.{arith}
 use Rattle.chains.specs.Hash.{numberHash}

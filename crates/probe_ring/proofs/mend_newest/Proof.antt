@@ -1,11 +1,11 @@
+-- `probe_ring::mend_newest` meets its contract: each row passed is mended, each row ahead is as it was.
+-- Assumes nothing.
 use Prim.Native.Nat.{ℕ}
 use lib.ListN.{getD, set}
 use mathlib.Core.List.{[]}
-use Prim.Native.Nat.{_≤_, _<_, _-_}
-use mathlib.Core.Path.{_≡_, refl, ap}
-use native.Mathlib.Omega.{arith}
+use Prim.Native.Nat.{_≤_, _-_}
+use mathlib.Core.Path.{refl, ap}
 use borrow.Author.Needs.{needs}
-use lib.ListN.{length}
 use Rattle.probe_ring.specs.Rooms.{mendRow, mendedLink, mendNewest}
 use Rattle.probe_ring.proofs.Slides.{Mapping, maps, mapping-on, mapping-ends}
 use Rattle.probe_ring.proofs.mend_newest.Statement.{statement}

@@ -1,7 +1,7 @@
-use native.Mathlib.Omega.{arith}
-use mathlib.Core.List.{[]}
-use mathlib.Core.Path.{ap, _∙_}
-use lib.ListN.{getD, set, length-set}
+-- `probe_ring::move_links` meets its contract: in one stretch, or up to the end of the room, over it, and from its start.
+-- Assumes nothing.
+use mathlib.Core.Path.{_∙_}
+use lib.ListN.{length-set}
 use Rattle.probe_ring.specs.Rooms.{moveLink, mendedLink}
 use Rattle.probe_ring.proofs.Moved.{moved-straight, moved-around}
 use borrow.Author.Needs.{needs}

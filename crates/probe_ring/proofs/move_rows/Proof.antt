@@ -1,6 +1,7 @@
+-- `probe_ring::move_rows` meets its contract: in one stretch, or up to the end of the room, over it, and from its start.
+-- Assumes nothing.
 use mathlib.Core.Path.{_∙_}
 use lib.ListN.{length-set}
-use native.Mathlib.Omega.{arith}
 use Rattle.probe_ring.specs.Rooms.{moveRow}
 use Rattle.probe_ring.proofs.Moved.{moved-straight, moved-around}
 use borrow.Author.Needs.{needs}

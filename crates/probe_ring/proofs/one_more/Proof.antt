@@ -1,3 +1,5 @@
+-- `probe_ring::one_more` meets its contract: below the most one more, and at the most it stays.
+-- Assumes nothing.
 use borrow.Author.Tests.{lt-ltb, le-ltb}
 use Rattle.probe_ring.specs.Row.{oneMore}
 use borrow.Author.Needs.{needs}

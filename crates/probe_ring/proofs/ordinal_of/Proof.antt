@@ -1,3 +1,5 @@
+-- `probe_ring::ordinal_of` meets its contract: 0 is none, and any other word one more than the ordinal.
+-- Assumes nothing.
 use mathlib.Core.Path.{ap}
 use borrow.Author.Tests.{eq-eqb, ne-eqb}
 use Rattle.calls.specs.declared.Ordinal.the-variants.{Number}

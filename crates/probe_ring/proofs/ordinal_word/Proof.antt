@@ -1,3 +1,5 @@
+-- `probe_ring::ordinal_word` meets its contract: the arm that binds the ordinal is given that it is a number.
+-- Assumes nothing.
 use mathlib.Core.Path.{ap, sym, _∙_}
 use Prim.Native.Nat.{ℕ, _+_}
 use Rattle.probe_ring.specs.Row.{ordinalWord}

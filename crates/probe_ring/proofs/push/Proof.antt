@@ -1,3 +1,5 @@
+-- `probe_ring::push` meets its contract: the row, the link and the ring are what the definition says (Leaves).
+-- Assumes nothing.
 use Rattle.probe_ring.proofs.Leaves.{pushed-as}
 use borrow.Author.Needs.{needs}
 use Rattle.probe_ring.proofs.push.Statement.{statement}

@@ -1,3 +1,5 @@
+-- `probe_ring::put` meets its contract: the row is the words of the probe.
+-- Assumes nothing.
 use borrow.Author.Needs.{needs}
 use Rattle.probe_ring.proofs.put.Statement.{statement}
 use Rattle.probe_ring.proofs.put.Tie as tie

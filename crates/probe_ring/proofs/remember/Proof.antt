@@ -1,4 +1,5 @@
-use native.Mathlib.Omega.{arith}
+-- `probe_ring::remember` meets its contract: a slot that is found is that of a held probe, so it can be taken out (Leaves).
+-- Assumes nothing.
 use Rattle.chains.specs.Hash.{numberHash}
 use Rattle.probe_ring.specs.Row.{unanswered}
 use Rattle.probe_ring.specs.Rooms.{rooms}

@@ -1,6 +1,7 @@
-use Prim.Native.Nat.{_≤_, _<_, _-_}
-use mathlib.Core.Path.{_≡_, refl, ap}
-use native.Mathlib.Omega.{arith}
+-- `probe_ring::slide_rows` meets its contract: what is left to move gives what the whole move gives (Slides).
+-- Assumes nothing.
+use Prim.Native.Nat.{_-_}
+use mathlib.Core.Path.{_≡_}
 use borrow.Author.Needs.{needs}
 use lib.ListN.{length}
 use Rattle.probe_ring.specs.Rooms.{moveRow}

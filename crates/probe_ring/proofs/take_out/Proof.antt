@@ -1,3 +1,5 @@
+-- `probe_ring::take_out` meets its contract: place, own link, mended links and moved rows are what the definition says (Leaves).
+-- Assumes nothing.
 use mathlib.Core.Path.{refl}
 use native.Mathlib.Omega.{arith}
 use Rattle.probe_ring.specs.Rooms.{rooms}

@@ -1,3 +1,5 @@
+-- `probe_ring::Probe::after_reply` meets its contract: field by field.
+-- Assumes nothing.
 use Rattle.probe_ring.specs.Row.{afterReply}
 use borrow.Author.Needs.{needs}
 use Rattle.probe_ring.proofs.Probe.after_reply.Statement.{statement}

@@ -1,3 +1,5 @@
+-- `probe_ring::Probe::of_words` meets its contract: field by field.
+-- Assumes nothing.
 use Rattle.probe_ring.specs.Row.{probeOf}
 use borrow.Author.Needs.{needs}
 use Rattle.probe_ring.proofs.Probe.of_words.Statement.{statement}

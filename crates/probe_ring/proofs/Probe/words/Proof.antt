@@ -1,3 +1,5 @@
+-- `probe_ring::Probe::words` meets its contract: word by word.
+-- Assumes nothing.
 use Rattle.probe_ring.specs.Row.{wordsOf}
 use borrow.Author.Needs.{needs}
 use Rattle.probe_ring.proofs.Probe.words.Statement.{statement}
