@@ -5,3 +5,4 @@ pub mod Calls
 pub mod LentArray
 pub mod Seen
 pub mod SliceCalls
+pub mod Stored

@@ -57,6 +57,14 @@ passes (Unmarked s) p = choose (eqb (p .sequence) s) (not (p .mark)) true
 unfoldable pub unmark : ℕ → Probe → Probe
 unmark s p = choose (eqb (p .sequence) s) (record { sequence = p .sequence; deadline = p .deadline; mark = false }) p
 
+-- a place past the end of any room
+abbrev pub past : ℕ
+past = 18446744073709551615
+
+-- where a record is stored once a sequence is unmarked: nowhere where it is of another one
+unfoldable pub placeIf : ℕ → Probe → ℕ → ℕ
+placeIf s p at = choose (eqb (p .sequence) s) at past
+
 -- the room once a sequence is unmarked in the first n queued records
 abbrev pub unmarked : List Probe → Ring → ℕ → ℕ → List Probe
 unmarked room ring s zero = room

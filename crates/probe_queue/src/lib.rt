@@ -4,7 +4,7 @@
 ghost use mathlib.Core.Path.{_≡_};
 ghost use Prim.Native.Nat.{_<_, _≤_};
 ghost use lib.ListN.{set, getD};
-ghost use Rattle.probe_queue.specs.Queue.{nil, Held, place, after, queued, leading, passes, unmark, unmarked as unmarkedRoom, popped};
+ghost use Rattle.probe_queue.specs.Queue.{nil, Held, place, after, queued, leading, passes, unmark, placeIf, unmarked as unmarkedRoom, popped};
 ghost use Rattle.scope.specs.Limits.{capacity};
 
 // `Probe`, with its sequence's mark.
@@ -89,6 +89,17 @@ pub fn unmarked(probe: Probe, sequence: u32) -> Probe
     }
 }
 
+// Where a record is stored once a sequence is unmarked: past the end of any room where the record is of another one, so that nothing is stored.
+pub fn place_if(probe: Probe, sequence: u32, at: usize) -> usize
+    ensures { λ r. ⌜ r ≡ placeIf sequence probe at ⌝ }
+{
+    if probe.sequence == sequence {
+        at
+    } else {
+        18446744073709551615
+    }
+}
+
 // The record at a place, `absent` past the end.
 pub fn front(queue: &[Probe], at: usize) -> Probe
     ensures { λ r. ⌜ r ≡ getD (now (queue .entry)) at nil ⌝ }
@@ -138,7 +149,8 @@ pub fn unmark_queued(queue: &mut [Probe], ring: Ring, sequence: u32)
         let at = place_of(ring, i);
         let probe = front(queue, at);
         let changed = unmarked(probe, sequence);
-        push(queue, at, changed);
+        let to = place_if(probe, sequence, at);
+        push(queue, to, changed);
         i = i + 1;
     }
 }

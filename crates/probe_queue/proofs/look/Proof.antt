@@ -1,7 +1,7 @@
 -- `probe_queue::look` meets its contract: a walk of its MIR, by hand. The slice is Copy: each turn hands a copy to `front`. The invariant says that each record passed so far is one that the rule passes.
 -- Assumes nothing.
 use mathlib.Core.Path.{_≡_, refl, sym, ap, subst, _∙_}
-use Prim.Native.Nat.{ℕ, _+_, _-_, _<_, _≤_, _^_, _*_, zero-le}
+use Prim.Native.Nat.{ℕ, _+_, _<_, _≤_, _^_, zero-le, _-_}
 use native.Mathlib.Numerals.{add-one-le, add-one-dec}
 use native.Mathlib.Nat.{not-suc-le-zero}
 use native.Mathlib.Omega.{arith}
@@ -31,7 +31,7 @@ use sound.WpLaws.{fmOf, WpFn-mono}
 use denote.RattleType.{owns}
 use denote.Laws.{Is}
 use denote.Memory.{pointee}
-use denote.Plain.{uint-makes, uint-vals, uint-tells, uint-lawful, bool-lawful}
+use denote.Plain.{uint-makes, uint-lawful, bool-lawful}
 use denote.Builtin.{usize}
 use denote.Ref.{RefT}
 use denote.Slice.{sliceTy, sliceVal, ShrSlice, Room, slice-vals, shr-slice-tells, shr-slice-copy}
@@ -48,7 +48,7 @@ use denote.Exit.{yes}
 use Rattle.probe_queue.specs.declared.Probe.{Probe}
 use Rattle.probe_queue.specs.declared.Ring.{Ring}
 use Rattle.probe_queue.specs.declared.Rule.{Rule}
-use Rattle.probe_queue.specs.Queue.{nil, Held, place, at, passes, leading, tabulate, queued}
+use Rattle.probe_queue.specs.Queue.{nil, Held, place, at, passes, leading, queued}
 use Rattle.probe_queue.proofs.Calls.{asks, calls-plain, calls-with, whiles, unless}
 use Rattle.probe_queue.proofs.Leading.{leads}
 use Rattle.probe_queue.proofs.Probe as P
