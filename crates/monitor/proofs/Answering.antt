@@ -1,7 +1,7 @@
 -- The answers, from what the operations leave.
 -- Assumes nothing.
 use mathlib.Core.Path.{_≡_, ap, _∙_}
-use mathlib.Core.Bool.{Bool, true}
+use mathlib.Core.Bool.{true}
 use mathlib.Core.List.{List}
 use Prim.Native.Nat.{ℕ}
 use lib.ListN.{length, getD}
@@ -12,7 +12,7 @@ use Rattle.monitor.specs.declared.Answer.{Answer}
 use Rattle.monitor.specs.declared.Deadline.{Deadline}
 use Rattle.monitor.specs.Refusals.{refusalOf, refusalOfSent}
 use Rattle.monitor.specs.Operations.{Stand, Leaves, sentIf, replyIf, advanceIf}
-use Rattle.monitor.specs.Answers.{Outcome, Ends, outcome, answered, sentTo, replyTo, advanceTo, deadlineOf}
+use Rattle.monitor.specs.Answers.{Ends, outcome, answered, sentTo, replyTo, advanceTo, deadlineOf}
 use Rattle.monitor.specs.Parts.{deadlineAt}
 
 answers : (refusal : ℕ) (stand : Stand) (refused : ℕ) (next : Monitor) (zs : List Probe) (r : Answer) → refused ≡ refusal → Leaves stand next zs → r ≡ answered refused next → Ends (outcome refusal stand) r zs

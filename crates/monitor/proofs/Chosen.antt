@@ -1,7 +1,7 @@
 -- A choice whose test is known, and tests put together.
 -- Assumes nothing.
-use mathlib.Core.Path.{_≡_, refl, sym, ap, _∙_}
-use mathlib.Core.Bool.{Bool, true, false, not, _&&_, _||_}
+use mathlib.Core.Path.{_≡_, refl, sym, ap}
+use mathlib.Core.Bool.{Bool, true, false, _&&_, _||_}
 use Rattle.probe_queue.specs.Queue.{choose}
 
 pub chosen : {X : Type 0} (t : Bool) (x y : X) → t ≡ true → x ≡ choose t x y

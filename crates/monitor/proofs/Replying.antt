@@ -1,9 +1,9 @@
 -- `reply`: each ring that is looked at lies in the room, and what is popped is what `replyIf` leaves.
 -- Assumes nothing.
 use mathlib.Core.Path.{_≡_, refl, sym, ap, subst, _∙_}
-use mathlib.Core.Bool.{Bool, true, false, not, _&&_}
+use mathlib.Core.Bool.{Bool, true, false, not}
 use mathlib.Core.List.{List, [], _∷_}
-use Prim.Native.Nat.{ℕ, zero, suc, _+_, _<_, _≤_, zero-le, suc-le-suc}
+use Prim.Native.Nat.{ℕ, suc, _+_, _<_, _≤_, zero-le, suc-le-suc}
 use native.Mathlib.Nat.{le-refl, le-trans, lt-of-le-of-lt}
 use native.Mathlib.Numerals.{add-one-le}
 use native.Mathlib.Omega.{arith}
@@ -18,7 +18,7 @@ use Rattle.probe_queue.specs.Queue.{choose, Held, queued, leading, passes, afte
 use Rattle.monitor.specs.declared.Monitor.{Monitor}
 use Rattle.monitor.specs.Refusals.{served, refusalOf}
 use Rattle.monitor.specs.States.{hears}
-use Rattle.monitor.specs.Operations.{Leaves, ascending, repeated, least, standing, searched, taken, replyOn, unchanged, replyIf}
+use Rattle.monitor.specs.Operations.{Leaves, ascending, repeated, least, standing, searched, taken, replyOn, replyIf}
 use Rattle.monitor.specs.Parts.{hearing, ringIf, nearIf, searchIn, takenOf, settled}
 use Rattle.monitor.proofs.Chosen.{chosen, passed, and-both}
 use Rattle.monitor.proofs.Served.{served-zero}

@@ -8,11 +8,11 @@ use native.Mathlib.Nat.{le-refl, not-suc-le-zero, le-of-suc-le-suc}
 use lib.ListN.{length, set}
 use lib.Dec.{ltb}
 use Rattle.probe_queue.specs.declared.Probe.{Probe}
-use Rattle.probe_queue.specs.Queue.{choose, place}
+use Rattle.probe_queue.specs.Queue.{place}
 use Rattle.monitor.specs.declared.Monitor.{Monitor}
 use Rattle.monitor.specs.Refusals.{served, refusalOfSent, passing}
 use Rattle.monitor.specs.Operations.{Stand, Leaves, queues, starts, sentOn, unchanged, sentIf}
-use Rattle.monitor.specs.Parts.{queueing, backOf, probeOf, queuedBy}
+use Rattle.monitor.specs.Parts.{backOf, probeOf, queuedBy}
 use Rattle.monitor.proofs.Chosen.{chosen, passed, and-left, and-none}
 use Rattle.monitor.proofs.Served.{serves-sent-none, served-zero}
 

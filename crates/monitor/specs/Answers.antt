@@ -22,7 +22,7 @@ abbrev pub number : Answer → ℕ
 number (Served m) = 0
 number (Refused n) = n
 
--- the answer with a number
+-- the answer with a number: served exactly at 0. The promises use it; `number` takes it apart again
 unfoldable pub answered : ℕ → Monitor → Answer
 answered refusal m = choose (eqb refusal 0) (Served m) (Refused refusal)
 

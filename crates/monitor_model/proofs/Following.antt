@@ -3,10 +3,10 @@
 use mathlib.Core.Path.{_≡_, refl, sym, ap, subst, _∙_}
 use mathlib.Core.Bool.{Bool, true, false, not, _&&_, _||_}
 use mathlib.Core.List.{List, [], _∷_, map}
-use Prim.Native.Nat.{ℕ, zero, suc, _+_, _-_, _%_, _<_, _≤_, _^_, zero-le}
+use Prim.Native.Nat.{ℕ, zero, suc, _+_, _%_, _≤_, zero-le, _-_}
 use native.Mathlib.Nat.{add-zero, mod-eq-of-lt}
 use native.Mathlib.Omega.{arith}
-use lib.ListN.{length, getD, take as taking, drop}
+use lib.ListN.{length, getD}
 use lib.Dec.{eqb, leb, ltb}
 use borrow.Author.Tests.{eq-eqb, ne-eqb, lt-leb, le-ltb, eqb-true, ltb-true}
 use Rattle.scope.specs.Limits.{capacity}
@@ -18,18 +18,16 @@ use Rattle.monitor.specs.declared.State.the-variants.{Idle, Active}
 use Rattle.monitor.specs.declared.Monitor.{Monitor}
 use Rattle.monitor.specs.declared.Summary.{Summary}
 use Rattle.monitor.specs.declared.Deadline.the-variants.{Absent, At, Refused as Denied}
-use Rattle.monitor.specs.declared.Answer.{Answer}
 use Rattle.monitor.specs.declared.Answer.the-variants.{Served, Refused}
 use Rattle.monitor.specs.Refusals.{misplaced, counted, passing, refusalOf, refusalOfSent, served}
-use Rattle.monitor.specs.States.{mostLosses, same, losing, enters, transition, loses, hears, stops}
-use Rattle.monitor.specs.Operations.{Stand, pops, due, taken, searched, queues, starts, sentOn, replyOn, advanceOn, idleOn, unchanged, sentIf, replyIf, advanceIf}
+use Rattle.monitor.specs.States.{mostLosses, same, losing, enters, loses, hears, stops}
+use Rattle.monitor.specs.Operations.{Stand, pops, due, queues, starts, sentOn, replyOn, advanceOn, idleOn, unchanged, sentIf, replyIf, advanceIf}
 use Rattle.monitor.specs.Answers.{outcome, answered, sentTo, replyTo, advanceTo, idleTo, deadlineOf}
 use Rattle.monitor.proofs.Served.{serves-sent-none, roomy}
-use Rattle.monitor_model.specs.Plain.{Sent, Marks, Plain, Left, Advanced, popTo, hear, reply, sent, start, queue, advance, advanceBy, advancing as plainAdvancing, idle, deadline, refusal, sentRefusal}
+use Rattle.monitor_model.specs.Plain.{Marks, Plain, Left, Advanced, popTo, hear, reply, sent, start, queue, advance, advanceBy, idle, deadline, refusal, sentRefusal}
 use Rattle.monitor_model.specs.Playing.{Call, sending, replying, advancing, idling, PlainStep, RingStep, serve, playPlain, take, playRing, probeOf}
 use Rattle.monitor_model.proofs.Lists.{tabulate-length, leading-le}
-use Rattle.monitor_model.proofs.Rising.{Rises, rises-drop}
-use Rattle.monitor_model.proofs.Marks.{removes}
+use Rattle.monitor_model.proofs.Rising.{rises-drop}
 use Rattle.monitor_model.proofs.Losses.{losesOne, counts, still-few}
 use Rattle.monitor_model.proofs.Popping.{leaves, pops-to, loses-and-leaves, pops-due}
 use Rattle.monitor_model.proofs.Standing.{seen, Kept, Next, popped-next, pushed-next}

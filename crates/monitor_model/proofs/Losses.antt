@@ -2,13 +2,12 @@
 -- Assumes nothing.
 use mathlib.Core.Path.{_≡_, refl, sym, ap, subst, _∙_}
 use mathlib.Core.Bool.{Bool, true, false}
-use Prim.Native.Nat.{ℕ, zero, suc, _+_, _<_, _≤_}
+use Prim.Native.Nat.{ℕ, zero, suc, _+_, _≤_}
 use native.Mathlib.Omega.{arith}
 use lib.Dec.{leb, ltb}
-use borrow.Author.Tests.{leb-true, leb-false, ltb-true, ltb-false, le-leb}
+use borrow.Author.Tests.{leb-true, leb-false, ltb-true, ltb-false}
 use Rattle.probe_queue.specs.Queue.{choose}
-use Rattle.monitor.specs.declared.State.{State}
-use Rattle.monitor.specs.declared.State.the-variants.{Idle, Active, Failed}
+use Rattle.monitor.specs.declared.State.the-variants.{Failed}
 use Rattle.monitor.specs.declared.Summary.{Summary}
 use Rattle.monitor.specs.States.{mostLosses, same, losing, enters, transition, failing, saturated, loses}
 use Rattle.monitor_model.specs.Plain.{lose}

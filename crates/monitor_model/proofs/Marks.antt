@@ -3,11 +3,11 @@
 use mathlib.Core.Path.{_≡_, refl, sym, ap, subst, _∙_}
 use mathlib.Core.Bool.{Bool, true, false, not}
 use mathlib.Core.List.{List, [], _∷_, _++_, map}
-use Prim.Native.Nat.{ℕ, zero, suc, _+_, _<_, _≤_, zero-le, suc-le-suc}
+use Prim.Native.Nat.{ℕ, suc, _+_, _<_, _≤_, zero-le, suc-le-suc}
 use native.Mathlib.Omega.{arith}
-use lib.ListN.{length, take, drop}
-use lib.Dec.{T, eqb, leb, ltb, leb·suc-suc}
-use borrow.Author.Tests.{eqb-true, eqb-false, ne-eqb, eq-eqb, ltb-false, lt-ltb}
+use lib.ListN.{length, take}
+use lib.Dec.{T, eqb, ltb, leb·suc-suc}
+use borrow.Author.Tests.{eqb-true, ne-eqb, ltb-false, lt-ltb}
 use Rattle.probe_queue.specs.declared.Probe.{Probe}
 use Rattle.probe_queue.specs.declared.Rule.the-variants.{Below, Until, Unmarked}
 use Rattle.probe_queue.specs.Queue.{choose, leading, passes, unmark}

@@ -2,21 +2,20 @@
 -- and so are the summary, the queued probes and the set of marked sequences that stand after them. The room may have held anything.
 -- Assumes nothing.
 use mathlib.Core.Path.{_≡_, refl, sym, ap, subst, _∙_}
-use mathlib.Core.Bool.{Bool, true, false}
-use mathlib.Core.List.{List, [], _∷_, map}
-use Prim.Native.Nat.{ℕ, _-_, zero-le}
+use mathlib.Core.Bool.{false}
+use mathlib.Core.List.{List, [], _∷_}
+use Prim.Native.Nat.{ℕ, zero-le, _-_}
 use native.Mathlib.Omega.{arith}
 use lib.ListN.{length}
 use Rattle.scope.specs.Limits.{capacity}
 use Rattle.probe_queue.specs.declared.Probe.{Probe}
-use Rattle.monitor.specs.declared.Summary.{Summary}
 use Rattle.monitor.specs.Operations.{Stand, fresh}
 use Rattle.monitor.specs.Answers.{deadlineOf}
-use Rattle.monitor_model.specs.Plain.{Sent, Marks, Plain, new, deadline}
+use Rattle.monitor_model.specs.Plain.{Marks, Plain, new, deadline}
 use Rattle.monitor_model.specs.Playing.{Call, playPlain, playRing, plainNumbers, ringNumbers, plainAfter, ringAfter, Shows}
 use Rattle.monitor_model.proofs.Rising.{rises-drop}
 use Rattle.monitor_model.proofs.Standing.{seen, Kept, Next}
-use Rattle.monitor_model.proofs.Following.{same-deadline, Agrees, agrees}
+use Rattle.monitor_model.proofs.Following.{same-deadline, agrees}
 
 -- a fresh monitor with any room of its size
 pub begins : (threshold timeout : ℕ) (room : List Probe) → length room ≡ capacity → Kept (record { monitor = fresh threshold timeout; room = room }) (λ s. false)

@@ -1,9 +1,9 @@
 -- Pops of the plain model, on the list of probes that queued records show.
 -- Assumes nothing.
-use mathlib.Core.Path.{_≡_, refl, sym, ap, subst, _∙_}
+use mathlib.Core.Path.{_≡_, refl}
 use mathlib.Core.Bool.{Bool, true, false, not}
-use mathlib.Core.List.{List, [], _∷_, _++_, map}
-use Prim.Native.Nat.{ℕ, zero, suc, _<_, _≤_}
+use mathlib.Core.List.{List, [], _∷_, map}
+use Prim.Native.Nat.{ℕ, suc, _<_}
 use native.Mathlib.Nat.{not-suc-le-zero, le-of-suc-le-suc}
 use lib.ListN.{length, take, drop}
 use lib.Dec.{eqb, leb}
@@ -11,7 +11,7 @@ use Rattle.probe_queue.specs.declared.Probe.{Probe}
 use Rattle.probe_queue.specs.declared.Rule.the-variants.{Due, Until}
 use Rattle.probe_queue.specs.Queue.{choose, leading, passes}
 use Rattle.monitor.specs.declared.Summary.{Summary}
-use Rattle.monitor_model.specs.Plain.{Sent, Marks, remove, Left, popTo, Advanced, lose, advancing}
+use Rattle.monitor_model.specs.Plain.{Marks, remove, Left, popTo, Advanced, lose, advancing}
 use Rattle.monitor_model.specs.Playing.{probeOf}
 use Rattle.monitor_model.proofs.Losses.{losesOne}
 use Rattle.monitor_model.proofs.Marks.{removes}

@@ -3,18 +3,18 @@
 use mathlib.Core.Path.{_≡_, refl, sym, ap, subst, _∙_}
 use mathlib.Core.Bool.{Bool, true, false}
 use mathlib.Core.List.{List, [], _∷_, _++_, map}
-use Prim.Native.Nat.{ℕ, zero, suc, _+_, _-_, _%_, _<_, _≤_, zero-le}
+use Prim.Native.Nat.{ℕ, zero, suc, _+_, _%_, _<_, _≤_, _-_}
 use native.Mathlib.Nat.{mod-lt, mod-eq-of-lt, mod-eq-sub-mod, mod-add-mod, add-assoc}
 use native.Mathlib.Numerals.{add-one}
 use native.Mathlib.Omega.{arith}
-use lib.ListN.{length, getD, set, drop, take, length-set}
+use lib.ListN.{length, getD, set, drop, length-set}
 use lib.Seq.{getD-set-same, getD-set-other}
-use lib.Dec.{T, eqb, leb, ltb, lt→ltb}
-use borrow.Author.Tests.{lt-ltb, le-ltb, ltb-true, ltb-false, eqb-true, eqb-false}
+use lib.Dec.{eqb, ltb}
+use borrow.Author.Tests.{ltb-true, ltb-false, eqb-true, eqb-false}
 use Rattle.scope.specs.Limits.{capacity}
 use Rattle.probe_queue.specs.declared.Probe.{Probe}
 use Rattle.probe_queue.specs.declared.Ring.{Ring}
-use Rattle.probe_queue.specs.Queue.{choose, nil, Held, place, at, tabulate, queued, unmark, unmarked, after, popped}
+use Rattle.probe_queue.specs.Queue.{choose, nil, place, at, tabulate, queued, unmark, unmarked, after, popped}
 use Rattle.monitor_model.proofs.Lists.{tabulate-cong, tabulate-snoc, drop-tabulate, map-tabulate}
 
 folds : (x : ℕ) (t : Bool) → ltb x capacity ≡ t → x < capacity + capacity → x % capacity ≡ choose t x (x - capacity)

@@ -1,12 +1,11 @@
 -- Sequences that ascend strictly: none stands twice, and a search can stop early.
 -- Assumes nothing.
 use mathlib.Core.Path.{_≡_, refl, sym, ap, subst, _∙_}
-use mathlib.Core.Bool.{Bool, true, false}
-use mathlib.Core.List.{List, [], _∷_, _++_, map}
-use Prim.Native.Nat.{ℕ, zero, suc, _+_, _-_, _<_, _≤_}
+use mathlib.Core.List.{List, [], _∷_, _++_}
+use Prim.Native.Nat.{ℕ, zero, suc, _+_, _<_, _≤_, _-_}
 use native.Mathlib.Omega.{arith}
-use lib.ListN.{length, drop}
-use lib.Seq.{drop-drop, drop-nil}
+use lib.ListN.{drop}
+use lib.Seq.{drop-drop}
 
 -- every number of a list is above one
 abbrev pub Above : ℕ → List ℕ → Type 0

@@ -3,17 +3,16 @@
 use mathlib.Core.Path.{_≡_, refl, sym, ap, subst, _∙_}
 use mathlib.Core.Bool.{Bool, true, false}
 use mathlib.Core.List.{List, [], _∷_, _++_, map}
-use Prim.Native.Nat.{ℕ, zero, suc, _+_, _-_, _%_, _<_, _≤_, zero-le}
-use native.Mathlib.Nat.{mod-lt, le-refl}
+use Prim.Native.Nat.{ℕ, zero, suc, _+_, _<_, _≤_, _-_}
+use native.Mathlib.Nat.{mod-lt}
 use native.Mathlib.Omega.{arith}
 use lib.ListN.{length, take, drop, set, take-append-drop, length-set}
 use lib.Seq.{drop-append-le, drop-append-seam}
 use lib.Dec.{eqb, leb, ltb}
-use borrow.Author.Tests.{leb-true, leb-false, ltb-true, eqb-true}
+use borrow.Author.Tests.{leb-true, leb-false, ltb-true}
 use Rattle.scope.specs.Limits.{capacity}
 use Rattle.probe_queue.specs.declared.Probe.{Probe}
-use Rattle.probe_queue.specs.declared.Ring.{Ring}
-use Rattle.probe_queue.specs.Queue.{choose, Held, place, at, tabulate, queued, unmark, after, popped}
+use Rattle.probe_queue.specs.Queue.{choose, Held, place, at, queued, unmark, after, popped}
 use Rattle.monitor.specs.declared.Monitor.{Monitor}
 use Rattle.monitor.specs.declared.Summary.{Summary}
 use Rattle.monitor.specs.States.{mostLosses}
@@ -21,8 +20,8 @@ use Rattle.monitor.specs.Operations.{Stand, ascending, repeated, pops, least, r
 use Rattle.monitor_model.specs.Plain.{Sent, Marks, Plain, insert, queue}
 use Rattle.monitor_model.specs.Playing.{probeOf, marked}
 use Rattle.monitor_model.proofs.Lists.{tabulate-length, take-tabulate}
-use Rattle.monitor_model.proofs.Rings.{pushes, unmarksAll, unmark-sequence, unmark-deadline, popped-long, pops-unmark, drops}
-use Rattle.monitor_model.proofs.Rising.{Rises, Last, rises-drop, rises-later, last-drop, last-snoc, rises-snoc}
+use Rattle.monitor_model.proofs.Rings.{pushes, unmarksAll, unmark-sequence, popped-long, pops-unmark, drops}
+use Rattle.monitor_model.proofs.Rising.{Rises, Last, rises-later, last-drop, last-snoc, rises-snoc}
 use Rattle.monitor_model.proofs.Marks.{seqs, removes, pops-slow, pops-fast, inserts}
 
 -- the plain state that a monitor with its room shows, with a set of marks

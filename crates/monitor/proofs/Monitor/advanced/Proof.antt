@@ -1,7 +1,6 @@
 -- `monitor::Monitor::advanced` meets its contract: what its callees ensure.
 -- Assumes nothing.
-use mathlib.Core.Path.{_≡_, refl, sym, ap, _∙_}
-use mathlib.Core.Bool.{Bool, true, false, not, _&&_, _||_}
+use mathlib.Core.Path.{sym, ap, _∙_}
 use Rattle.monitor.specs.declared.Summary.{Summary}
 use borrow.Author.Tests.{not-true, not-false}
 use Rattle.monitor.proofs.Chosen.{chosen, passed}
@@ -9,7 +8,6 @@ use Rattle.monitor.proofs.Served.{serves-none, served-zero}
 use Rattle.monitor.specs.Refusals.{refusalOf}
 use Rattle.monitor.specs.States.{loses}
 use Rattle.monitor.specs.Operations.{standing}
-use Rattle.monitor.specs.Parts.{settled}
 use borrow.Author.Needs.{needs}
 use Rattle.monitor.proofs.Monitor.advanced.Statement.{statement}
 use Rattle.monitor.proofs.Monitor.advanced.Tie as tie

@@ -1,13 +1,11 @@
 -- `monitor::Monitor::back` meets its contract: a probe that is stored has its place in the room.
 -- Assumes nothing.
-use mathlib.Core.Path.{_≡_, refl, sym, ap, _∙_}
-use mathlib.Core.Bool.{Bool, true, false, not, _&&_, _||_}
+use mathlib.Core.Path.{sym, _∙_}
 use borrow.Author.Tests.{lt-ltb, le-ltb}
-use native.Mathlib.Nat.{le-of-lt}
 use Rattle.monitor.proofs.Chosen.{chosen, passed, and-left, and-none}
-use Rattle.monitor.proofs.Served.{serves-sent-none, served-zero, placed, roomy}
-use Rattle.monitor.specs.Refusals.{served, refusalOfSent}
-use Rattle.monitor.specs.Parts.{backOf, queueing}
+use Rattle.monitor.proofs.Served.{serves-sent-none, served-zero, placed}
+use Rattle.monitor.specs.Refusals.{refusalOfSent}
+use Rattle.monitor.specs.Parts.{backOf}
 use borrow.Author.Needs.{needs}
 use Rattle.monitor.proofs.Monitor.back.Statement.{statement}
 use Rattle.monitor.proofs.Monitor.back.Tie as tie

@@ -1,7 +1,6 @@
 -- `monitor::Monitor::deadline_of` meets its contract: by the tests.
 -- Assumes nothing.
-use mathlib.Core.Path.{_≡_, refl, sym, ap, _∙_}
-use mathlib.Core.Bool.{Bool, true, false, not, _&&_, _||_}
+use mathlib.Core.Path.{sym, _∙_}
 use borrow.Author.Tests.{eq-eqb, ne-eqb}
 use Rattle.monitor.proofs.Chosen.{chosen, passed}
 use Rattle.monitor.specs.Parts.{deadlineAt}

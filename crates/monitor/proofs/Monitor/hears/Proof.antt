@@ -1,7 +1,6 @@
 -- `monitor::Monitor::hears` meets its contract: a call that is not served hears nothing.
 -- Assumes nothing.
-use mathlib.Core.Path.{_≡_, refl, sym, ap, _∙_}
-use mathlib.Core.Bool.{Bool, true, false, not, _&&_, _||_}
+use mathlib.Core.Path.{sym, _∙_}
 use Rattle.monitor.proofs.Chosen.{and-left, and-none}
 use Rattle.monitor.specs.Parts.{hearing}
 use borrow.Author.Needs.{needs}

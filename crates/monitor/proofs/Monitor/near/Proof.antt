@@ -1,8 +1,7 @@
 -- `monitor::Monitor::near` meets its contract: by the test.
 -- Assumes nothing.
-use mathlib.Core.Path.{_≡_, refl, sym, ap, _∙_}
-use mathlib.Core.Bool.{Bool, true, false, not, _&&_, _||_}
-use Prim.Native.Nat.{ℕ, _+_}
+use mathlib.Core.Path.{sym, ap, _∙_}
+use Prim.Native.Nat.{ℕ}
 use Rattle.probe_queue.specs.declared.Ring.{Ring}
 use Rattle.monitor.proofs.Chosen.{chosen, passed}
 use Rattle.monitor.specs.Parts.{nearIf}

@@ -1,13 +1,12 @@
 -- `monitor::Monitor::new` meets its contract: by the test.
 -- Assumes nothing.
-use mathlib.Core.Path.{_≡_, refl, sym, ap, _∙_}
-use mathlib.Core.Bool.{Bool, true, false, not, _&&_, _||_}
+use mathlib.Core.Path.{ap}
+use mathlib.Core.Bool.{false}
 use Prim.Native.Nat.{ℕ}
 use borrow.Author.Tests.{eq-eqb, ne-eqb}
 use Rattle.monitor.proofs.Chosen.{chosen, passed}
 use Rattle.monitor.specs.declared.Monitor.{Monitor}
 use Rattle.monitor.specs.declared.State.the-variants.{Idle}
-use borrow.Author.Needs.{needs}
 use Rattle.monitor.proofs.Monitor.new.Statement.{statement}
 use Rattle.monitor.proofs.Monitor.new.Tie as tie
 

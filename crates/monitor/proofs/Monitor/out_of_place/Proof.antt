@@ -1,10 +1,9 @@
 -- `monitor::Monitor::out_of_place` meets its contract: how the three tests are put together.
 -- Assumes nothing.
-use mathlib.Core.Path.{_≡_, refl, sym, ap, _∙_}
-use mathlib.Core.Bool.{Bool, true, false, not, _&&_, _||_}
+use mathlib.Core.Path.{sym, ap, _∙_}
+use mathlib.Core.Bool.{not}
 use borrow.Author.Tests.{eq-eqb, ne-eqb, le-leb, lt-leb}
 use Rattle.monitor.proofs.Chosen.{or-left, or-right}
-use borrow.Author.Needs.{needs}
 use Rattle.monitor.proofs.Monitor.out_of_place.Statement.{statement}
 use Rattle.monitor.proofs.Monitor.out_of_place.Tie as tie
 

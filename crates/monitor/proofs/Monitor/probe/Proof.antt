@@ -1,14 +1,13 @@
 -- `monitor::Monitor::probe` meets its contract: by the test.
 -- Assumes nothing.
-use mathlib.Core.Path.{_≡_, refl, sym, ap, _∙_}
-use mathlib.Core.Bool.{Bool, true, false, not, _&&_, _||_}
+use mathlib.Core.Path.{ap}
+use mathlib.Core.Bool.{true}
 use native.Mathlib.Omega.{arith}
 use Prim.Native.Nat.{ℕ, _+_, _^_}
 use Rattle.probe_queue.specs.declared.Probe.{Probe}
 use borrow.Author.Tests.{le-leb, lt-leb}
 use Rattle.monitor.proofs.Chosen.{chosen, passed}
 use Rattle.monitor.specs.Parts.{probeOf}
-use borrow.Author.Needs.{needs}
 use Rattle.monitor.proofs.Monitor.probe.Statement.{statement}
 use Rattle.monitor.proofs.Monitor.probe.Tie as tie
 

@@ -1,7 +1,7 @@
 -- `monitor::Monitor::queued` meets its contract: by the tests.
 -- Assumes nothing.
 use mathlib.Core.Path.{_≡_, refl, sym, ap, _∙_}
-use mathlib.Core.Bool.{Bool, true, false, not, _&&_, _||_}
+use mathlib.Core.Bool.{true}
 use native.Mathlib.Omega.{arith}
 use Prim.Native.Nat.{ℕ, zero, suc, _+_, _<_}
 use Rattle.monitor.specs.declared.Monitor.{Monitor}

@@ -1,7 +1,6 @@
 -- `monitor::Monitor::refusal` meets its contract: each test says which number is the first that holds.
 -- Assumes nothing.
-use mathlib.Core.Path.{_≡_, refl, sym, ap, _∙_}
-use mathlib.Core.Bool.{Bool, true, false, not, _&&_, _||_}
+use mathlib.Core.Path.{sym, _∙_}
 use Rattle.monitor.proofs.Chosen.{chosen, passed}
 use Rattle.monitor.specs.Refusals.{refusalOf}
 use borrow.Author.Needs.{needs}

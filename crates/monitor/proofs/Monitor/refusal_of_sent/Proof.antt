@@ -1,7 +1,6 @@
 -- `monitor::Monitor::refusal_of_sent` meets its contract: each test says which number is the first that holds.
 -- Assumes nothing.
-use mathlib.Core.Path.{_≡_, refl, sym, ap, _∙_}
-use mathlib.Core.Bool.{Bool, true, false, not, _&&_, _||_}
+use mathlib.Core.Path.{sym, _∙_}
 use native.Mathlib.Omega.{arith}
 use Prim.Native.Nat.{_+_, _^_}
 use borrow.Author.Tests.{le-leb, lt-leb, lt-ltb, le-ltb}

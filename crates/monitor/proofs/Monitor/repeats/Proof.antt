@@ -1,7 +1,6 @@
 -- `monitor::Monitor::repeats` meets its contract: by the test.
 -- Assumes nothing.
-use mathlib.Core.Path.{_≡_, refl, sym, ap, _∙_}
-use mathlib.Core.Bool.{Bool, true, false, not, _&&_, _||_}
+use mathlib.Core.Path.{sym, _∙_}
 use Rattle.monitor.proofs.Chosen.{chosen, passed}
 use borrow.Author.Needs.{needs}
 use Rattle.monitor.proofs.Monitor.repeats.Statement.{statement}

@@ -1,14 +1,13 @@
 -- `monitor::Monitor::replied` meets its contract: what its callees ensure.
 -- Assumes nothing.
-use mathlib.Core.Path.{_≡_, refl, sym, ap, _∙_}
-use mathlib.Core.Bool.{Bool, true, false, not, _&&_, _||_}
+use mathlib.Core.Path.{sym, ap, _∙_}
 use Rattle.monitor.specs.declared.Summary.{Summary}
 use borrow.Author.Tests.{not-true, not-false}
 use Rattle.monitor.proofs.Chosen.{chosen, passed, and-both}
 use Rattle.monitor.proofs.Served.{serves-none, served-zero}
 use Rattle.monitor.specs.Refusals.{served, refusalOf}
 use Rattle.monitor.specs.Operations.{standing}
-use Rattle.monitor.specs.Parts.{hearing, settled}
+use Rattle.monitor.specs.Parts.{hearing}
 use borrow.Author.Needs.{needs}
 use Rattle.monitor.proofs.Monitor.replied.Statement.{statement}
 use Rattle.monitor.proofs.Monitor.replied.Tie as tie

@@ -1,10 +1,7 @@
 -- `monitor::Monitor::ring_if` meets its contract: by the test.
 -- Assumes nothing.
-use mathlib.Core.Path.{_≡_, refl, sym, ap, _∙_}
-use mathlib.Core.Bool.{Bool, true, false, not, _&&_, _||_}
 use Rattle.monitor.proofs.Chosen.{chosen, passed}
 use Rattle.monitor.specs.Parts.{ringIf}
-use borrow.Author.Needs.{needs}
 use Rattle.monitor.proofs.Monitor.ring_if.Statement.{statement}
 use Rattle.monitor.proofs.Monitor.ring_if.Tie as tie
 

@@ -1,12 +1,10 @@
 -- `monitor::Monitor::run_with` meets its contract: by the tests.
 -- Assumes nothing.
-use mathlib.Core.Path.{_≡_, refl, sym, ap, _∙_}
-use mathlib.Core.Bool.{Bool, true, false, not, _&&_, _||_}
+use mathlib.Core.Path.{ap, _∙_}
 use native.Mathlib.Omega.{arith}
 use Prim.Native.Nat.{ℕ, _+_}
 use borrow.Author.Tests.{eq-eqb, ne-eqb, lt-ltb, le-ltb, le-leb, lt-leb}
 use Rattle.monitor.proofs.Chosen.{chosen, passed}
-use borrow.Author.Needs.{needs}
 use Rattle.monitor.proofs.Monitor.run_with.Statement.{statement}
 use Rattle.monitor.proofs.Monitor.run_with.Tie as tie
 

@@ -1,7 +1,6 @@
 -- `monitor::Monitor::serves_sent` meets its contract: a call that does not go on is not served.
 -- Assumes nothing.
-use mathlib.Core.Path.{_≡_, refl, sym, ap, _∙_}
-use mathlib.Core.Bool.{Bool, true, false, not, _&&_, _||_}
+use mathlib.Core.Path.{sym, ap, _∙_}
 use Prim.Native.Nat.{ℕ}
 use lib.Dec.{eqb}
 use Rattle.monitor.proofs.Chosen.{and-left, and-none}

@@ -1,7 +1,6 @@
 -- `monitor::Summary::entered` meets its contract: in each arm the state is known, and `enters` computes.
 -- Assumes nothing.
-use mathlib.Core.Path.{_≡_, refl, sym, ap, _∙_}
-use mathlib.Core.Bool.{Bool, true, false, not, _&&_, _||_}
+use mathlib.Core.Path.{sym, ap}
 use native.Mathlib.Omega.{arith}
 use Rattle.monitor.specs.declared.State.{State}
 use Rattle.monitor.specs.States.{enters}

@@ -1,10 +1,8 @@
 -- `monitor::Summary::full` meets its contract: how the three tests are put together.
 -- Assumes nothing.
-use mathlib.Core.Path.{_≡_, refl, sym, ap, _∙_}
-use mathlib.Core.Bool.{Bool, true, false, not, _&&_, _||_}
+use mathlib.Core.Path.{sym, _∙_}
 use borrow.Author.Tests.{le-leb, lt-leb}
 use Rattle.monitor.proofs.Chosen.{or-left, or-right}
-use borrow.Author.Needs.{needs}
 use Rattle.monitor.proofs.Summary.full.Statement.{statement}
 use Rattle.monitor.proofs.Summary.full.Tie as tie
 

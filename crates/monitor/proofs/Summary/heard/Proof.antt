@@ -1,7 +1,6 @@
 -- `monitor::Summary::heard` meets its contract: what its callees ensure.
 -- Assumes nothing.
-use mathlib.Core.Path.{_≡_, refl, sym, ap, _∙_}
-use mathlib.Core.Bool.{Bool, true, false, not, _&&_, _||_}
+use mathlib.Core.Path.{ap, _∙_}
 use Rattle.monitor.specs.declared.State.the-variants.{Active}
 use Rattle.monitor.specs.Refusals.{counted}
 use Rattle.monitor.specs.States.{transition}

@@ -1,12 +1,10 @@
 -- `monitor::Summary::stopped` meets its contract: by the tests.
 -- Assumes nothing.
-use mathlib.Core.Path.{_≡_, refl, sym, ap, _∙_}
-use mathlib.Core.Bool.{Bool, true, false, not, _&&_, _||_}
+use mathlib.Core.Path.{sym, _∙_}
 use native.Mathlib.Omega.{arith}
 use borrow.Author.Tests.{not-true, not-false}
 use Rattle.monitor.proofs.Chosen.{chosen, passed}
 use Rattle.monitor.proofs.Served.{uncounted}
-use Rattle.monitor.specs.States.{stops}
 use borrow.Author.Needs.{needs}
 use Rattle.monitor.proofs.Summary.stopped.Statement.{statement}
 use Rattle.monitor.proofs.Summary.stopped.Tie as tie

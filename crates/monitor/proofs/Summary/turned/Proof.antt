@@ -1,9 +1,7 @@
 -- `monitor::Summary::turned` meets its contract: by the test.
 -- Assumes nothing.
-use mathlib.Core.Path.{_≡_, refl, sym, ap, _∙_}
-use mathlib.Core.Bool.{Bool, true, false, not, _&&_, _||_}
+use mathlib.Core.Path.{sym, _∙_}
 use Rattle.monitor.proofs.Chosen.{chosen, passed}
-use Rattle.monitor.specs.States.{transition}
 use borrow.Author.Needs.{needs}
 use Rattle.monitor.proofs.Summary.turned.Statement.{statement}
 use Rattle.monitor.proofs.Summary.turned.Tie as tie

@@ -1,7 +1,6 @@
 -- `monitor::notifying::same_state` meets its contract: in each arm both states are known, and `same` computes.
 -- Assumes nothing.
-use mathlib.Core.Path.{_≡_, refl, sym, ap, _∙_}
-use mathlib.Core.Bool.{Bool, true, false, not, _&&_, _||_}
+use mathlib.Core.Path.{sym, ap, _∙_}
 use Rattle.monitor.specs.declared.State.{State}
 use Rattle.monitor.specs.declared.State.the-variants.{Idle, Active, Failed}
 use Rattle.monitor.specs.States.{same}

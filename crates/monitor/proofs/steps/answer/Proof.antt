@@ -1,11 +1,8 @@
 -- `monitor::steps::answer` meets its contract: by the test.
 -- Assumes nothing.
-use mathlib.Core.Path.{_≡_, refl, sym, ap, _∙_}
-use mathlib.Core.Bool.{Bool, true, false, not, _&&_, _||_}
 use borrow.Author.Tests.{eq-eqb, ne-eqb}
 use Rattle.monitor.proofs.Chosen.{chosen, passed}
 use Rattle.monitor.specs.Answers.{answered}
-use borrow.Author.Needs.{needs}
 use Rattle.monitor.proofs.steps.answer.Statement.{statement}
 use Rattle.monitor.proofs.steps.answer.Tie as tie
 

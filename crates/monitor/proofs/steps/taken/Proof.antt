@@ -1,12 +1,9 @@
 -- `monitor::steps::taken` meets its contract: by the test.
 -- Assumes nothing.
-use mathlib.Core.Path.{_≡_, refl, sym, ap, _∙_}
-use mathlib.Core.Bool.{Bool, true, false, not, _&&_, _||_}
 use native.Mathlib.Omega.{arith}
 use borrow.Author.Tests.{lt-ltb, le-ltb}
 use Rattle.monitor.proofs.Chosen.{chosen, passed}
 use Rattle.monitor.specs.Parts.{takenOf}
-use borrow.Author.Needs.{needs}
 use Rattle.monitor.proofs.steps.taken.Statement.{statement}
 use Rattle.monitor.proofs.steps.taken.Tie as tie
 
