@@ -29,13 +29,13 @@ use std::{
 };
 
 use cover::Cover;
-use part::Part;
+use part::{Part, Script};
 use random::Random;
 
 /// The seed of the fixed list that the repository keeps.
 const SAMPLE_SEED: u64 = 20_261_027;
 
-const USAGE: &str = "usage: compare play START SEED SECONDS PART..   compare sample CRATES PART..   compare reach SEED PART..   compare parts";
+const USAGE: &str = "usage: compare play START SEED SECONDS PART..   compare sample CRATES PART..   compare round CRATES SEED PART..   compare reach SEED PART..   compare parts";
 
 fn main() {
     let args: Vec<String> = env::args().collect();
@@ -48,7 +48,13 @@ fn main() {
             chosen(&args[3..]).for_each(|part| reach(part, seed));
         }
         Some("sample") if args.len() > 3 => {
-            chosen(&args[3..]).for_each(|part| sample(part, &args[2]));
+            let made = |part: &Part| (part.sample)(&mut Random::new(SAMPLE_SEED));
+            chosen(&args[3..]).for_each(|part| keep(part, made(part), &args[2]));
+        }
+        Some("round") if args.len() > 4 => {
+            let seed = args[3].parse().expect(USAGE);
+            let made = |part: &Part| (part.scripts)(&mut Random::new(seed), false);
+            chosen(&args[4..]).for_each(|part| keep(part, made(part), &args[2]));
         }
         Some("play") if args.len() > 5 => {
             let seed = args[3].parse().expect(USAGE);
@@ -131,9 +137,8 @@ fn reach(part: &Part, seed: u64) {
     }
 }
 
-/// Writes the fixed list of a part: what its program is given, and what the original answers.
-fn sample(part: &Part, crates: &str) {
-    let scripts = (part.sample)(&mut Random::new(SAMPLE_SEED));
+/// Writes scripts as files: what a part's program is given, and what the original answers.
+fn keep(part: &Part, scripts: Vec<Script>, crates: &str) {
     let played = port::play(part, &scripts, &mut Cover::nothing());
     let folder = format!("{crates}/{}", part.program);
     fs::write(format!("{folder}/stdin"), &played.given).expect("stdin");

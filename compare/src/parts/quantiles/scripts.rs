@@ -132,11 +132,10 @@ pub fn sample(random: &mut Random) -> Vec<Script> {
         for kind in KINDS {
             all.push(series(random, signed, kind, 40, 3));
         }
-        all.push(series(random, signed, Kind::Sized, 4100, 4));
         all.push(near_the_end(random, signed));
-        all.push(clamped(random, signed));
         all.push(hostile(signed));
     }
+    all.push(series(random, true, Kind::Narrow, 4098, 4));
     all
 }
 
