@@ -1,0 +1,148 @@
+// `Measurements` of src/sender/measurements.rs: its state by value, the refusals of the calls that change it, and the calls that only read
+// it. The rooms and the calls over them stand above.
+ghost use mathlib.Core.Path.{_≡_};
+ghost use Rattle.ledger_state.specs.State.{atLeastOne, freshCounts, freshLedger};
+ghost use Rattle.ledger_state.specs.Refusal.{firstRefusal, ringFits, ringsFit, countsFit, roomForCall};
+
+pub mod snapshot;
+
+use chains::Ring;
+use delays::Delays;
+use direct::Direct;
+use follow_ups::FollowUps;
+use replies::Replies;
+
+// The rings of the accepted keys and of the held probes, and whether the newest key awaits its observation.
+pub struct Tables {
+    pub keys: Ring,
+    pub probes: Ring,
+    pub awaits: bool,
+}
+
+// Every count of `MeasurementSummary`, with `rtt`, `follow_delay` and `direct`.
+pub struct Counts {
+    pub replies: Replies,
+    pub rtt: Delays,
+    pub direct: Direct,
+    pub follow: FollowUps,
+}
+
+// `copies`, the words of the hash, and how many sent, accept and observe calls were served.
+pub struct Ledger {
+    pub copies: u16,
+    pub secret: [u32; 8],
+    pub calls: u64,
+    pub tables: Tables,
+    pub counts: Counts,
+}
+
+fn at_least_one(copies: u16) -> u16
+    ensures { λ r. ⌜ r ≡ atLeastOne copies ⌝ }
+{
+    if copies == 0 {
+        return 1;
+    }
+    copies
+}
+
+fn fresh_counts() -> Counts
+    ensures { λ r. ⌜ r ≡ freshCounts ⌝ }
+{
+    Counts {
+        replies: Replies::fresh(),
+        rtt: Delays::new(),
+        direct: Direct::fresh(),
+        follow: FollowUps::fresh(),
+    }
+}
+
+// `Measurements::new`. The rooms may hold anything.
+pub fn fresh(copies: u16, secret: [u32; 8]) -> Ledger
+    ensures { λ r. ⌜ r ≡ freshLedger copies secret ⌝ }
+{
+    let counts = fresh_counts();
+    Ledger {
+        copies: at_least_one(copies),
+        secret,
+        calls: 0,
+        tables: Tables {
+            keys: Ring { head: 0, len: 0 },
+            probes: Ring { head: 0, len: 0 },
+            awaits: false,
+        },
+        counts,
+    }
+}
+
+// The first refusal in the order of document 01's table, 0 where there is none.
+pub fn first_refusal(
+    placed: bool,
+    ranged: bool,
+    timely: bool,
+    counted: bool,
+    awaiting: bool,
+    room: bool,
+) -> u8
+    ensures { λ r. ⌜ r ≡ firstRefusal placed ranged timely counted awaiting room ⌝ }
+{
+    if !placed {
+        return scope::WRONG_ROOM;
+    }
+    if !ranged {
+        return scope::OUT_OF_RANGE;
+    }
+    if !timely {
+        return scope::DEADLINE_PASSES;
+    }
+    if !counted {
+        return scope::COUNTS_FULL;
+    }
+    if !awaiting {
+        return scope::NOT_AWAITING;
+    }
+    if !room {
+        return scope::QUEUE_FULL;
+    }
+    0
+}
+
+fn ring_fits(ring: Ring) -> bool
+    ensures { λ r. ⌜ r ≡ ringFits ring ⌝ }
+{
+    (ring.head < scope::CAPACITY) & (ring.len <= scope::CAPACITY)
+}
+
+// Refusal 5, the part of the state: whether every ring and the number of seen offsets are in bounds.
+pub fn rings_fit(ledger: Ledger) -> bool
+    ensures { λ r. ⌜ r ≡ ringsFit ledger ⌝ }
+{
+    let tables = ledger.tables;
+    let counts = ledger.counts;
+    let keys = tables.keys;
+    let probes = tables.probes;
+    let direct = counts.direct;
+    let window = direct.window;
+    ring_fits(keys) & ring_fits(probes) & (direct::seen_in(window) <= scope::CAPACITY)
+}
+
+fn counts_fit(counts: Counts) -> bool
+    ensures { λ r. ⌜ r ≡ countsFit counts ⌝ }
+{
+    let replies = counts.replies;
+    let rtt = counts.rtt;
+    let direct = counts.direct;
+    let follow = counts.follow;
+    let loss = direct.counts;
+    replies.counts_in_bounds()
+        & rtt.counts_fit()
+        & direct::counts_in_bounds(loss)
+        & follow.counts_in_bounds()
+}
+
+// Refusal 4: whether one more call can be served and every count and sum is below its bound.
+pub fn room_for_call(ledger: Ledger) -> bool
+    ensures { λ r. ⌜ r ≡ roomForCall ledger ⌝ }
+{
+    let counts = ledger.counts;
+    (ledger.calls < scope::MOST_CALLS) & counts_fit(counts)
+}
