@@ -1,2 +1,3 @@
 pub mod Buckets
 pub mod Meaning
+pub mod Growth
