@@ -153,8 +153,8 @@ step vs q room v small h = ⊎-elim exactly (λ g. ⊎-elim first later (eq-or-a
     late : (next : List ℕ) (b : List ℕ) → 4096 ≤ length vs → next ≡ take 4096 room ++ bumped b (indexOf (q .signed) v) → b ≡ filled (q .signed) vs → Holds (vs ++ (v ∷ [])) (grown q v) next
     late next b g e f = record {
       sized =
-        ap length e ∙ joined-length 4096 room (bumped b (indexOf (q .signed) v)) within
-        ∙ ap (λ (n : ℕ). 4096 + n) (bumped-length b (indexOf (q .signed) v) ∙ ap length f ∙ filled-length (q .signed) vs);
+          ap length e ∙ joined-length 4096 room (bumped b (indexOf (q .signed) v)) within
+          ∙ ap (λ (n : ℕ). 4096 + n) (bumped-length b (indexOf (q .signed) v) ∙ ap length f ∙ filled-length (q .signed) vs);
       count = counts;
       around = grown-around q v vs (h .count) (h .around);
       exact = λ m. absurd (never (length vs) (length (vs ++ (v ∷ []))) (snoc-length vs v) g m);
@@ -169,7 +169,7 @@ step vs q room v small h = ⊎-elim exactly (λ g. ⊎-elim first later (eq-or-a
       take 4096 room ++ bumped (filled (q .signed) (take 4096 room)) (indexOf (q .signed) v),
       way-first q room v (grown q v) (h .sized) fine (h .count ∙ l) refl,
       late (take 4096 room ++ bumped (filled (q .signed) (take 4096 room)) (indexOf (q .signed) v)) (filled (q .signed) (take 4096 room)) (le-of-eq (sym l)) refl
-      (ap (filled (q .signed)) (ap (λ (n : ℕ). take n room) (sym l) ∙ h .exact (le-of-eq l))),
+          (ap (filled (q .signed)) (ap (λ (n : ℕ). take n room) (sym l) ∙ h .exact (le-of-eq l))),
     )
 
     later : 4096 < length vs → (next : List ℕ) × (taken (grown q v) next ≡ recorded q room v) × Holds (vs ++ (v ∷ [])) (grown q v) next

@@ -1,3 +1,4 @@
 pub mod Buckets
 pub mod Meaning
 pub mod Growth
+pub mod Percentile
