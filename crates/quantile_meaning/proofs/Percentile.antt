@@ -24,7 +24,7 @@ use Rattle.quantile_meaning.proofs.Meaning.{sampleOf, bucket-of-sample,
 use Rattle.quantile_meaning.proofs.Growth.{Around, around-none, around-more, Holds, step}
 
 -- what one `record` leaves, read off its outcome
-after-step : (vs : List ℕ) (q : Quantiles) (room : List ℕ) (v : ℕ) → length vs + 1 < 2 ^ 64 → Holds vs q room → Holds (vs ++ (v ∷ [])) (recorded q room v .state) (recorded q room v .room)
+pub after-step : (vs : List ℕ) (q : Quantiles) (room : List ℕ) (v : ℕ) → length vs + 1 < 2 ^ 64 → Holds vs q room → Holds (vs ++ (v ∷ [])) (recorded q room v .state) (recorded q room v .room)
 unfolding taken
 after-step vs q room v l h = subst (λ (o : Outcome). Holds (vs ++ (v ∷ [])) (o .state) (o .room)) (step vs q room v l h .1) (step vs q room v l h .2)
 
@@ -58,14 +58,16 @@ unfolding recordAll
 kind-of [] q room = refl
 kind-of (v ∷ vs) q room = kind-of vs (recorded q room v .state) (recorded q room v .room) ∙ kind-kept q room v
 
--- a room grown from fresh holds the samples, whatever it held before
-pub from-fresh : (s : Bool) (room vs : List ℕ) → length room ≡ 4096 + bucketCount s → length vs < 2 ^ 64 → Holds vs (recordAll (fresh s) room vs .state) (recordAll (fresh s) room vs .room)
-from-fresh s room vs h l =
-    all-held vs [] (fresh s) room (omega arith)
-    (record { sized = h; count = refl; around = around-none; exact = λ m. refl; counted = λ m. absurd (never m) })
+-- no samples yet: whatever the room held before
+pub fresh-holds : (s : Bool) (room : List ℕ) → length room ≡ 4096 + bucketCount s → Holds [] (fresh s) room
+fresh-holds s room h = record { sized = h; count = refl; around = around-none; exact = λ m. refl; counted = λ m. absurd (never m) }
   where
     never : 4096 < 0 → ⊥
     never m = omega arith
+
+-- a room grown from fresh holds the samples
+pub from-fresh : (s : Bool) (room vs : List ℕ) → length room ≡ 4096 + bucketCount s → length vs < 2 ^ 64 → Holds vs (recordAll (fresh s) room vs .state) (recordAll (fresh s) room vs .room)
+from-fresh s room vs h l = all-held vs [] (fresh s) room (omega arith) (fresh-holds s room h)
 
 -- exact mode: the sample of the percentile's rank in sorted order
 pub exact-percentile : (vs : List ℕ) (q : Quantiles) (room : List ℕ) (p : Float) → Holds vs q room → length vs ≤ 4096
