@@ -40,7 +40,7 @@ fn is_marked(room: [Probe; 4096], ring: Ring, sequence: u32) -> bool {
     false
 }
 
-// Bit 32 where the probe's sequence is marked. A record that bears the mark itself says so at once.
+// Bit 32 where any queued probe of the same sequence is marked.
 fn mark_bit(room: [Probe; 4096], ring: Ring, probe: Probe) -> u64 {
     if is_marked(room, ring, probe.sequence) {
         return 4294967296;
@@ -55,6 +55,7 @@ fn digest(room: [Probe; 4096], ring: Ring) -> Digest {
     let mut i = 0;
     while i < len {
         let probe = room[slot(ring, i)];
+        // A record that bears the mark itself needs no search.
         let mut bit = 4294967296;
         if !probe.mark {
             bit = mark_bit(room, ring, probe);

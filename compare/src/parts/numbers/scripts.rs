@@ -23,7 +23,7 @@ pub fn scripts(random: &mut Random, long: bool) -> Vec<Script> {
     all
 }
 
-/// What the repository keeps of these answers: every 17th wire, and a few of each of the others.
+/// What the repository keeps of these answers: every 97th wire, and a few of each of the others.
 pub fn sample(random: &mut Random) -> Vec<Script> {
     let mut wires = vec![fresh()];
     wires.extend((0..65_536).step_by(97).map(|w| call(WIRE, &[w])));
