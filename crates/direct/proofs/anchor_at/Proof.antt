@@ -1,3 +1,4 @@
+-- `direct::anchor_at` meets its contract. Assumes nothing.
 use mathlib.Core.Path.{_≡_, refl, sym, ap, _∙_, subst}
 use mathlib.Core.Bool.{Bool, true, false, _&&_}
 use Prim.Native.Nat.{ℕ, max, _+_, _≤_}
@@ -11,36 +12,25 @@ use Rattle.direct.proofs.Room.{unavailable-room}
 use borrow.Author.Needs.{needs}
 use Rattle.direct.proofs.anchor_at.Statement.{statement}
 use Rattle.direct.proofs.anchor_at.Tie as tie
-use Rattle.direct.proofs.anchor_at.Reads as reads
-use Rattle.direct.proofs.anchor_at.Lts as lts
-use Rattle.direct.proofs.Counts.one_observed.Reads as one-observed-reads
-use Rattle.direct.proofs.Counts.one_unavailable.Reads as one-unavailable-reads
-use Rattle.direct.proofs.step_of.Reads as step-of-reads
 
--- src/lib.rt:228:9
 one-observed-requires : tie.Need-one-observed-requires
 one-observed-requires c κs = search needs
 
--- src/lib.rt:232:24
 one-unavailable-requires : tie.Need-one-unavailable-requires
 one-unavailable-requires c κs = unavailable-room (c .before .before .before .before .before .before .args .counts) (c .before .before .before .before .before .one-observed .result) (c .before .before .before .before .before .one-observed .ensures) (c .before .before .before .before .before .before .pre)
 
--- src/lib.rt:232:9
 step-of-requires : tie.Need-step-of-requires
 step-of-requires c κs = search needs
 
--- src/lib.rt:232:9
 returns : tie.Need-returns
 returns c =
     c .step-of .ensures
     ∙ ap (λ (n : Counts). step n Closed Kept) (c .before .one-unavailable .ensures ∙ ap oneUnavailable (c .before .before .before .before .before .before .before .one-observed .ensures))
     ∙ sym (ap (λ (b : Bool). withoutAnchor b (c .before .before .before .before .before .before .before .before .args .counts) (c .before .before .before .before .before .before .before .before .args .point)) (c .before .before .if1 .taken))
 
--- src/lib.rt:241:5
 step-of-requires-2 : tie.Need-step-of-requires-2
 step-of-requires-2 c κs = search needs
 
--- src/lib.rt:224:1
 returns-2 : tie.Need-returns-2
 returns-2 c =
     c .step-of2 .ensures

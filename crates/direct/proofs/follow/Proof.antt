@@ -1,3 +1,4 @@
+-- `direct::follow` meets its contract. Assumes nothing.
 use mathlib.Core.Path.{_≡_, refl, sym, ap, _∙_, subst}
 use mathlib.Core.Bool.{Bool, true, false, _&&_}
 use Prim.Native.Nat.{ℕ, max, _+_, _≤_}
@@ -14,57 +15,37 @@ use Rattle.direct.proofs.Room.{unavailable-room, discontinued-room, dis
 use borrow.Author.Needs.{needs}
 use Rattle.direct.proofs.follow.Statement.{statement}
 use Rattle.direct.proofs.follow.Tie as tie
-use Rattle.direct.proofs.follow.Reads as reads
-use Rattle.direct.proofs.follow.Lts as lts
-use Rattle.direct.proofs.Counts.history_exceeded.Reads as history-exceeded-reads
-use Rattle.direct.proofs.Counts.one_discontinuity.Reads as one-discontinuity-reads
-use Rattle.direct.proofs.Counts.one_observed.Reads as one-observed-reads
-use Rattle.direct.proofs.Counts.one_unavailable.Reads as one-unavailable-reads
-use Rattle.direct.proofs.breaks.Reads as breaks-reads
-use Rattle.direct.proofs.go_on.Reads as go-on-reads
-use Rattle.direct.proofs.step_of.Reads as step-of-reads
-use Rattle.direct.proofs.transmit_offset.Reads as transmit-offset-reads
 
--- src/lib.rt:298:8
 breaks-requires : tie.Need-breaks-requires
 breaks-requires c κs = search needs
 
--- src/lib.rt:299:13
 one-observed-requires : tie.Need-one-observed-requires
 one-observed-requires c κs = search needs
 
--- src/lib.rt:300:24
 one-discontinuity-requires : tie.Need-one-discontinuity-requires
 one-discontinuity-requires c κs = discontinued-room (c .before .before .before .before .before .args .counts) (c .one-observed .result) (c .one-observed .ensures) (c .before .before .before .before .before .pre .0)
 
--- src/lib.rt:300:9
 step-of-requires : tie.Need-step-of-requires
 step-of-requires c κs = search needs
 
--- src/lib.rt:300:9
 returns : tie.Need-returns
 returns c =
     c .step-of .ensures
     ∙ ap (λ (n : Counts). step n Closed Cleared) (c .before .one-discontinuity .ensures ∙ ap oneDiscontinuity (c .before .before .one-observed .ensures))
     ∙ sym (λ i. withAnchor ((sym (c .before .before .before .before .breaks .ensures) ∙ c .before .before .before .if1 .taken) i) (c .before .before .before .before .before .before .before .args .again) (eqb (c .before .before .before .before .before .before .before .args .epoch .seen) 4096) (ltb (transmitOffset (c .before .before .before .before .before .before .before .args .epoch .anchor) (c .before .before .before .before .before .before .before .args .point)) (highest (c .before .before .before .before .before .before .before .args .epoch))) (c .before .before .before .before .before .before .before .args .counts) (c .before .before .before .before .before .before .before .args .epoch) (c .before .before .before .before .before .before .before .args .point))
 
--- src/lib.rt:303:13
 one-observed-requires-2 : tie.Need-one-observed-requires-2
 one-observed-requires-2 c κs = search needs
 
--- src/lib.rt:304:13
 one-unavailable-requires : tie.Need-one-unavailable-requires
 one-unavailable-requires c κs = unavailable-room (c .before .before .before .before .before .before .args .counts) (c .one-observed2 .result) (c .one-observed2 .ensures) (c .before .before .before .before .before .before .pre .0)
 
--- src/lib.rt:305:24
 one-discontinuity-requires-2 : tie.Need-one-discontinuity-requires-2
 one-discontinuity-requires-2 c κs = discontinued-after (c .before .before .before .before .before .before .before .args .counts) (c .before .one-observed2 .result) (c .before .one-observed2 .ensures) (c .before .before .before .before .before .before .before .pre .0) (c .one-unavailable .result) (c .one-unavailable .ensures)
 
--- src/lib.rt:305:9
 step-of-requires-2 : tie.Need-step-of-requires-2
 step-of-requires-2 c κs = search needs
 
--- src/lib.rt:305:9
 returns-2 : tie.Need-returns-2
 returns-2 c =
     c .step-of2 .ensures
@@ -72,38 +53,30 @@ returns-2 c =
     (c .before .one-discontinuity2 .ensures ∙ ap oneDiscontinuity (c .before .before .one-unavailable .ensures ∙ ap oneUnavailable (c .before .before .before .one-observed2 .ensures)))
     ∙ sym (λ i. withAnchor ((sym (c .before .before .before .before .before .before .breaks .ensures) ∙ c .before .before .before .before .before .if1 .left) i) (c .before .before .before .before .if2 .taken i) (eqb (c .before .before .before .before .before .before .before .before .before .args .epoch .seen) 4096) (ltb (transmitOffset (c .before .before .before .before .before .before .before .before .before .args .epoch .anchor) (c .before .before .before .before .before .before .before .before .before .args .point)) (highest (c .before .before .before .before .before .before .before .before .before .args .epoch))) (c .before .before .before .before .before .before .before .before .before .args .counts) (c .before .before .before .before .before .before .before .before .before .args .epoch) (c .before .before .before .before .before .before .before .before .before .args .point))
 
--- src/lib.rt:308:13
 one-observed-requires-3 : tie.Need-one-observed-requires-3
 one-observed-requires-3 c κs = search needs
 
--- src/lib.rt:309:24
 history-exceeded-requires : tie.Need-history-exceeded-requires
 history-exceeded-requires c κs = search needs
 
--- src/lib.rt:309:9
 step-of-requires-3 : tie.Need-step-of-requires-3
 step-of-requires-3 c κs = search needs
 
--- src/lib.rt:309:9
 returns-3 : tie.Need-returns-3
 returns-3 c =
     c .step-of3 .ensures
     ∙ ap (λ (n : Counts). step n Closed Cleared) (c .before .history-exceeded .ensures ∙ ap historyExceeded (c .before .before .one-observed3 .ensures))
     ∙ sym (λ i. withAnchor ((sym (c .before .before .before .before .before .before .before .breaks .ensures) ∙ c .before .before .before .before .before .before .if1 .left) i) (c .before .before .before .before .before .if2 .left i) (eq-eqb _ _ (c .before .before .before .if3 .taken) i) (ltb (transmitOffset (c .before .before .before .before .before .before .before .before .before .before .args .epoch .anchor) (c .before .before .before .before .before .before .before .before .before .before .args .point)) (highest (c .before .before .before .before .before .before .before .before .before .before .args .epoch))) (c .before .before .before .before .before .before .before .before .before .before .args .counts) (c .before .before .before .before .before .before .before .before .before .before .args .epoch) (c .before .before .before .before .before .before .before .before .before .before .args .point))
 
--- src/lib.rt:311:17
 transmit-offset-requires : tie.Need-transmit-offset-requires
 transmit-offset-requires c κs = search needs
 
--- src/lib.rt:311:50
 transmit-offset-requires-2 : tie.Need-transmit-offset-requires-2
 transmit-offset-requires-2 c κs = search needs
 
--- src/lib.rt:312:5
 go-on-requires : tie.Need-go-on-requires
 go-on-requires c κs = search needs
 
--- src/lib.rt:292:1
 returns-4 : tie.Need-returns-4
 returns-4 c =
     c .go-on .ensures

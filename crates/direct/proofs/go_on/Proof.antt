@@ -1,3 +1,4 @@
+-- `direct::go_on` meets its contract. Assumes nothing.
 use mathlib.Core.Path.{_≡_, refl, sym, ap, _∙_, subst}
 use mathlib.Core.Bool.{Bool, true, false, _&&_}
 use Prim.Native.Nat.{ℕ, max, _+_, _≤_}
@@ -11,35 +12,22 @@ use Rattle.direct.proofs.Room.{reordered-room}
 use borrow.Author.Needs.{needs}
 use Rattle.direct.proofs.go_on.Statement.{statement}
 use Rattle.direct.proofs.go_on.Tie as tie
-use Rattle.direct.proofs.go_on.Reads as reads
-use Rattle.direct.proofs.go_on.Lts as lts
-use Rattle.direct.proofs.Counts.one_observed.Reads as one-observed-reads
-use Rattle.direct.proofs.Counts.one_reordered.Reads as one-reordered-reads
-use Rattle.direct.proofs.moved.Reads as moved-reads
-use Rattle.direct.proofs.step_of.Reads as step-of-reads
-use Rattle.direct.proofs.transmit_offset.Reads as transmit-offset-reads
 
--- src/lib.rt:278:9
 transmit-offset-requires : tie.Need-transmit-offset-requires
 transmit-offset-requires c κs = search needs
 
--- src/lib.rt:279:9
 moved-requires : tie.Need-moved-requires
 moved-requires c κs = search needs
 
--- src/lib.rt:280:9
 one-observed-requires : tie.Need-one-observed-requires
 one-observed-requires c κs = search needs
 
--- src/lib.rt:283:13
 one-reordered-requires : tie.Need-one-reordered-requires
 one-reordered-requires c κs = reordered-room (c .before .before .before .before .before .args .counts) (c .before .one-observed .result) (c .before .one-observed .ensures) (c .before .before .before .before .before .pre .0)
 
--- src/lib.rt:282:9
 step-of-requires : tie.Need-step-of-requires
 step-of-requires c κs = search needs
 
--- src/lib.rt:282:9
 returns : tie.Need-returns
 returns c =
     c .step-of .ensures
@@ -48,11 +36,9 @@ returns c =
     (Added (c .before .before .before .before .before .transmit-offset .ensures i)))
     ∙ sym (ap (λ (b : Bool). withAnchor false false false b (c .before .before .before .before .before .before .before .args .counts) (c .before .before .before .before .before .before .before .args .epoch) (c .before .before .before .before .before .before .before .args .point)) (c .before .before .if1 .taken))
 
--- src/lib.rt:288:5
 step-of-requires-2 : tie.Need-step-of-requires-2
 step-of-requires-2 c κs = search needs
 
--- src/lib.rt:273:1
 returns-2 : tie.Need-returns-2
 returns-2 c =
     c .step-of2 .ensures

@@ -1,3 +1,4 @@
+-- `direct::mismatch` meets its contract. Assumes nothing.
 use mathlib.Core.Path.{_≡_, refl, sym, ap, _∙_, subst}
 use mathlib.Core.Bool.{Bool, true, false, _&&_}
 use Prim.Native.Nat.{ℕ, max, _+_, _≤_}
@@ -10,20 +11,13 @@ use Rattle.direct.specs.Outcomes.{step}
 use borrow.Author.Needs.{needs}
 use Rattle.direct.proofs.mismatch.Statement.{statement}
 use Rattle.direct.proofs.mismatch.Tie as tie
-use Rattle.direct.proofs.mismatch.Reads as reads
-use Rattle.direct.proofs.mismatch.Lts as lts
-use Rattle.direct.proofs.Counts.one_unavailable.Reads as one-unavailable-reads
-use Rattle.direct.proofs.step_of.Reads as step-of-reads
 
--- src/lib.rt:220:13
 one-unavailable-requires : tie.Need-one-unavailable-requires
 one-unavailable-requires c κs = search needs
 
--- src/lib.rt:220:5
 step-of-requires : tie.Need-step-of-requires
 step-of-requires c κs = search needs
 
--- src/lib.rt:216:1
 returns : tie.Need-returns
 returns c = c .step-of .ensures ∙ ap (λ (n : Counts). step n (c .before .before .args .window) Kept) (c .before .one-unavailable .ensures)
 

@@ -1,3 +1,4 @@
+-- `direct::moved` meets its contract. Assumes nothing.
 use mathlib.Core.Path.{_≡_, refl, sym, ap, _∙_, subst}
 use mathlib.Core.Bool.{Bool, true, false, _&&_}
 use Prim.Native.Nat.{ℕ, max, _+_, _≤_}
@@ -10,25 +11,16 @@ use Rattle.direct.specs.Outcomes.{movedBy}
 use borrow.Author.Needs.{needs}
 use Rattle.direct.proofs.moved.Statement.{statement}
 use Rattle.direct.proofs.moved.Tie as tie
-use Rattle.direct.proofs.moved.Reads as reads
-use Rattle.direct.proofs.moved.Lts as lts
-use Rattle.direct.proofs.larger.Reads as larger-reads
-use Rattle.direct.proofs.received_offset.Reads as received-offset-reads
-use Rattle.direct.proofs.sender_offset.Reads as sender-offset-reads
 
--- src/lib.rt:251:39
 sender-offset-requires : tie.Need-sender-offset-requires
 sender-offset-requires c κs = search needs
 
--- src/lib.rt:251:9
 larger-requires : tie.Need-larger-requires
 larger-requires c κs = search needs
 
--- src/lib.rt:252:16
 add-seen : tie.Need-add-seen
 add-seen c = search needs
 
--- src/lib.rt:254:9
 returns : tie.Need-returns
 returns c =
     (λ i. record {
@@ -40,15 +32,12 @@ returns c =
     })
     ∙ sym (ap (λ (b : Bool). movedBy b (c .before .before .before .before .before .before .args .epoch) (c .before .before .before .before .before .before .args .point)) (c .if1 .taken))
 
--- src/lib.rt:262:43
 received-offset-requires : tie.Need-received-offset-requires
 received-offset-requires c κs = search needs
 
--- src/lib.rt:262:9
 larger-requires-2 : tie.Need-larger-requires-2
 larger-requires-2 c κs = search needs
 
--- src/lib.rt:245:1
 returns-2 : tie.Need-returns-2
 returns-2 c =
     (λ i. record {

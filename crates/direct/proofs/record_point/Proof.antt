@@ -1,3 +1,4 @@
+-- `direct::record_point` meets its contract. Assumes nothing.
 use mathlib.Core.Path.{_≡_, refl, sym, ap, _∙_, subst}
 use mathlib.Core.Bool.{Bool, true, false}
 use Prim.Native.Nat.{ℕ, _≤_}
@@ -9,34 +10,23 @@ use Rattle.direct.specs.Outcomes.{recorded, byOrdinal, inWindow, seenIn}
 use borrow.Author.Needs.{needs}
 use Rattle.direct.proofs.record_point.Statement.{statement}
 use Rattle.direct.proofs.record_point.Tie as tie
-use Rattle.direct.proofs.record_point.Reads as reads
-use Rattle.direct.proofs.record_point.Lts as lts
-use Rattle.direct.proofs.anchor_at.Reads as anchor-at-reads
-use Rattle.direct.proofs.follow.Reads as follow-reads
-use Rattle.direct.proofs.mismatch.Reads as mismatch-reads
 
--- src/lib.rt:363:25
 enum-known-ordinal : tie.Need-enum-known-ordinal
 enum-known-ordinal c = search needs
 
--- src/lib.rt:364:9
 enum-told : tie.Need-enum-told
 enum-told c = search needs
 
--- src/lib.rt:364:9
 mismatch-requires : tie.Need-mismatch-requires
 mismatch-requires c κs = search needs
 
--- src/lib.rt:364:9
 returns : tie.Need-returns
 unfolding recorded
 returns c = c .mismatch .ensures ∙ sym (ap (λ (o : Ordinal). recorded capacity (c .before .before .before .before .args .direct) (c .before .before .before .before .args .point) o (c .before .before .before .before .args .again)) (c .before .enum-told .given .1))
 
--- src/lib.rt:368:9
 mismatch-requires-2 : tie.Need-mismatch-requires-2
 mismatch-requires-2 c κs = search needs
 
--- src/lib.rt:368:9
 returns-2 : tie.Need-returns-2
 unfolding recorded
 returns-2 c =
@@ -44,23 +34,18 @@ returns-2 c =
     ∙ sym (ap (λ (b : Bool). byOrdinal capacity b (c .before .before .before .before .before .before .before .before .args .direct .counts) (c .before .before .before .before .before .before .before .before .args .direct .window) (c .before .before .before .before .before .before .before .before .args .point) (c .before .before .before .before .before .before .before .before .args .again)) (ne-eqb _ _ (c .before .if1 .taken)))
     ∙ sym (ap (λ (o : Ordinal). recorded capacity (c .before .before .before .before .before .before .before .before .args .direct) (c .before .before .before .before .before .before .before .before .args .point) o (c .before .before .before .before .before .before .before .before .args .again)) (c .before .before .before .before .before .ordinal .given .1))
 
--- src/lib.rt:371:27
 enum-told-2 : tie.Need-enum-told-2
 enum-told-2 c = search needs
 
--- src/lib.rt:371:27
 anchor-at-requires : tie.Need-anchor-at-requires
 anchor-at-requires c κs = search needs
 
--- src/lib.rt:372:22
 enum-known-window : tie.Need-enum-known-window
 enum-known-window c = search needs
 
--- src/lib.rt:372:32
 follow-requires : tie.Need-follow-requires
 follow-requires c κs = (c .before .before .before .before .before .before .before .before .before .before .pre .0, subst (λ (w : Window). seenIn w ≤ 4096) (c .before .window .given .1) (c .before .before .before .before .before .before .before .before .before .before .pre .1))
 
--- src/lib.rt:357:1
 returns-3 : tie.Need-returns-3
 unfolding recorded
 returns-3 c =
@@ -69,7 +54,6 @@ returns-3 c =
     ∙ sym (ap (λ (b : Bool). byOrdinal capacity b (c .before .before .before .before .before .before .before .before .before .before .args .direct .counts) (c .before .before .before .before .before .before .before .before .before .before .args .direct .window) (c .before .before .before .before .before .before .before .before .before .before .args .point) (c .before .before .before .before .before .before .before .before .before .before .args .again)) (eq-eqb _ _ (c .before .before .before .if1 .left)))
     ∙ sym (ap (λ (o : Ordinal). recorded capacity (c .before .before .before .before .before .before .before .before .before .before .args .direct) (c .before .before .before .before .before .before .before .before .before .before .args .point) o (c .before .before .before .before .before .before .before .before .before .before .args .again)) (c .before .before .before .before .before .before .before .ordinal .given .1))
 
--- src/lib.rt:357:1
 returns-4 : tie.Need-returns-4
 unfolding recorded
 returns-4 c =

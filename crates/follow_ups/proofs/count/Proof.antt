@@ -1,3 +1,4 @@
+-- `follow_ups::count` meets its contract. Assumes nothing.
 use mathlib.Core.Path.{_≡_, refl, sym, ap, _∙_, subst}
 use mathlib.Core.Bool.{Bool, true, false, _&&_, not}
 use Prim.Native.Nat.{ℕ, _≤_, _<_, _^_}
@@ -6,70 +7,52 @@ use Rattle.follow_ups.specs.Followed.{counted}
 use borrow.Author.Needs.{needs}
 use Rattle.follow_ups.proofs.count.Statement.{statement}
 use Rattle.follow_ups.proofs.count.Tie as tie
-use Rattle.follow_ups.proofs.count.Reads as reads
-use Rattle.follow_ups.proofs.count.Lts as lts
 
--- src/lib.rt:66:25
 add-next : tie.Need-add-next
 add-next c = search needs
 
--- src/lib.rt:69:32
 enum-told : tie.Need-enum-told
 enum-told c = search needs
 
--- src/lib.rt:69:32
 add-next-2 : tie.Need-add-next-2
 add-next-2 c = search needs
 
--- src/lib.rt:73:30
 enum-told-2 : tie.Need-enum-told-2
 enum-told-2 c = search needs
 
--- src/lib.rt:73:30
 add-next-3 : tie.Need-add-next-3
 add-next-3 c = search needs
 
--- src/lib.rt:77:30
 enum-told-3 : tie.Need-enum-told-3
 enum-told-3 c = search needs
 
--- src/lib.rt:77:30
 add-next-4 : tie.Need-add-next-4
 add-next-4 c = search needs
 
--- src/lib.rt:81:29
 enum-told-4 : tie.Need-enum-told-4
 enum-told-4 c = search needs
 
--- src/lib.rt:81:29
 add-next-5 : tie.Need-add-next-5
 add-next-5 c = search needs
 
--- src/lib.rt:85:28
 enum-told-5 : tie.Need-enum-told-5
 enum-told-5 c = search needs
 
--- src/lib.rt:85:28
 add-next-6 : tie.Need-add-next-6
 add-next-6 c = search needs
 
--- src/lib.rt:61:1
 returns : tie.Need-returns
 returns c = sym (ap (λ (k : Class). counted k (c .before .before .before .before .args .counts)) (c .before .enum-told .given .1))
 
--- src/lib.rt:61:1
 returns-2 : tie.Need-returns-2
 returns-2 c = sym (ap (λ (k : Class). counted k (c .before .before .before .before .args .counts)) (c .before .enum-told2 .given .1))
 
--- src/lib.rt:61:1
 returns-3 : tie.Need-returns-3
 returns-3 c = sym (ap (λ (k : Class). counted k (c .before .before .before .before .args .counts)) (c .before .enum-told3 .given .1))
 
--- src/lib.rt:61:1
 returns-4 : tie.Need-returns-4
 returns-4 c = sym (ap (λ (k : Class). counted k (c .before .before .before .before .args .counts)) (c .before .enum-told4 .given .1))
 
--- src/lib.rt:61:1
 returns-5 : tie.Need-returns-5
 returns-5 c = sym (ap (λ (k : Class). counted k (c .before .before .before .before .args .counts)) (c .before .enum-told5 .given .1))
 

@@ -1,3 +1,4 @@
+-- `follow_ups::delay_after` meets its contract. Assumes nothing.
 use mathlib.Core.Path.{_≡_, refl, sym, ap, _∙_, subst}
 use mathlib.Core.Bool.{Bool, true, false, _&&_, not}
 use Prim.Native.Nat.{ℕ, _≤_, _<_, _^_}
@@ -11,63 +12,45 @@ use Rattle.follow_ups.proofs.Delayed.{ranges-read, delay-read}
 use borrow.Author.Needs.{needs}
 use Rattle.follow_ups.proofs.delay_after.Statement.{statement}
 use Rattle.follow_ups.proofs.delay_after.Tie as tie
-use Rattle.follow_ups.proofs.delay_after.Reads as reads
-use Rattle.follow_ups.proofs.delay_after.Lts as lts
-use Rattle.correlation.proofs.follow.delay.Reads as delay-reads
-use Rattle.delays.proofs.Delays.recorded.Reads as recorded-reads
-use Rattle.delays.proofs.from_i64.Reads as from-i64-reads
 
--- src/lib.rt:96:31
 enum-told : tie.Need-enum-told
 enum-told c = search needs
 
--- src/lib.rt:97:29
 enum-told-2 : tie.Need-enum-told-2
 enum-told-2 c = search needs
 
--- src/lib.rt:98:29
 enum-told-3 : tie.Need-enum-told-3
 enum-told-3 c = search needs
 
--- src/lib.rt:99:28
 enum-told-4 : tie.Need-enum-told-4
 enum-told-4 c = search needs
 
--- src/lib.rt:100:24
 enum-known-class : tie.Need-enum-known-class
 enum-known-class c = search needs
 
--- src/lib.rt:101:17
 delay-requires : tie.Need-delay-requires
 delay-requires c κs = ranges-read (c .before .before .before .class .given .0 .0 .t4) (c .before .before .before .class .given .0 .0 .t3) (c .before .before .before .before .before .args .offset)
     (record { sfits = c .before .struct-told .given .0 .1 }) (record { sfits = c .struct-told2 .given .1 .0 .1 }) (c .before .before .before .before .before .fits .offset)
     ((subst MatchedInRange (c .before .before .before .class .given .1) (c .before .before .before .before .before .pre .1)) .0) ((subst MatchedInRange (c .before .before .before .class .given .1) (c .before .before .before .before .before .pre .1)) .1) (c .before .before .before .before .before .pre .2)
 
--- src/lib.rt:102:28
 from-i64-requires : tie.Need-from-i64-requires
 from-i64-requires c κs = search needs
 
--- src/lib.rt:102:13
 recorded-requires : tie.Need-recorded-requires
 recorded-requires c κs = search needs
 
--- src/lib.rt:91:1
 returns : tie.Need-returns
 returns c = search needs
 
--- src/lib.rt:91:1
 returns-2 : tie.Need-returns-2
 returns-2 c = search needs
 
--- src/lib.rt:91:1
 returns-3 : tie.Need-returns-3
 returns-3 c = search needs
 
--- src/lib.rt:91:1
 returns-4 : tie.Need-returns-4
 returns-4 c = search needs
 
--- src/lib.rt:91:1
 returns-5 : tie.Need-returns-5
 returns-5 c =
     c .recorded .ensures

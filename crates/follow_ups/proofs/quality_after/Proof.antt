@@ -1,3 +1,4 @@
+-- `follow_ups::quality_after` meets its contract. Assumes nothing.
 use mathlib.Core.Path.{_≡_, refl, sym, ap, _∙_, subst}
 use mathlib.Core.Bool.{Bool, true, false, _&&_, not}
 use Prim.Native.Nat.{ℕ, _≤_, _<_, _^_}
@@ -7,56 +8,40 @@ use Rattle.follow_ups.specs.Followed.{qualityAfter}
 use borrow.Author.Needs.{needs}
 use Rattle.follow_ups.proofs.quality_after.Statement.{statement}
 use Rattle.follow_ups.proofs.quality_after.Tie as tie
-use Rattle.follow_ups.proofs.quality_after.Reads as reads
-use Rattle.follow_ups.proofs.quality_after.Lts as lts
-use Rattle.clock_quality.proofs.ClockQuality.recorded.Reads as recorded-reads
-use Rattle.follow_ups.proofs.estimates_of.Reads as estimates-of-reads
 
--- src/lib.rt:112:31
 enum-told : tie.Need-enum-told
 enum-told c = search needs
 
--- src/lib.rt:113:29
 enum-told-2 : tie.Need-enum-told-2
 enum-told-2 c = search needs
 
--- src/lib.rt:114:29
 enum-told-3 : tie.Need-enum-told-3
 enum-told-3 c = search needs
 
--- src/lib.rt:115:28
 enum-told-4 : tie.Need-enum-told-4
 enum-told-4 c = search needs
 
--- src/lib.rt:116:24
 enum-known-class : tie.Need-enum-known-class
 enum-known-class c = search needs
 
--- src/lib.rt:118:28
 estimates-of-requires : tie.Need-estimates-of-requires
 estimates-of-requires c κs = search needs
 
--- src/lib.rt:118:13
 recorded-requires : tie.Need-recorded-requires
 recorded-requires c κs = search needs
 
--- src/lib.rt:107:1
 returns : tie.Need-returns
 returns c = search needs
 
--- src/lib.rt:107:1
 returns-2 : tie.Need-returns-2
 returns-2 c = search needs
 
--- src/lib.rt:107:1
 returns-3 : tie.Need-returns-3
 returns-3 c = search needs
 
--- src/lib.rt:107:1
 returns-4 : tie.Need-returns-4
 returns-4 c = search needs
 
--- src/lib.rt:107:1
 returns-5 : tie.Need-returns-5
 returns-5 c = c .recorded .ensures ∙ ap (quality.recordedOf (c .before .before .before .before .before .args .sofar)) (c .before .estimates-of .ensures) ∙ sym (ap (λ (k : Class). qualityAfter k (c .before .before .before .before .before .args .sofar)) (c .before .before .before .class .given .1))
 

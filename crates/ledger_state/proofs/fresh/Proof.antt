@@ -1,3 +1,4 @@
+-- `ledger_state::fresh` meets its contract. Assumes nothing.
 use mathlib.Core.Path.{_≡_, refl, sym, ap, _∙_, subst}
 use mathlib.Core.Bool.{Bool, true, false, _&&_, not}
 use Prim.Native.Nat.{ℕ, _≤_, _<_, _^_}
@@ -5,20 +6,13 @@ use Rattle.ledger_state.specs.State.{freshTables}
 use borrow.Author.Needs.{needs}
 use Rattle.ledger_state.proofs.fresh.Statement.{statement}
 use Rattle.ledger_state.proofs.fresh.Tie as tie
-use Rattle.ledger_state.proofs.fresh.Reads as reads
-use Rattle.ledger_state.proofs.fresh.Lts as lts
-use Rattle.ledger_state.proofs.at_least_one.Reads as at-least-one-reads
-use Rattle.ledger_state.proofs.fresh_counts.Reads as fresh-counts-reads
 
--- src/lib.rt:63:9
 fresh-counts-requires : tie.Need-fresh-counts-requires
 fresh-counts-requires c κs = search needs
 
--- src/lib.rt:65:17
 at-least-one-requires : tie.Need-at-least-one-requires
 at-least-one-requires c κs = search needs
 
--- src/lib.rt:60:1
 returns : tie.Need-returns
 returns c = λ i. record { copies = c .at-least-one .ensures i; secret = c .before .before .args .secret; calls = 0; tables = freshTables; counts = c .before .fresh-counts .ensures i }
 

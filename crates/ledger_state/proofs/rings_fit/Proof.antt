@@ -1,3 +1,4 @@
+-- `ledger_state::rings_fit` meets its contract. Assumes nothing.
 use mathlib.Core.Path.{_≡_, refl, sym, ap, _∙_, subst}
 use mathlib.Core.Bool.{Bool, true, false, _&&_, not}
 use Prim.Native.Nat.{ℕ, _≤_, _<_, _^_}
@@ -5,24 +6,16 @@ use lib.Dec.{leb}
 use borrow.Author.Needs.{needs}
 use Rattle.ledger_state.proofs.rings_fit.Statement.{statement}
 use Rattle.ledger_state.proofs.rings_fit.Tie as tie
-use Rattle.ledger_state.proofs.rings_fit.Reads as reads
-use Rattle.ledger_state.proofs.rings_fit.Lts as lts
-use Rattle.direct.proofs.seen_in.Reads as seen-in-reads
-use Rattle.ledger_state.proofs.ring_fits.Reads as ring-fits-reads
 
--- src/lib.rt:125:5
 ring-fits-requires : tie.Need-ring-fits-requires
 ring-fits-requires c κs = search needs
 
--- src/lib.rt:125:23
 ring-fits-requires-2 : tie.Need-ring-fits-requires-2
 ring-fits-requires-2 c κs = search needs
 
--- src/lib.rt:125:44
 seen-in-requires : tie.Need-seen-in-requires
 seen-in-requires c κs = search needs
 
--- src/lib.rt:116:1
 returns : tie.Need-returns
 returns c = λ i. c .before .before .ring-fits .ensures i && c .before .ring-fits2 .ensures i && leb (c .seen-in .ensures i) 4096
 

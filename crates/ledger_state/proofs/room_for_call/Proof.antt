@@ -1,3 +1,4 @@
+-- `ledger_state::room_for_call` meets its contract. Assumes nothing.
 use mathlib.Core.Path.{_≡_, refl, sym, ap, _∙_, subst}
 use mathlib.Core.Bool.{Bool, true, false, _&&_, not}
 use Prim.Native.Nat.{ℕ, _≤_, _<_, _^_}
@@ -5,15 +6,10 @@ use lib.Dec.{ltb}
 use borrow.Author.Needs.{needs}
 use Rattle.ledger_state.proofs.room_for_call.Statement.{statement}
 use Rattle.ledger_state.proofs.room_for_call.Tie as tie
-use Rattle.ledger_state.proofs.room_for_call.Reads as reads
-use Rattle.ledger_state.proofs.room_for_call.Lts as lts
-use Rattle.ledger_state.proofs.counts_fit.Reads as counts-fit-reads
 
--- src/lib.rt:147:42
 counts-fit-requires : tie.Need-counts-fit-requires
 counts-fit-requires c κs = search needs
 
--- src/lib.rt:143:1
 returns : tie.Need-returns
 returns c = λ i. ltb (c .before .before .before .args .ledger .calls) 4294967295 && c .counts-fit .ensures i
 

@@ -1,3 +1,4 @@
+-- `ranges::in_range` meets its contract. Assumes nothing.
 use mathlib.Core.Path.{_≡_, refl, sym, ap, _∙_, subst}
 use mathlib.Core.Bool.{Bool, true, false, _&&_, not}
 use Prim.Native.Nat.{ℕ, _≤_, _<_, _^_}
@@ -8,35 +9,22 @@ use Rattle.ranges.specs.Ranges.{inRange, referenceWithin, offsetWithin}
 use borrow.Author.Needs.{needs}
 use Rattle.ranges.proofs.in_range.Statement.{statement}
 use Rattle.ranges.proofs.in_range.Tie as tie
-use Rattle.ranges.proofs.in_range.Reads as reads
-use Rattle.ranges.proofs.in_range.Lts as lts
-use Rattle.ranges.proofs.estimates_fit.Reads as estimates-fit-reads
-use Rattle.ranges.proofs.follow_fits.Reads as follow-fits-reads
-use Rattle.ranges.proofs.offset_within.Reads as offset-within-reads
-use Rattle.ranges.proofs.reference_within.Reads as reference-within-reads
-use Rattle.ranges.proofs.time_fits.Reads as time-fits-reads
 
--- src/lib.rt:72:5
 time-fits-requires : tie.Need-time-fits-requires
 time-fits-requires c κs = search needs
 
--- src/lib.rt:73:11
 reference-within-requires : tie.Need-reference-within-requires
 reference-within-requires c κs = search needs
 
--- src/lib.rt:74:11
 offset-within-requires : tie.Need-offset-within-requires
 offset-within-requires c κs = search needs
 
--- src/lib.rt:75:11
 estimates-fit-requires : tie.Need-estimates-fit-requires
 estimates-fit-requires c κs = search needs
 
--- src/lib.rt:76:11
 follow-fits-requires : tie.Need-follow-fits-requires
 follow-fits-requires c κs = search needs
 
--- src/lib.rt:66:1
 returns : tie.Need-returns
 unfolding inRange
 returns c = λ i.

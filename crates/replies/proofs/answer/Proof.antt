@@ -1,30 +1,23 @@
+-- `replies::answer` meets its contract. Assumes nothing.
 use mathlib.Core.Path.{_≡_, refl, sym, ap, _∙_, subst}
 use mathlib.Core.Bool.{Bool, true, false, _&&_, not}
 use Prim.Native.Nat.{ℕ, _≤_, _<_, _^_}
 use borrow.Author.Needs.{needs}
 use Rattle.replies.proofs.answer.Statement.{statement}
 use Rattle.replies.proofs.answer.Tie as tie
-use Rattle.replies.proofs.answer.Reads as reads
-use Rattle.replies.proofs.answer.Lts as lts
-use Rattle.replies.proofs.one_more_if.Reads as one-more-if-reads
 
--- src/lib.rt:99:19
 one-more-if-requires : tie.Need-one-more-if-requires
 one-more-if-requires c κs = search needs
 
--- src/lib.rt:100:21
 one-more-if-requires-2 : tie.Need-one-more-if-requires-2
 one-more-if-requires-2 c κs = search needs
 
--- src/lib.rt:101:15
 one-more-if-requires-3 : tie.Need-one-more-if-requires-3
 one-more-if-requires-3 c κs = search needs
 
--- src/lib.rt:102:20
 one-more-if-requires-4 : tie.Need-one-more-if-requires-4
 one-more-if-requires-4 c κs = search needs
 
--- src/lib.rt:94:1
 returns : tie.Need-returns
 returns c = λ i. record { answered = c .before .before .before .one-more-if .ensures i; additional = c .before .before .one-more-if2 .ensures i; late = c .before .one-more-if3 .ensures i; satisfied = c .one-more-if4 .ensures i }
 

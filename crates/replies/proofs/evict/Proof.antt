@@ -1,22 +1,17 @@
+-- `replies::evict` meets its contract. Assumes nothing.
 use mathlib.Core.Path.{_≡_, refl, sym, ap, _∙_, subst}
 use mathlib.Core.Bool.{Bool, true, false, _&&_, not}
 use Prim.Native.Nat.{ℕ, _≤_, _<_, _^_}
 use borrow.Author.Needs.{needs}
 use Rattle.replies.proofs.evict.Statement.{statement}
 use Rattle.replies.proofs.evict.Tie as tie
-use Rattle.replies.proofs.evict.Reads as reads
-use Rattle.replies.proofs.evict.Lts as lts
-use Rattle.replies.proofs.one_more_if.Reads as one-more-if-reads
 
--- src/lib.rt:155:17
 one-more-if-requires : tie.Need-one-more-if-requires
 one-more-if-requires c κs = search needs
 
--- src/lib.rt:156:18
 one-more-if-requires-2 : tie.Need-one-more-if-requires-2
 one-more-if-requires-2 c κs = search needs
 
--- src/lib.rt:150:1
 returns : tie.Need-returns
 returns c = λ i. record { probes = c .before .one-more-if .ensures i; replies = c .one-more-if2 .ensures i }
 

@@ -1,3 +1,4 @@
+-- `replies::is_reordered` meets its contract. Assumes nothing.
 use mathlib.Core.Path.{_≡_, refl, sym, ap, _∙_, subst}
 use mathlib.Core.Bool.{Bool, true, false, _&&_, not}
 use Prim.Native.Nat.{ℕ, _≤_, _<_, _^_}
@@ -8,27 +9,19 @@ use Rattle.replies.specs.Served.{isReordered}
 use borrow.Author.Needs.{needs}
 use Rattle.replies.proofs.is_reordered.Statement.{statement}
 use Rattle.replies.proofs.is_reordered.Tie as tie
-use Rattle.replies.proofs.is_reordered.Reads as reads
-use Rattle.replies.proofs.is_reordered.Lts as lts
-use Rattle.replies.proofs.step_from.Reads as step-from-reads
 
--- src/lib.rt:132:30
 enum-told : tie.Need-enum-told
 enum-told c = search needs
 
--- src/lib.rt:133:27
 enum-known-highest : tie.Need-enum-known-highest
 enum-known-highest c = search needs
 
--- src/lib.rt:133:38
 step-from-requires : tie.Need-step-from-requires
 step-from-requires c κs = search needs
 
--- src/lib.rt:128:1
 returns : tie.Need-returns
 returns c = search needs
 
--- src/lib.rt:128:1
 returns-2 : tie.Need-returns-2
 returns-2 c = ap (λ (n : ℕ). not (ltb n 2147483648)) (c .step-from .ensures) ∙ sym (ap (λ (h : Reflector). isReordered h (c .before .before .before .before .args .reflector)) (c .before .before .highest .given .1))
 

@@ -1,3 +1,4 @@
+-- `replies::number` meets its contract. Assumes nothing.
 use mathlib.Core.Path.{_≡_, refl, sym, ap, _∙_, subst}
 use mathlib.Core.Bool.{Bool, true, false, _&&_, not}
 use Prim.Native.Nat.{ℕ, _≤_, _<_, _^_}
@@ -7,29 +8,19 @@ use Rattle.replies.specs.Served.{tally}
 use borrow.Author.Needs.{needs}
 use Rattle.replies.proofs.number.Statement.{statement}
 use Rattle.replies.proofs.number.Tie as tie
-use Rattle.replies.proofs.number.Reads as reads
-use Rattle.replies.proofs.number.Lts as lts
-use Rattle.replies.proofs.highest_after.Reads as highest-after-reads
-use Rattle.replies.proofs.is_reordered.Reads as is-reordered-reads
-use Rattle.replies.proofs.one_more_if.Reads as one-more-if-reads
 
--- src/lib.rt:144:18
 highest-after-requires : tie.Need-highest-after-requires
 highest-after-requires c κs = search needs
 
--- src/lib.rt:145:32
 is-reordered-requires : tie.Need-is-reordered-requires
 is-reordered-requires c κs = search needs
 
--- src/lib.rt:145:20
 one-more-if-requires : tie.Need-one-more-if-requires
 one-more-if-requires c κs = search needs
 
--- src/lib.rt:146:22
 one-more-if-requires-2 : tie.Need-one-more-if-requires-2
 one-more-if-requires-2 c κs = search needs
 
--- src/lib.rt:137:1
 returns : tie.Need-returns
 returns c = λ i. record {
   last = Number (c .before .before .before .before .args .reflector);

@@ -1,3 +1,4 @@
+-- `replies::one_more_if` meets its contract. Assumes nothing.
 use mathlib.Core.Path.{_≡_, refl, sym, ap, _∙_, subst}
 use mathlib.Core.Bool.{Bool, true, false, _&&_, not}
 use Prim.Native.Nat.{ℕ, _≤_, _<_, _^_}
@@ -5,18 +6,13 @@ use Rattle.replies.specs.Served.{tally}
 use borrow.Author.Needs.{needs}
 use Rattle.replies.proofs.one_more_if.Statement.{statement}
 use Rattle.replies.proofs.one_more_if.Tie as tie
-use Rattle.replies.proofs.one_more_if.Reads as reads
-use Rattle.replies.proofs.one_more_if.Lts as lts
 
--- src/lib.rt:82:16
 add-result : tie.Need-add-result
 add-result c = search needs
 
--- src/lib.rt:82:9
 returns : tie.Need-returns
 returns c = sym (ap (λ (b : Bool). tally b (c .before .args .count)) (c .if1 .taken))
 
--- src/lib.rt:77:1
 returns-2 : tie.Need-returns-2
 returns-2 c = search needs
 

@@ -1,3 +1,4 @@
+-- `thousandths::tenfold` meets its contract. Assumes nothing.
 use mathlib.Core.Path.{_≡_, refl, sym, ap, _∙_}
 use mathlib.Core.Logic.{⊎-elim}
 use Prim.Native.Nat.{ℕ, _+_, _-_, _*_, _<_, _≤_}
@@ -5,8 +6,6 @@ use native.Mathlib.Omega.{arith}
 use Rattle.thousandths.proofs.Places.{stays, carries, quotient, rest}
 use Rattle.thousandths.proofs.tenfold.Statement.{statement}
 use Rattle.thousandths.proofs.tenfold.Tie as tie
-use Rattle.thousandths.proofs.tenfold.Reads as reads
-use Rattle.thousandths.proofs.tenfold.Lts as lts
 
 abbrev Inv-loop : tie.InvT-loop
 Inv-loop rest divisor left whole₀ sum₀ turn₀ whole sum turn = (left ≡ divisor - rest) × (sum < divisor) × (whole ≤ turn) × (turn ≤ 10) × (turn * rest ≡ whole * divisor + sum)
@@ -14,31 +13,24 @@ Inv-loop rest divisor left whole₀ sum₀ turn₀ whole sum turn = (left ≡ di
 abbrev μ-loop : tie.MeasureT-loop
 μ-loop rest divisor left whole₀ sum₀ turn₀ whole sum turn = 10 - turn
 
--- src/lib.rt:17:16
 sub-left : tie.Need-sub-left Inv-loop μ-loop
 sub-left c = omega arith
 
--- src/lib.rt:21:5
 loop-holds : tie.Need-loop-holds Inv-loop μ-loop
 loop-holds c = omega arith
 
--- src/lib.rt:23:19
 add-sum : tie.Need-add-sum Inv-loop μ-loop
 add-sum c = omega arith
 
--- src/lib.rt:26:21
 add-whole : tie.Need-add-whole Inv-loop μ-loop
 add-whole c = omega arith
 
--- src/lib.rt:28:16
 add-turn : tie.Need-add-turn Inv-loop μ-loop
 add-turn c = omega arith
 
--- src/lib.rt:21:5
 loop-less : tie.Need-loop-less Inv-loop μ-loop
 loop-less c = omega arith
 
--- src/lib.rt:21:5
 loop-again : tie.Need-loop-again Inv-loop μ-loop
 loop-again c = (
   refl,
@@ -49,7 +41,6 @@ loop-again c = (
       (λ w. carries (c .before .before .loop .turn) (c .before .before .before .args .rest) (c .before .before .loop .whole) (c .before .before .before .args .divisor) (c .before .before .loop .sum) (c .before .before .loop .inv .4) (c .before .before .before .pre) (w .0 .left) ∙ sym (λ i. w .1 i * (c .before .before .before .args .divisor) + w .2 i)) (c .if1 .came),
 )
 
--- src/lib.rt:13:1
 returns : tie.Need-returns Inv-loop μ-loop
 returns c =
     let ten : c .before .loop .turn ≡ 10 = omega arith in

@@ -1,3 +1,4 @@
+-- `thousandths::thousandths_of` meets its contract. Assumes nothing.
 use mathlib.Core.Path.{_≡_, refl, sym, ap, _∙_}
 use mathlib.Core.Bool.{Bool, true, false}
 use Prim.Native.Nat.{ℕ, _+_, _*_, _/_, _%_, _<_, _≤_}
@@ -9,60 +10,44 @@ use Rattle.thousandths.proofs.Places.{three, at-most-one}
 use borrow.Author.Needs.{needs}
 use Rattle.thousandths.proofs.thousandths_of.Statement.{statement}
 use Rattle.thousandths.proofs.thousandths_of.Tie as tie
-use Rattle.thousandths.proofs.thousandths_of.Reads as reads
-use Rattle.thousandths.proofs.thousandths_of.Lts as lts
-use Rattle.thousandths.proofs.tenfold.Reads as tenfold-reads
 
--- src/lib.rt:38:9
 returns : tie.Need-returns
 unfolding thousandthsOf
 returns c = sym (ap (λ (b : Bool). thousandthsBy b (c .before .args .unobserved) (c .before .args .requested)) (eq-eqb _ _ (c .if1 .taken)))
 
--- src/lib.rt:40:26
 rem-tenfold : tie.Need-rem-tenfold
 rem-tenfold c = search needs
 
--- src/lib.rt:40:9
 tenfold-requires : tie.Need-tenfold-requires
 tenfold-requires c κs = mod-lt (c .before .args .unobserved) (omega (arith, c .if1 .left))
 
--- src/lib.rt:41:9
 tenfold-requires-2 : tie.Need-tenfold-requires-2
 tenfold-requires-2 c κs = search needs
 
--- src/lib.rt:42:9
 tenfold-requires-3 : tie.Need-tenfold-requires-3
 tenfold-requires-3 c κs = search needs
 
--- src/lib.rt:43:13
 div-result : tie.Need-div-result
 div-result c = search needs
 
--- src/lib.rt:43:5
 mul-result : tie.Need-mul-result
 mul-result c = record { fits = omega (arith, at-most-one (c .before .before .before .before .args .unobserved) (c .before .before .before .before .args .requested) (c .before .before .before .before .pre)) }
 
--- src/lib.rt:43:39
 mul-result-2 : tie.Need-mul-result-2
 mul-result-2 c = search needs
 
--- src/lib.rt:43:5
 add-result : tie.Need-add-result
 add-result c = record { fits = omega (arith, at-most-one (c .before .before .before .before .before .args .unobserved) (c .before .before .before .before .before .args .requested) (c .before .before .before .before .before .pre), c .before .before .before .tenfold .ensures .2) }
 
--- src/lib.rt:43:60
 mul-result-3 : tie.Need-mul-result-3
 mul-result-3 c = search needs
 
--- src/lib.rt:43:5
 add-result-2 : tie.Need-add-result-2
 add-result-2 c = record { fits = omega (arith, at-most-one (c .before .before .before .before .before .before .args .unobserved) (c .before .before .before .before .before .before .args .requested) (c .before .before .before .before .before .before .pre), c .before .before .before .before .tenfold .ensures .2, c .before .before .before .tenfold2 .ensures .2) }
 
--- src/lib.rt:43:5
 add-result-3 : tie.Need-add-result-3
 add-result-3 c = record { fits = omega (arith, at-most-one (c .before .before .before .before .before .before .before .args .unobserved) (c .before .before .before .before .before .before .before .args .requested) (c .before .before .before .before .before .before .before .pre), c .before .before .before .before .before .tenfold .ensures .2, c .before .before .before .before .tenfold2 .ensures .2, c .before .before .before .tenfold3 .ensures .2) }
 
--- src/lib.rt:33:1
 returns-2 : tie.Need-returns-2
 unfolding thousandthsOf
 returns-2 c =

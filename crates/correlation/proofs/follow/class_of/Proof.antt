@@ -1,3 +1,4 @@
+-- `correlation::follow::class_of` meets its contract. Assumes nothing.
 use mathlib.Core.Path.{_≡_, refl, sym, ap, _∙_}
 use mathlib.Core.Bool.{Bool, true, false}
 use Prim.Native.Nat.{ℕ, _+_}
@@ -6,51 +7,37 @@ use Rattle.correlation.specs.Class.{classOf}
 use borrow.Author.Needs.{needs}
 use Rattle.correlation.proofs.follow.class_of.Statement.{statement}
 use Rattle.correlation.proofs.follow.class_of.Tie as tie
-use Rattle.correlation.proofs.follow.class_of.Reads as reads
-use Rattle.correlation.proofs.follow.class_of.Lts as lts
-use Rattle.correlation.proofs.follow.class_by_times.Reads as class-by-times-reads
 
--- src/follow.rt:103:31
 enum-told : tie.Need-enum-told
 enum-told c = search needs
 
--- src/follow.rt:104:29
 enum-told-2 : tie.Need-enum-told-2
 enum-told-2 c = search needs
 
--- src/follow.rt:105:29
 enum-told-3 : tie.Need-enum-told-3
 enum-told-3 c = search needs
 
--- src/follow.rt:106:28
 enum-told-4 : tie.Need-enum-told-4
 enum-told-4 c = search needs
 
--- src/follow.rt:107:21
 enum-known-at : tie.Need-enum-known-at
 enum-known-at c = search needs
 
--- src/follow.rt:107:31
 class-by-times-requires : tie.Need-class-by-times-requires
 class-by-times-requires c κs = search needs
 
--- src/follow.rt:99:1
 returns : tie.Need-returns
 returns c = search needs
 
--- src/follow.rt:99:1
 returns-2 : tie.Need-returns-2
 returns-2 c = search needs
 
--- src/follow.rt:99:1
 returns-3 : tie.Need-returns-3
 returns-3 c = search needs
 
--- src/follow.rt:99:1
 returns-4 : tie.Need-returns-4
 returns-4 c = search needs
 
--- src/follow.rt:99:1
 returns-5 : tie.Need-returns-5
 returns-5 c = c .class-by-times .ensures ∙ sym (ap (λ (f : Found). classOf f (c .before .before .before .before .args .t3)) (c .before .before .at .given .1))
 

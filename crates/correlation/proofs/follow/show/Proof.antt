@@ -1,3 +1,4 @@
+-- `correlation::follow::show` meets its contract. Assumes nothing.
 use mathlib.Core.Path.{_≡_, refl, sym, ap, _∙_}
 use mathlib.Core.Bool.{Bool, true, false}
 use Prim.Native.Nat.{ℕ, _+_}
@@ -8,46 +9,34 @@ use Rattle.correlation.specs.Class.{shownOf}
 use borrow.Author.Needs.{needs}
 use Rattle.correlation.proofs.follow.show.Statement.{statement}
 use Rattle.correlation.proofs.follow.show.Tie as tie
-use Rattle.correlation.proofs.follow.show.Reads as reads
-use Rattle.correlation.proofs.follow.show.Lts as lts
 
--- src/follow.rt:116:31
 enum-told : tie.Need-enum-told
 enum-told c = search needs
 
--- src/follow.rt:117:29
 enum-told-2 : tie.Need-enum-told-2
 enum-told-2 c = search needs
 
--- src/follow.rt:118:29
 enum-told-3 : tie.Need-enum-told-3
 enum-told-3 c = search needs
 
--- src/follow.rt:119:28
 enum-told-4 : tie.Need-enum-told-4
 enum-told-4 c = search needs
 
--- src/follow.rt:120:21
 enum-known-at : tie.Need-enum-known-at
 enum-known-at c = search needs
 
--- src/follow.rt:112:1
 returns : tie.Need-returns
 returns c = search needs
 
--- src/follow.rt:112:1
 returns-2 : tie.Need-returns-2
 returns-2 c = search needs
 
--- src/follow.rt:112:1
 returns-3 : tie.Need-returns-3
 returns-3 c = search needs
 
--- src/follow.rt:112:1
 returns-4 : tie.Need-returns-4
 returns-4 c = search needs
 
--- src/follow.rt:112:1
 returns-5 : tie.Need-returns-5
 returns-5 c =
     ap (shown.Slot (c .before .before .at .given .0 .0 .format)) (toZ-ofZ w64 (c .before .before .at .given .0 .0 .reference) (record { sfits = c .struct-told .given .1 .1 .1 .0 .1 }))

@@ -1,3 +1,4 @@
+-- `direct::summary::anchor_shown` meets its contract. Assumes nothing.
 use mathlib.Core.Path.{_≡_, refl, sym, ap, _∙_, subst}
 use mathlib.Core.Bool.{Bool, true, false}
 use Prim.Native.Nat.{ℕ, _-_}
@@ -5,22 +6,16 @@ use Rattle.direct.specs.Shown.{anchorOf}
 use borrow.Author.Needs.{needs}
 use Rattle.direct.proofs.summary.anchor_shown.Statement.{statement}
 use Rattle.direct.proofs.summary.anchor_shown.Tie as tie
-use Rattle.direct.proofs.summary.anchor_shown.Reads as reads
-use Rattle.direct.proofs.summary.anchor_shown.Lts as lts
 
--- src/summary.rt:103:27
 enum-told : tie.Need-enum-told
 enum-told c = search needs
 
--- src/summary.rt:104:22
 enum-known-window : tie.Need-enum-known-window
 enum-known-window c = search needs
 
--- src/summary.rt:99:1
 returns : tie.Need-returns
 returns c = search needs
 
--- src/summary.rt:99:1
 returns-2 : tie.Need-returns-2
 returns-2 c = sym (ap anchorOf (c .before .before .window .given .1))
 

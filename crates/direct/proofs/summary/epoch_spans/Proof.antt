@@ -1,3 +1,4 @@
+-- `direct::summary::epoch_spans` meets its contract. Assumes nothing.
 use mathlib.Core.Path.{_≡_, refl, sym, ap, _∙_, subst}
 use mathlib.Core.Bool.{Bool, true, false}
 use Prim.Native.Nat.{ℕ, _-_}
@@ -6,41 +7,28 @@ use Rattle.direct.specs.Shown.{less}
 use borrow.Author.Needs.{needs}
 use Rattle.direct.proofs.summary.epoch_spans.Statement.{statement}
 use Rattle.direct.proofs.summary.epoch_spans.Tie as tie
-use Rattle.direct.proofs.summary.epoch_spans.Reads as reads
-use Rattle.direct.proofs.summary.epoch_spans.Lts as lts
-use Rattle.direct.proofs.summary.less_than.Reads as less-than-reads
-use Rattle.direct.proofs.summary.replies_received.Reads as replies-received-reads
-use Rattle.direct.proofs.transmit_offset.Reads as transmit-offset-reads
 
--- src/summary.rt:58:18
 cast-sender : tie.Need-cast-sender
 cast-sender c = search needs
 
--- src/summary.rt:59:20
 cast-received : tie.Need-cast-received
 cast-received c = search needs
 
--- src/summary.rt:60:19
 transmit-offset-requires : tie.Need-transmit-offset-requires
 transmit-offset-requires c κs = search needs
 
--- src/summary.rt:60:19
 cast-highest : tie.Need-cast-highest
 cast-highest c = search needs
 
--- src/summary.rt:61:9
 replies-received-requires : tie.Need-replies-received-requires
 replies-received-requires c κs = search needs
 
--- src/summary.rt:65:18
 less-than-requires : tie.Need-less-than-requires
 less-than-requires c κs = search needs
 
--- src/summary.rt:68:18
 less-than-requires-2 : tie.Need-less-than-requires-2
 less-than-requires-2 c κs = search needs
 
--- src/summary.rt:53:1
 returns : tie.Need-returns
 returns c = λ i. record {
   sent = Number (c .before .before .before .before .before .before .before .before .args .epoch .sender);

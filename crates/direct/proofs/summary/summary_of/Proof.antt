@@ -1,28 +1,20 @@
+-- `direct::summary::summary_of` meets its contract. Assumes nothing.
 use mathlib.Core.Path.{_≡_, refl, sym, ap, _∙_, subst}
 use mathlib.Core.Bool.{Bool, true, false}
 use Prim.Native.Nat.{ℕ, _-_}
 use borrow.Author.Needs.{needs}
 use Rattle.direct.proofs.summary.summary_of.Statement.{statement}
 use Rattle.direct.proofs.summary.summary_of.Tie as tie
-use Rattle.direct.proofs.summary.summary_of.Reads as reads
-use Rattle.direct.proofs.summary.summary_of.Lts as lts
-use Rattle.direct.proofs.summary.anchor_shown.Reads as anchor-shown-reads
-use Rattle.direct.proofs.summary.latest_shown.Reads as latest-shown-reads
-use Rattle.direct.proofs.summary.spans_shown.Reads as spans-shown-reads
 
--- src/summary.rt:131:17
 anchor-shown-requires : tie.Need-anchor-shown-requires
 anchor-shown-requires c κs = search needs
 
--- src/summary.rt:132:17
 latest-shown-requires : tie.Need-latest-shown-requires
 latest-shown-requires c κs = search needs
 
--- src/summary.rt:133:16
 spans-shown-requires : tie.Need-spans-shown-requires
 spans-shown-requires c κs = search needs
 
--- src/summary.rt:124:1
 returns : tie.Need-returns
 returns c = λ i. record {
   counts = c .before .before .before .before .args .direct .counts;

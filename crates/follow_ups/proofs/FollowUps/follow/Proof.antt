@@ -1,3 +1,4 @@
+-- `follow_ups::FollowUps::follow` meets its contract. Assumes nothing.
 use mathlib.Core.Path.{_≡_, refl, sym, ap, _∙_, subst}
 use mathlib.Core.Bool.{Bool, true, false, _&&_, not}
 use Prim.Native.Nat.{ℕ, _≤_, _<_, _^_}
@@ -8,25 +9,16 @@ use Rattle.follow_ups.specs.Followed.{followed, delayAfter}
 use borrow.Author.Needs.{needs}
 use Rattle.follow_ups.proofs.FollowUps.follow.Statement.{statement}
 use Rattle.follow_ups.proofs.FollowUps.follow.Tie as tie
-use Rattle.follow_ups.proofs.FollowUps.follow.Reads as reads
-use Rattle.follow_ups.proofs.FollowUps.follow.Lts as lts
-use Rattle.follow_ups.proofs.count.Reads as count-reads
-use Rattle.follow_ups.proofs.delay_after.Reads as delay-after-reads
-use Rattle.follow_ups.proofs.quality_after.Reads as quality-after-reads
 
--- src/lib.rt:150:21
 count-requires : tie.Need-count-requires
 count-requires c κs = search needs
 
--- src/lib.rt:151:20
 delay-after-requires : tie.Need-delay-after-requires
 delay-after-requires c κs = search needs
 
--- src/lib.rt:152:22
 quality-after-requires : tie.Need-quality-after-requires
 quality-after-requires c κs = search needs
 
--- src/lib.rt:142:5
 returns : tie.Need-returns
 unfolding followed
 returns c = λ i. record {

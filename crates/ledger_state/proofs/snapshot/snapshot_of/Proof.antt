@@ -1,3 +1,4 @@
+-- `ledger_state::snapshot::snapshot_of` meets its contract. Assumes nothing.
 use mathlib.Core.Path.{_≡_, refl, sym, ap, _∙_, subst}
 use mathlib.Core.Bool.{Bool, true, false, _&&_, not}
 use Prim.Native.Nat.{ℕ, _≤_, _<_, _^_}
@@ -6,35 +7,22 @@ use Rattle.ledger_state.specs.Shown.{snapshotOf}
 use borrow.Author.Needs.{needs}
 use Rattle.ledger_state.proofs.snapshot.snapshot_of.Statement.{statement}
 use Rattle.ledger_state.proofs.snapshot.snapshot_of.Tie as tie
-use Rattle.ledger_state.proofs.snapshot.snapshot_of.Reads as reads
-use Rattle.ledger_state.proofs.snapshot.snapshot_of.Lts as lts
-use Rattle.delays.proofs.Delays.summary.Reads as summary-reads
-use Rattle.direct.proofs.summary.summary_of.Reads as summary-of-reads
-use Rattle.ledger_state.proofs.snapshot.follow_summary.Reads as follow-summary-reads
-use Rattle.replies.proofs.Replies.unobserved_replies.Reads as unobserved-replies-reads
-use Rattle.thousandths.proofs.thousandths_of.Reads as thousandths-of-reads
 
--- src/snapshot.rt:52:9
 unobserved-replies-requires : tie.Need-unobserved-replies-requires
 unobserved-replies-requires c κs = search needs
 
--- src/snapshot.rt:53:9
 thousandths-of-requires : tie.Need-thousandths-of-requires
 thousandths-of-requires c κs = search needs
 
--- src/snapshot.rt:58:14
 summary-requires : tie.Need-summary-requires
 summary-requires c κs = search needs
 
--- src/snapshot.rt:59:17
 summary-of-requires : tie.Need-summary-of-requires
 summary-of-requires c κs = search needs
 
--- src/snapshot.rt:60:17
 follow-summary-requires : tie.Need-follow-summary-requires
 follow-summary-requires c κs = search needs
 
--- src/snapshot.rt:43:1
 returns : tie.Need-returns
 unfolding snapshotOf
 returns c = λ i. record {

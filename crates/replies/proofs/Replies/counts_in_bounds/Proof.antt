@@ -1,33 +1,23 @@
+-- `replies::Replies::counts_in_bounds` meets its contract. Assumes nothing.
 use mathlib.Core.Path.{_≡_, refl, sym, ap, _∙_, subst}
 use mathlib.Core.Bool.{Bool, true, false, _&&_, not}
 use Prim.Native.Nat.{ℕ, _≤_, _<_, _^_}
 use borrow.Author.Needs.{needs}
 use Rattle.replies.proofs.Replies.counts_in_bounds.Statement.{statement}
 use Rattle.replies.proofs.Replies.counts_in_bounds.Tie as tie
-use Rattle.replies.proofs.Replies.counts_in_bounds.Reads as reads
-use Rattle.replies.proofs.Replies.counts_in_bounds.Lts as lts
-use Rattle.replies.proofs.answers_fit.Reads as answers-fit-reads
-use Rattle.replies.proofs.evicted_fit.Reads as evicted-fit-reads
-use Rattle.replies.proofs.numbers_fit.Reads as numbers-fit-reads
-use Rattle.replies.proofs.totals_fit.Reads as totals-fit-reads
 
--- src/lib.rt:325:9
 totals-fit-requires : tie.Need-totals-fit-requires
 totals-fit-requires c κs = search needs
 
--- src/lib.rt:325:30
 answers-fit-requires : tie.Need-answers-fit-requires
 answers-fit-requires c κs = search needs
 
--- src/lib.rt:325:53
 numbers-fit-requires : tie.Need-numbers-fit-requires
 numbers-fit-requires c κs = search needs
 
--- src/lib.rt:325:76
 evicted-fit-requires : tie.Need-evicted-fit-requires
 evicted-fit-requires c κs = search needs
 
--- src/lib.rt:318:5
 returns : tie.Need-returns
 returns c = λ i. c .before .before .before .totals-fit .ensures i && c .before .before .answers-fit .ensures i && c .before .numbers-fit .ensures i && c .evicted-fit .ensures i
 

@@ -1,3 +1,4 @@
+-- `replies::Replies::sent` meets its contract. Assumes nothing.
 use Rattle.replies.specs.Served.{afterSent}
 use mathlib.Core.Path.{_≡_, refl, sym, ap, _∙_, subst}
 use mathlib.Core.Bool.{Bool, true, false, _&&_, not}
@@ -5,20 +6,13 @@ use Prim.Native.Nat.{ℕ, _≤_, _<_, _^_}
 use borrow.Author.Needs.{needs}
 use Rattle.replies.proofs.Replies.sent.Statement.{statement}
 use Rattle.replies.proofs.Replies.sent.Tie as tie
-use Rattle.replies.proofs.Replies.sent.Reads as reads
-use Rattle.replies.proofs.Replies.sent.Lts as lts
-use Rattle.replies.proofs.evict.Reads as evict-reads
-use Rattle.replies.proofs.request.Reads as request-reads
 
--- src/lib.rt:232:21
 request-requires : tie.Need-request-requires
 request-requires c κs = search needs
 
--- src/lib.rt:235:22
 evict-requires : tie.Need-evict-requires
 evict-requires c κs = search needs
 
--- src/lib.rt:223:5
 returns : tie.Need-returns
 unfolding afterSent
 returns c = λ i. record { totals = c .before .request .ensures i; answers = c .before .before .before .before .before .before .args .self .answers; numbers = c .before .before .before .before .before .before .args .self .numbers; evicted = c .evict .ensures i }

@@ -1,3 +1,4 @@
+-- `replies::Replies::unique` meets its contract. Assumes nothing.
 use Rattle.replies.specs.Served.{afterUnique}
 use mathlib.Core.Path.{_≡_, refl, sym, ap, _∙_, subst}
 use mathlib.Core.Bool.{Bool, true, false, _&&_, not}
@@ -5,30 +6,19 @@ use Prim.Native.Nat.{ℕ, _≤_, _<_, _^_}
 use borrow.Author.Needs.{needs}
 use Rattle.replies.proofs.Replies.unique.Statement.{statement}
 use Rattle.replies.proofs.Replies.unique.Tie as tie
-use Rattle.replies.proofs.Replies.unique.Reads as reads
-use Rattle.replies.proofs.Replies.unique.Lts as lts
-use Rattle.replies.proofs.answer.Reads as answer-reads
-use Rattle.replies.proofs.evict.Reads as evict-reads
-use Rattle.replies.proofs.number.Reads as number-reads
-use Rattle.replies.proofs.one_unique.Reads as one-unique-reads
 
--- src/lib.rt:290:21
 one-unique-requires : tie.Need-one-unique-requires
 one-unique-requires c κs = search needs
 
--- src/lib.rt:291:22
 answer-requires : tie.Need-answer-requires
 answer-requires c κs = search needs
 
--- src/lib.rt:292:22
 number-requires : tie.Need-number-requires
 number-requires c κs = search needs
 
--- src/lib.rt:293:22
 evict-requires : tie.Need-evict-requires
 evict-requires c κs = search needs
 
--- src/lib.rt:272:5
 returns : tie.Need-returns
 unfolding afterUnique
 returns c = λ i. record { totals = c .before .before .before .one-unique .ensures i; answers = c .before .before .answer .ensures i; numbers = c .before .number .ensures i; evicted = c .evict .ensures i }

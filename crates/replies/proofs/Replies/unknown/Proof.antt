@@ -1,3 +1,4 @@
+-- `replies::Replies::unknown` meets its contract. Assumes nothing.
 use Rattle.replies.specs.Served.{afterUnknown}
 use mathlib.Core.Path.{_≡_, refl, sym, ap, _∙_, subst}
 use mathlib.Core.Bool.{Bool, true, false, _&&_, not}
@@ -5,15 +6,10 @@ use Prim.Native.Nat.{ℕ, _≤_, _<_, _^_}
 use borrow.Author.Needs.{needs}
 use Rattle.replies.proofs.Replies.unknown.Statement.{statement}
 use Rattle.replies.proofs.Replies.unknown.Tie as tie
-use Rattle.replies.proofs.Replies.unknown.Reads as reads
-use Rattle.replies.proofs.Replies.unknown.Lts as lts
-use Rattle.replies.proofs.one_unknown.Reads as one-unknown-reads
 
--- src/lib.rt:265:21
 one-unknown-requires : tie.Need-one-unknown-requires
 one-unknown-requires c κs = search needs
 
--- src/lib.rt:256:5
 returns : tie.Need-returns
 unfolding afterUnknown
 returns c = λ i. record { totals = c .one-unknown .ensures i; answers = c .before .before .before .before .before .args .self .answers; numbers = c .before .before .before .before .before .args .self .numbers; evicted = c .before .before .before .before .before .args .self .evicted }
