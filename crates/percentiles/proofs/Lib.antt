@@ -1,3 +1,4 @@
 pub mod Values
+pub mod Fours
 pub mod Ways
 pub mod Determined

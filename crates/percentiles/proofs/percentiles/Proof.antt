@@ -47,8 +47,8 @@ returns-5 c =
     let a = c .before .before .before .before .before .before .before .before .before .before .before .before .args in
     way-empty (a .q) (now (a .room)) (now (a .ps)) (now (a .shown)) (c .before .before .before .before .before .before .before .if1 .left ∙ c .before .before .before .before .before .before .before .before .room-size .ensures) (c .before .before .before .before .before .before .if2 .left) (sym (c .before .before .before .before .before .min-above-max .ensures) ∙ c .before .before .before .before .if3 .left) (c .before .before .if4 .left) (c .if5 .taken)
 
-show-requires : tie.Need-show-requires
-show-requires c κs = search needs
+show-exact-requires : tie.Need-show-exact-requires
+show-exact-requires c κs = search needs
 
 same-length-2 : tie.Need-same-length-2
 same-length-2 c = search needs
@@ -56,7 +56,7 @@ same-length-2 c = search needs
 returns-6 : tie.Need-returns-6
 returns-6 c =
     let a = c .before .before .before .before .before .before .before .before .before .before .before .before .before .before .before .before .args in
-    ap (λ (l : List ℕ). outcome Shown l) (c .before .before .show .ensures)
+    ap (λ (l : List ℕ). outcome Shown l) (c .before .before .show-exact .ensures)
     ∙ way-exact (a .q) (now (a .room)) (now (a .ps)) (now (a .shown)) (c .before .before .before .before .before .before .before .before .before .before .before .if1 .left ∙ c .before .before .before .before .before .before .before .before .before .before .before .before .room-size .ensures) (c .before .before .before .before .before .before .before .before .before .before .if2 .left) (sym (c .before .before .before .before .before .before .before .before .before .min-above-max .ensures) ∙ c .before .before .before .before .before .before .before .before .if3 .left) (c .before .before .before .before .before .before .if4 .left) (c .before .before .before .before .if5 .left)
 
 pub percentiles-spec : {M : Type 1} → statement M
@@ -72,6 +72,6 @@ percentiles-spec =
     same-length
     returns-4
     returns-5
-    show-requires
+    show-exact-requires
     same-length-2
     returns-6)

@@ -1,4 +1,4 @@
--- `percentiles::show` meets its contract. The loop's invariant: the percentiles passed have their values, and the words after them are as
+-- `percentiles::show_rest` meets its contract. The loop's invariant: the percentiles passed have their values, and the words after them are as
 -- they were. Assumes nothing.
 use mathlib.Core.Path.{_≡_, refl, sym, _∙_, ap, subst}
 use borrow.Author.Needs.{needs}
@@ -12,17 +12,18 @@ use lib.ListN.{length, getD, take, drop, set, length-set}
 use Rattle.rank.specs.Rank.{rank-below}
 use Rattle.percentiles.specs.Percentiles.{percentile}
 use Rattle.percentiles.proofs.Values.{shown-next, shown-all, percentile-is}
-use Rattle.percentiles.proofs.show.Statement.{statement}
-use Rattle.percentiles.proofs.show.Tie as tie
+use Rattle.percentiles.proofs.show_rest.Statement.{statement}
+use Rattle.percentiles.proofs.show_rest.Tie as tie
 
 abbrev Inv-loop : tie.InvT-loop
-Inv-loop q room ps shown₀ i₀ shown i = (i ≤ length ps) × (length shown₀ ≡ length ps) × (length shown ≡ length ps) × (shown ≡ map (percentile q room) (take i ps) ++ drop i shown₀)
+Inv-loop q room ps shown₀ from i₀ shown i = (i ≤ length ps) × (length shown₀ ≡ length ps) × (length shown ≡ length ps) × (shown ≡ map (percentile q room) (take i ps) ++ drop i shown₀)
 
 abbrev μ-loop : tie.MeasureT-loop
-μ-loop q room ps shown₀ i₀ shown i = length ps - i
+μ-loop q room ps shown₀ from i₀ shown i = length ps - i
 
 loop-holds : tie.Need-loop-holds Inv-loop μ-loop
-loop-holds c = (omega arith, c .before .before .before .pre .3, c .before .before .before .pre .3, refl)
+loop-holds c =
+    let p = c .before .before .before .pre in (p .4, p .3, p .3, p .5)
 
 mul-p : tie.Need-mul-p Inv-loop μ-loop
 mul-p c = search needs
@@ -72,8 +73,8 @@ returns c =
     let a = c .before .before .before .before .before .args in
     c .before .loop .inv .3 ∙ shown-all (percentile (a .q) (now (a .room))) (now (a .ps)) (now (a .shown)) (c .before .loop .i) (c .loop-test .left) (c .before .loop .inv .1)
 
-pub show-spec : {M : Type 1} → statement M
-show-spec =
+pub show-rest-spec : {M : Type 1} → statement M
+show-rest-spec =
     tie.close
     (tie.spec
     Inv-loop
