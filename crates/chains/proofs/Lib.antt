@@ -7,5 +7,3 @@ pub mod Scan
 pub mod Lanes
 pub mod Loop
 pub mod Hashes
-pub mod Remove
-pub mod Shift

@@ -3,4 +3,3 @@ pub mod Links
 pub mod Walk
 pub mod Whole
 pub mod Hash
-pub mod Mend

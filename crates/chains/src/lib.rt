@@ -10,7 +10,6 @@ ghost use Rattle.chains.specs.Rings.{wrap, pushSlot, afterPush, RingFits
 ghost use Rattle.chains.specs.Walk.{placeOf};
 ghost use Rattle.chains.specs.Links.{newest, older, linked};
 ghost use Rattle.chains.specs.Hash.{productsOf, keyHash, numberHash};
-ghost use Rattle.chains.specs.Mend.{slotBefore, mendedLink};
 use scope::CAPACITY;
 
 // The slot of the oldest entry, and how many entries there are.
@@ -152,39 +151,4 @@ pub fn number_hash(secret: [u32; 8], n: u32) -> usize
     let wide = wide_word(n);
     let sum = times(secret[0], wide % 65536) + times(secret[1], wide / 65536);
     (sum / 1048576 % 4096) as usize
-}
-
-// `place` in words of 16 bits, for the loops that go over every link of a room.
-fn place16(head: u16, link: u16) -> u16
-    requires { ⌜ head < capacity ⌝ }
-    ensures { λ q. ⌜ q ≡ placeOf capacity head link ⌝ }
-{
-    if link < 4096 {
-        if link < head {
-            return link + 4096 - head;
-        }
-        return link - head;
-    }
-    4096
-}
-
-fn slot_before(slot: u16) -> u16
-    ensures { λ q. ⌜ q ≡ slotBefore capacity slot ⌝ }
-{
-    if slot == 0 { 4095 } else { slot - 1 }
-}
-
-// A link after the entry at place `gone`, whose own link is `own`, was taken out and those above it moved down.
-pub fn mended(head: u16, gone: u16, own: u16, link: u16) -> u16
-    requires { ⌜ head < capacity ⌝ }
-    ensures { λ q. ⌜ q ≡ mendedLink capacity head gone own link ⌝ }
-{
-    let at = place16(head, link);
-    if gone < at {
-        return slot_before(link);
-    }
-    if gone == at {
-        return own;
-    }
-    link
 }
