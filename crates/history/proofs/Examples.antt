@@ -217,10 +217,10 @@ lookups : (lookup 4 1 (followUp 11 NoTime) 12 (events 4 one) ≡ shows NTP (pos 
 unfolding lookup followClass slotAt events replyClass lastAccepted held ready afterReply accepted rememberings distinct without hasKey has
 lookups = (refl, refl, refl, refl)
 
-delays : (delay 4 1 (pos 900) (pos 800) (negsuc 0) ≡ negsuc 999999899) × (delay 4 1 (pos 0) (pos 5) (pos 0) ≡ negsuc 4)
+delays : (delay (pos 900) (pos 800) (negsuc 0) ≡ negsuc 999999899) × (delay (pos 0) (pos 5) (pos 0) ≡ negsuc 4)
 delays = (refl, refl)
 
--- ---- every outcome of direct counters. `counted` observes these points in turn, oldest first in the list
+-- ---- every outcome of direct counters, after a window of points, newest first
 
 abbrev class : List CounterPoint → CounterPoint → DirectClass
 class w c = directClass 3 (some (c .sender .0)) c w

@@ -116,19 +116,11 @@ present-distinct n (suc x ∷ xs) d b = present-new n x xs (b .0) (d .0) ∙ ap 
 pub missing-is : (n : ℕ) (xs : List ℕ) → Distinct xs → AtMost n xs → missing n xs ≡ n - above0 xs
 missing-is n xs d b = rw (← present-distinct n xs d b) (omega (arith, missing-present n xs))
 
--- the same with no subtraction
-pub missing-plus : (n : ℕ) (xs : List ℕ) → Distinct xs → AtMost n xs → missing n xs + above0 xs ≡ n
-missing-plus n xs d b = rw (← present-distinct n xs d b) (missing-present n xs)
-
 -- ---- no transmit offset is seen twice in a window
 
 abbrev Clean : List CounterPoint → Type 0
 Clean [] = Unit {0}
 Clean (c ∷ w) = Distinct (seen (anchorOf c w) (c ∷ w))
-
-anchor-same : (c d : CounterPoint) (w : List CounterPoint) → anchorOf c (d ∷ w) ≡ anchorOf d w
-unfolding anchorOf
-anchor-same c d w = refl
 
 stays : (c d : CounterPoint) (w : List CounterPoint) (j s f b : Bool) → has (seen (anchorOf d w) (d ∷ w)) (transmitOffset (anchorOf d w) c) ≡ s
     → Clean (d ∷ w) → Clean (nextWindow 0 (within j s f b) c (d ∷ w))

@@ -97,6 +97,37 @@ following (some f) own slot r = cond (sameFollow matched (followClass f own (slo
 abbrev pub observing : Option Kept → (own : ℕ) → ℕ → Slot → Slot
 observing kept own r s = cond (eqb r own) (raise kept s) s
 
+-- ---- the lookup: a slot's format and reference, exactly when no class down to repeated holds
+
+pub data Lookup : Type 0 where
+  nothing : Lookup
+  shows : ClockFormat → (reference : ℤ) → Lookup
+
+-- of a slot with count 1, a record and no correction
+abbrev pub lookupSlot : Slot → Lookup
+lookupSlot free = nothing
+lookupSlot (taken n none c) = nothing
+lookupSlot (taken n (some r) c) = cond (eqb n 1 && not c) (shows (r .format) (r .reference)) nothing
+
+-- T4 - (T3 - offset·10^9)
+abbrev pub delay : (t4 t3 offset : ℤ) → ℤ
+delay t4 t3 offset = t4 -ℤ (t3 -ℤ (offset *ℤ pos 1000000000))
+
+-- what a matched follow-up measures: its delay, and the estimates of the reply that it corrects
+pub record Measured : Type 0 where
+  pub delay-ns : ℤ
+  pub quality : Option EstimatePair
+
+abbrev pub measuredBy : Option ℤ → Option ℤ → ℤ → Option EstimatePair → List Measured → List Measured
+measuredBy (some t4) (some t3) offset q ms = record { delay-ns = delay t4 t3 offset; quality = q } ∷ ms
+measuredBy (some t4) none offset q ms = ms
+measuredBy none t3 offset q ms = ms
+
+abbrev pub measuredIn : Slot → Option ℤ → ℤ → List Measured → List Measured
+measuredIn free t3 offset ms = ms
+measuredIn (taken n none c) t3 offset ms = ms
+measuredIn (taken n (some r) c) t3 offset ms = measuredBy (r .t4) t3 offset (r .quality) ms
+
 module _ (N copies : ℕ) where
   -- the key that one more unique reply evicts: the oldest of the last N, where N were accepted
   abbrev pub evicted : List ReplyKey → Option ReplyKey
@@ -113,18 +144,7 @@ module _ (N copies : ℕ) where
   abbrev pub classAt : FollowUpTelemetry → (own : ℕ) → List Event → FollowClass
   classAt f own es = followClass f own (slotAt es (f .sequence))
 
-  -- ---- the lookup: a slot's format and reference, exactly when no class down to repeated holds
-
-  pub data Lookup : Type 0 where
-    nothing : Lookup
-    shows : ClockFormat → (reference : ℤ) → Lookup
-
-  -- of a slot with count 1, a record and no correction
-  abbrev pub lookupSlot : Slot → Lookup
-  lookupSlot free = nothing
-  lookupSlot (taken n none c) = nothing
-  lookupSlot (taken n (some r) c) = cond (eqb n 1 && not c) (shows (r .format) (r .reference)) nothing
-
+  -- the first that holds, as in the class
   unfoldable pub lookup : FollowUpTelemetry → (own : ℕ) → List Event → Lookup
   lookup f own es =
       cond (f .unknown || eqb (f .timestamp) 0) nothing
@@ -145,25 +165,6 @@ module _ (N copies : ℕ) where
   isFollow x = onObserve (λ o es. isClassOf x (followOf (o .follow)) (o .key .reflector) es)
 
   -- ---- matched follow-ups: delay and estimates
-
-  -- T4 - (T3 - offset·10^9)
-  abbrev pub delay : (t4 t3 offset : ℤ) → ℤ
-  delay t4 t3 offset = t4 -ℤ (t3 -ℤ (offset *ℤ pos 1000000000))
-
-  -- what a matched follow-up measures: its delay, and the estimates of the reply that it corrects
-  pub record Measured : Type 0 where
-    pub delay-ns : ℤ
-    pub quality : Option EstimatePair
-
-  abbrev pub measuredBy : Option ℤ → Option ℤ → ℤ → Option EstimatePair → List Measured → List Measured
-  measuredBy (some t4) (some t3) offset q ms = record { delay-ns = delay t4 t3 offset; quality = q } ∷ ms
-  measuredBy (some t4) none offset q ms = ms
-  measuredBy none t3 offset q ms = ms
-
-  abbrev pub measuredIn : Slot → Option ℤ → ℤ → List Measured → List Measured
-  measuredIn free t3 offset ms = ms
-  measuredIn (taken n none c) t3 offset ms = ms
-  measuredIn (taken n (some r) c) t3 offset ms = measuredBy (r .t4) t3 offset (r .quality) ms
 
   abbrev pub measuredOf : Option FollowUpTelemetry → ReplyObservation → List Event → List Measured → List Measured
   measuredOf none o es ms = ms
