@@ -45,6 +45,9 @@ pub record ObserveOutcome : Type 0 where
   pub offsets : List ℕ
   pub links : List (List ℕ)
 
+abbrev pub observeOutcome : Ledger → List (List ℕ) → List ℕ → List (List ℕ) → ObserveOutcome
+observeOutcome l slots offsets links = record { ledger = l; slots = slots; offsets = offsets; links = links }
+
 -- ---- direct counters
 
 -- the measurement, the seen offsets and the links
@@ -53,10 +56,16 @@ pub record DirectOutcome : Type 0 where
   pub offsets : List ℕ
   pub links : List (List ℕ)
 
+abbrev pub directOutcome : Direct → List ℕ → List (List ℕ) → DirectOutcome
+directOutcome d offsets links = record { direct = d; offsets = offsets; links = links }
+
 -- the follow-ups, and the rows of words
 pub record FollowOutcome : Type 0 where
   pub follow : FollowUps
   pub slots : List (List ℕ)
+
+abbrev pub followOutcome : FollowUps → List (List ℕ) → FollowOutcome
+followOutcome f slots = record { follow = f; slots = slots }
 
 module _ (N : ℕ) (byNumber : ℕ → ℕ) where
   -- what becomes of the seen offsets, of which there are `count`: kept, begun with offset 0, one more, or cleared by their count alone
@@ -67,11 +76,11 @@ module _ (N : ℕ) (byNumber : ℕ → ℕ) where
   offsetsAfter Cleared s = s
 
   abbrev pub directWith : Step → offset_set.OffsetSet → DirectOutcome
-  directWith step s = record { direct = step .direct; offsets = offsetsAfter (step .offsets) s .offsets; links = offsetsAfter (step .offsets) s .links }
+  directWith step s = directOutcome (step .direct) (offsetsAfter (step .offsets) s .offsets) (offsetsAfter (step .offsets) s .links)
 
   -- the counters of a reply: whether their transmit offset was seen, then the outcome
   abbrev pub directBy : Counters → Direct → offset_set.OffsetSet → Ordinal → DirectOutcome
-  directBy counters.Absent d s o = record { direct = d; offsets = s .offsets; links = s .links }
+  directBy counters.Absent d s o = directOutcome d (s .offsets) (s .links)
   directBy (counters.Point c) d s o = directWith (outcomes.recorded N d c o (offset_set.contains N byNumber s (outcomes.soughtIn (d .window) c))) s
 
   unfoldable pub directIn : Direct → List ℕ → List (List ℕ) → ReplyObservation → DirectOutcome
@@ -98,13 +107,12 @@ module _ (N : ℕ) (byKey : ReplyKey → ℕ) (byNumber : ℕ → ℕ) where
 
   -- of the slot at p
   abbrev pub followWith : FollowUps → List (List ℕ) → ℕ → ReplyObservation → FollowUpTelemetry → FollowOutcome
-  followWith fs slots p o f = record {
-    follow = followed fs (classAt N slots p (o .key .reflector) f) (o .offset);
-    slots = correctedAt (classAt N slots p (o .key .reflector) f) N slots p;
-  }
+  followWith fs slots p o f = followOutcome
+      (followed fs (classAt N slots p (o .key .reflector) f) (o .offset))
+      (correctedAt (classAt N slots p (o .key .reflector) f) N slots p)
 
   abbrev pub followBy : FollowUp → FollowUps → Ring → List (List ℕ) → List (List ℕ) → List (List ℕ) → ReplyObservation → FollowOutcome
-  followBy follow.Absent fs ring keys slots links o = record { follow = fs; slots = slots }
+  followBy follow.Absent fs ring keys slots links o = followOutcome fs slots
   followBy (follow.Telemetry f) fs ring keys slots links o = followWith fs slots (holderOf ring keys slots links (f .sequence)) o f
 
   unfoldable pub followIn : FollowUps → Ring → List (List ℕ) → List (List ℕ) → List (List ℕ) → ReplyObservation → FollowOutcome
@@ -141,12 +149,11 @@ module _ (N : ℕ) (byKey : ReplyKey → ℕ) (byNumber : ℕ → ℕ) where
   }
 
   abbrev pub observeWith : Ledger → List (List ℕ) → DirectOutcome → FollowOutcome → ReplyObservation → ObserveOutcome
-  observeWith l keys d f o = record {
-    ledger = ledgerObserved l (o .rtt) (d .direct) (f .follow);
-    slots = ownIn (l .copies) (l .tables .keys) keys (f .slots) (d .links) o;
-    offsets = d .offsets;
-    links = d .links;
-  }
+  observeWith l keys d f o = observeOutcome
+      (ledgerObserved l (o .rtt) (d .direct) (f .follow))
+      (ownIn (l .copies) (l .tables .keys) keys (f .slots) (d .links) o)
+      (d .offsets)
+      (d .links)
 
   unfoldable pub observeIn : Ledger → List (List ℕ) → List (List ℕ) → List ℕ → List (List ℕ) → ReplyObservation → ObserveOutcome
   observeIn l keys slots offsets links o =

@@ -39,7 +39,8 @@ refusalOfAccept other l keys slots probes links =
 abbrev pub awaitsKey : Ledger → List (List ℕ) → ReplyKey → Bool
 awaitsKey l keys k = l .tables .awaits && newestIs capacity keys (l .tables .keys) k
 
--- `observe`: 5, 1, 4 and 2
+-- `observe`: 5, 1, 4 and 2. The 5 of "needs a new slot and none is free" never holds: a slot's words stand beside each accepted key, so that the
+-- awaiting key has its own place (`own-place` of crate ledger_observe).
 unfoldable pub refusalOfObserve : Ledger → List (List ℕ) → ℕ → ℕ → ℕ → ReplyObservation → ℕ
 refusalOfObserve l keys slots offsets links o =
     firstRefusal (sized (length keys) && sized slots && sized offsets && sized links && ringsFit l) (inRange o) true (roomForCall l)
