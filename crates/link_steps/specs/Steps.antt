@@ -1,0 +1,181 @@
+-- A link is a ledger with its rooms and, where it has one, a monitor with the room of its queue. Here: what each call of the host does to it.
+-- "With a monitor, sent and accept drive it"; "each refusal returns its number only and changes nothing": of both parts.
+-- Assumes nothing.
+use mathlib.Core.Bool.{Bool, true, false}
+use mathlib.Core.List.{List, [], _∷_}
+use Prim.Native.Nat.{ℕ, zero, suc, _+_}
+use lib.ListN.{length}
+use Rattle.scope.specs.Limits.{capacity}
+use Rattle.calls.specs.declared.SentProbe.{SentProbe}
+use Rattle.calls.specs.declared.Reply.{Reply}
+use Rattle.calls.specs.declared.ReplyObservation.{ReplyObservation}
+use Rattle.calls.specs.declared.Call.{Call}
+use Rattle.calls.specs.declared.Call.the-variants.{Sent, Accept, Observe, Advance, Idle}
+use Rattle.probe_queue.specs.declared.Probe.{Probe}
+use Rattle.monitor.specs.declared.Monitor.{Monitor}
+use Rattle.monitor.specs.Refusals as monitor
+use Rattle.monitor.specs.Operations.{Stand as Stands, sentIf, replyIf, advanceIf, idleOn}
+use Rattle.ledger_state.specs.declared.Ledger.{Ledger}
+use Rattle.ledger_steps.specs.declared.Accepted.{Accepted}
+use Rattle.ledger_steps.specs.declared.Accepted.the-variants as accepted
+use Rattle.ledger_steps.specs.declared.Answer.{Answer}
+use Rattle.ledger_steps.specs.declared.Answer.the-variants as answer
+use Rattle.ledger_steps.specs.declared.AcceptAnswer.{AcceptAnswer}
+use Rattle.ledger_steps.specs.declared.AcceptAnswer.the-variants as accepts
+use Rattle.ledger_steps.specs.Rooms.{Rooms}
+use Rattle.ledger_steps.specs.Calls.{number, acceptNumber, SentResult, AcceptResult, ObserveResult, sentTo, acceptTo, observeTo}
+use Rattle.link_steps.specs.declared.Watch.{Watch}
+use Rattle.link_steps.specs.declared.Watch.the-variants.{Absent, Present}
+use Rattle.link_steps.specs.declared.Link.{Link}
+
+-- a link with all of its rooms; without a monitor the queue is not looked at
+pub record Standing : Type 0 where
+  pub link : Link
+  pub rooms : Rooms
+  pub queue : List Probe
+
+-- a monitor and the queue, as the monitor's operation left them
+pub record Watched : Type 0 where
+  pub watch : Watch
+  pub queue : List Probe
+
+abbrev pub watched : Stands → Watched
+watched s = record { watch = Present (s .monitor); queue = s .room }
+
+abbrev pub unwatched : List Probe → Watched
+unwatched queue = record { watch = Absent; queue = queue }
+
+abbrev pub standing : Ledger → Rooms → Watched → Standing
+standing l r w = record { link = record { ledger = l; watch = w .watch }; rooms = r; queue = w .queue }
+
+-- ---- the monitor's part
+
+-- its refusal of `sent`, and of its other calls
+abbrev pub watchRefusesSent : Watch → List Probe → SentProbe → ℕ
+watchRefusesSent Absent queue s = 0
+watchRefusesSent (Present m) queue s = monitor.refusalOfSent m (length queue) (s .packet .time)
+
+abbrev pub watchRefuses : Watch → List Probe → ℕ
+watchRefuses Absent queue = 0
+watchRefuses (Present m) queue = monitor.refusalOf m (length queue)
+
+-- what it does where the call goes on
+abbrev pub watchSent : Bool → Watch → List Probe → SentProbe → Watched
+watchSent go Absent queue s = unwatched queue
+watchSent go (Present m) queue s = watched (sentIf go m queue (s .sequence) (s .packet .time))
+
+abbrev pub watchReply : Bool → Watch → List Probe → Reply → Watched
+watchReply go Absent queue a = unwatched queue
+watchReply go (Present m) queue a = watched (replyIf go m queue (a .key .sender))
+
+-- "Without a monitor kinds 3 and 4 do nothing."
+abbrev pub watchAdvance : Watch → List Probe → ℕ → Watched
+watchAdvance Absent queue time = unwatched queue
+watchAdvance (Present m) queue time = watched (advanceIf true m queue time)
+
+abbrev pub idleBy : ℕ → Monitor → Monitor
+idleBy zero m = idleOn m
+idleBy (suc n) m = m
+
+abbrev pub watchRefusesIdle : Watch → ℕ
+watchRefusesIdle Absent = 0
+watchRefusesIdle (Present m) = monitor.refusalOf m capacity
+
+abbrev pub watchIdle : Watch → List Probe → Watched
+watchIdle Absent queue = unwatched queue
+watchIdle (Present m) queue = record { watch = Present (idleBy (monitor.refusalOf m capacity) m); queue = queue }
+
+-- ---- `sent`: the ledger's part with the monitor's refusal, then the monitor's where it was served
+
+abbrev pub wasServed : Answer → Bool
+wasServed (answer.Served l) = true
+wasServed (answer.Refused n) = false
+
+-- the ledger of an answer: a refusal leaves it as it was
+abbrev pub ledgerOf : Ledger → Answer → Ledger
+ledgerOf l (answer.Served next) = next
+ledgerOf l (answer.Refused n) = l
+
+abbrev pub sentResult : Standing → SentProbe → SentResult
+sentResult k s = sentTo (watchRefusesSent (k .link .watch) (k .queue) s) (k .link .ledger) (k .rooms .probes) (k .rooms .links) s
+
+abbrev pub sentLeaves : Standing → SentProbe → SentResult → Standing
+sentLeaves k s r =
+    standing (ledgerOf (k .link .ledger) (r .answer))
+    (record { keys = k .rooms .keys; slots = k .rooms .slots; probes = r .probes; offsets = k .rooms .offsets; links = r .links })
+    (watchSent (wasServed (r .answer)) (k .link .watch) (k .queue) s)
+
+-- ---- `accept`: a unique reply goes to the monitor
+
+abbrev pub wasUnique : AcceptAnswer → Bool
+wasUnique (accepts.Served l accepted.Duplicate) = false
+wasUnique (accepts.Served l accepted.Unknown) = false
+wasUnique (accepts.Served l (accepted.Unique p o)) = true
+wasUnique (accepts.Refused n) = false
+
+abbrev pub ledgerOfAccept : Ledger → AcceptAnswer → Ledger
+ledgerOfAccept l (accepts.Served next a) = next
+ledgerOfAccept l (accepts.Refused n) = l
+
+abbrev pub acceptResult : Standing → Reply → AcceptResult
+acceptResult k a =
+    acceptTo (watchRefuses (k .link .watch) (k .queue)) (k .link .ledger) (k .rooms .keys) (k .rooms .slots) (k .rooms .probes) (k .rooms .links) a
+
+abbrev pub acceptLeaves : Standing → Reply → AcceptResult → Standing
+acceptLeaves k a r =
+    standing (ledgerOfAccept (k .link .ledger) (r .answer))
+    (record { keys = r .keys; slots = r .slots; probes = r .probes; offsets = k .rooms .offsets; links = r .links })
+    (watchReply (wasUnique (r .answer)) (k .link .watch) (k .queue) a)
+
+-- ---- `observe`: the ledger's alone
+
+abbrev pub observeResult : Standing → ReplyObservation → ObserveResult
+observeResult k o = observeTo (k .link .ledger) (k .rooms .keys) (k .rooms .slots) (k .rooms .offsets) (k .rooms .links) o
+
+abbrev pub observeLeaves : Standing → ObserveResult → Standing
+observeLeaves k r =
+    standing (ledgerOf (k .link .ledger) (r .answer))
+    (record { keys = k .rooms .keys; slots = r .slots; probes = k .rooms .probes; offsets = r .offsets; links = r .links })
+    (record { watch = k .link .watch; queue = k .queue })
+
+-- ---- a call
+
+-- the number of its refusal, 0 where it is served
+unfoldable pub refuses : Standing → Call → ℕ
+refuses k (Sent s) = number (sentResult k s .answer)
+refuses k (Accept a) = acceptNumber (acceptResult k a .answer)
+refuses k (Observe o) = number (observeResult k o .answer)
+refuses k (Advance t) = watchRefuses (k .link .watch) (k .queue)
+refuses k Idle = watchRefusesIdle (k .link .watch)
+
+-- what it leaves
+unfoldable pub after : Standing → Call → Standing
+after k (Sent s) = sentLeaves k s (sentResult k s)
+after k (Accept a) = acceptLeaves k a (acceptResult k a)
+after k (Observe o) = observeLeaves k (observeResult k o)
+after k (Advance t) = standing (k .link .ledger) (k .rooms) (watchAdvance (k .link .watch) (k .queue) t)
+after k Idle = standing (k .link .ledger) (k .rooms) (watchIdle (k .link .watch) (k .queue))
+
+-- ---- calls one after the other, newest first: each is given what the last one left
+
+unfoldable pub played : Standing → List Call → Standing
+played k [] = k
+played k (c ∷ cs) = after (played k cs) c
+
+-- the calls that were served
+abbrev pub keptIf : ℕ → Call → List Call → List Call
+keptIf zero c cs = c ∷ cs
+keptIf (suc n) c cs = cs
+
+unfoldable pub served : Standing → List Call → List Call
+served k [] = []
+served k (c ∷ cs) = keptIf (refuses (played k cs) c) c (served k cs)
+
+-- how many were turned away
+abbrev pub oneIf : ℕ → ℕ → ℕ
+oneIf zero n = n
+oneIf (suc k) n = n + 1
+
+unfoldable pub turnedAway : Standing → List Call → ℕ
+turnedAway k [] = 0
+turnedAway k (c ∷ cs) = oneIf (refuses (played k cs) c) (turnedAway k cs)
