@@ -100,54 +100,59 @@ correctedAt (class.Matched m) N slots p = storedAt N slots p (wordsOf (corrected
 abbrev pub classAt : ℕ → List (List ℕ) → ℕ → ℕ → FollowUpTelemetry → Class
 classAt N slots p own f = classOf (foundBy (f .unknown) (f .timestamp) (f .sequence) own (slotOf (wordsAt N slots p))) (f .t3)
 
+-- a follow-up, of the slot at p
+abbrev pub followWith : ℕ → FollowUps → List (List ℕ) → ℕ → ReplyObservation → FollowUpTelemetry → FollowOutcome
+followWith N fs slots p o f = followOutcome
+    (followed fs (classAt N slots p (o .key .reflector) f) (o .offset))
+    (correctedAt (classAt N slots p (o .key .reflector) f) N slots p)
+
+-- ---- the own slot
+
+-- what a later follow-up needs of this observation
+abbrev pub recordFrom : ReplyObservation → ReplyRecord
+recordFrom o = record { quality = wiresOf (o .quality); t4 = o .t4; format = o .format; reference = o .reference }
+
+-- "its record is withheld if copies exceed 1 and sender equals reflector"
+abbrev pub uniqueFrom : ℕ → ReplyObservation → Unique
+uniqueFrom copies o = recorded (withheld copies (o .key .sender) (o .key .reflector)) (recordFrom o)
+
+-- the slot of the own number, which stands at p, as this observation leaves it
+abbrev pub ownWords : ℕ → ℕ → List (List ℕ) → ℕ → ReplyObservation → List ℕ
+ownWords N copies slots p o = wordsOf (raised (slotOf (wordsAt N slots p)) (uniqueFrom copies o))
+
+-- ---- the state
+
+-- after the round trip, the direct counters and the follow-up: the key no longer awaits
+abbrev pub ledgerObserved : Ledger → ℕ → Direct → FollowUps → Ledger
+ledgerObserved l rtt d f = record {
+  copies = l .copies;
+  secret = l .secret;
+  calls = l .calls + 1;
+  tables = record { keys = l .tables .keys; probes = l .tables .probes; awaits = false };
+  counts = record { replies = l .counts .replies; rtt = delays.recordedOf (l .counts .rtt) (nanosecondsOf (pos rtt)); direct = d; follow = f };
+}
+
+-- ---- over the rooms
+
 module _ (N : ℕ) (byKey : ReplyKey → ℕ) (byNumber : ℕ → ℕ) where
   -- where the slot of a reflector number stands; N where there is none
   abbrev pub holderOf : Ring → List (List ℕ) → List (List ℕ) → List (List ℕ) → ℕ → ℕ
   holderOf ring keys slots links r = key_ring.holderIn N byKey byNumber keys slots links ring r
 
-  -- of the slot at p
-  abbrev pub followWith : FollowUps → List (List ℕ) → ℕ → ReplyObservation → FollowUpTelemetry → FollowOutcome
-  followWith fs slots p o f = followOutcome
-      (followed fs (classAt N slots p (o .key .reflector) f) (o .offset))
-      (correctedAt (classAt N slots p (o .key .reflector) f) N slots p)
-
+  -- the follow-up of an observation, where it has one
   abbrev pub followBy : FollowUp → FollowUps → Ring → List (List ℕ) → List (List ℕ) → List (List ℕ) → ReplyObservation → FollowOutcome
   followBy follow.Absent fs ring keys slots links o = followOutcome fs slots
-  followBy (follow.Telemetry f) fs ring keys slots links o = followWith fs slots (holderOf ring keys slots links (f .sequence)) o f
+  followBy (follow.Telemetry f) fs ring keys slots links o = followWith N fs slots (holderOf ring keys slots links (f .sequence)) o f
 
   unfoldable pub followIn : FollowUps → Ring → List (List ℕ) → List (List ℕ) → List (List ℕ) → ReplyObservation → FollowOutcome
   followIn fs ring keys slots links o = followBy (o .follow) fs ring keys slots links o
 
-  -- ---- the own slot
-
-  -- what a later follow-up needs of this observation
-  abbrev pub recordFrom : ReplyObservation → ReplyRecord
-  recordFrom o = record { quality = wiresOf (o .quality); t4 = o .t4; format = o .format; reference = o .reference }
-
-  -- "its record is withheld if copies exceed 1 and sender equals reflector"
-  abbrev pub uniqueFrom : ℕ → ReplyObservation → Unique
-  uniqueFrom copies o = recorded (withheld copies (o .key .sender) (o .key .reflector)) (recordFrom o)
-
-  -- the slot of the own number as this observation leaves it, in the row of the newest key: the awaiting one
-  abbrev pub ownWords : ℕ → List (List ℕ) → ℕ → ReplyObservation → List ℕ
-  ownWords copies slots p o = wordsOf (raised (slotOf (wordsAt N slots p)) (uniqueFrom copies o))
-
+  -- the own slot goes into the row of the newest key: the awaiting one
   unfoldable pub ownIn : ℕ → Ring → List (List ℕ) → List (List ℕ) → List (List ℕ) → ReplyObservation → List (List ℕ)
   ownIn copies ring keys slots links o =
-      storedAt N slots (newestSlot N ring) (ownWords copies slots (holderOf ring keys slots links (o .key .reflector)) o)
+      storedAt N slots (newestSlot N ring) (ownWords N copies slots (holderOf ring keys slots links (o .key .reflector)) o)
 
-  -- ---- the whole
-
-  -- the state after the round trip, the direct counters and the follow-up: the key no longer awaits
-  abbrev pub ledgerObserved : Ledger → ℕ → Direct → FollowUps → Ledger
-  ledgerObserved l rtt d f = record {
-    copies = l .copies;
-    secret = l .secret;
-    calls = l .calls + 1;
-    tables = record { keys = l .tables .keys; probes = l .tables .probes; awaits = false };
-    counts = record { replies = l .counts .replies; rtt = delays.recordedOf (l .counts .rtt) (nanosecondsOf (pos rtt)); direct = d; follow = f };
-  }
-
+  -- the whole
   abbrev pub observeWith : Ledger → List (List ℕ) → DirectOutcome → FollowOutcome → ReplyObservation → ObserveOutcome
   observeWith l keys d f o = observeOutcome
       (ledgerObserved l (o .rtt) (d .direct) (f .follow))
