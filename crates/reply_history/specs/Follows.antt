@@ -1,0 +1,73 @@
+-- What the ledger shows of replies, from the plain list of served calls, newest first: the accepted keys, the held probes, the awaiting key
+-- and every count. N is how many keys and probes are held. Assumes nothing.
+use mathlib.Core.Path.{_≡_}
+use mathlib.Core.Bool.{Bool, false, _&&_}
+use mathlib.Core.List.{List, map}
+use mathlib.Core.Option.{Option, none, some}
+use Prim.Native.Nat.{ℕ, _*_, _^_, _<_, min}
+use Rattle.calls.specs.declared.ReplyKey.{ReplyKey}
+use Rattle.calls.specs.declared.Ordinal.{Ordinal}
+use Rattle.calls.specs.declared.Ordinal.the-variants as ordinal
+use Rattle.calls.specs.declared.Call.{Call}
+use Rattle.probe_ring.specs.declared.Probe.{Probe}
+use Rattle.probe_ring.specs.Row.{mostReplies}
+use Rattle.probe_ring.specs.Rooms as probe_ring
+use Rattle.probe_ring.proofs.Laws as probe_laws
+use Rattle.key_ring.specs.Table as key_ring
+use Rattle.key_ring.specs.Table.{Table, tableOf, keysOf, newestIs}
+use Rattle.replies.specs.declared.Reflector.{Reflector}
+use Rattle.replies.specs.declared.Reflector.the-variants as reflector
+use Rattle.replies.specs.declared.Replies.{Replies}
+use Rattle.history.specs.Counting.{present}
+use Rattle.history.specs.Ledger.{Event, accepted, lastAccepted, held, replies, packet, awaiting, events, sameKey, ReplyCounts, replyCounts, lastReflector, highestReflector}
+use Rattle.history.specs.Ledger as history
+use Rattle.ledger_steps.specs.Rooms.{Stand}
+
+-- ---- the history's words in the code's types
+
+abbrev pub asOrdinal : Option ℕ → Ordinal
+asOrdinal none = ordinal.Absent
+asOrdinal (some n) = ordinal.Number n
+
+abbrev pub asReflector : Option ℕ → Reflector
+asReflector none = reflector.Absent
+asReflector (some n) = reflector.Number n
+
+-- the probe s after these events; its replies are counted up to 65,535
+abbrev pub probeIn : List Event → ℕ → Probe
+probeIn es s = record { sequence = s; replies = min (replies s es) mostReplies; ordinal = asOrdinal (history.ordinal s es); packet = packet s es }
+
+-- the counts and the reflector numbers
+abbrev pub repliesBy : ReplyCounts → List ReplyKey → Replies
+repliesBy c ks = record {
+  totals = record { requested = c .requested; unique = c .unique; duplicate = c .duplicate; unknown = c .unknown };
+  answers = record { answered = c .answered; additional = c .additional; late = c .late; satisfied = c .satisfied };
+  numbers = record { last = asReflector (lastReflector ks); highest = asReflector (highestReflector ks); reordered = c .reordered; independent = c .independent };
+  evicted = record { probes = c .probes-evicted; replies = c .replies-evicted };
+}
+
+abbrev pub repliesIn : ℕ → ℕ → List Call → Replies
+repliesIn N copies h = repliesBy (replyCounts N copies h) (accepted (events N h))
+
+-- this key awaits its observe
+abbrev pub awaitsIn : Option ReplyKey → ReplyKey → Bool
+awaitsIn none k = false
+awaitsIn (some a) k = sameKey k a
+
+-- ---- the parts of a stand
+
+abbrev pub keysTable : Stand → Table
+keysTable s = tableOf (s .rooms .keys) (s .rooms .slots) (s .rooms .links) (s .ledger .tables .keys)
+
+abbrev pub probeRooms : Stand → probe_ring.Rooms
+probeRooms s = probe_ring.rooms (s .rooms .probes) (s .rooms .links) (s .ledger .tables .probes)
+
+-- WHAT THE LEDGER SHOWS OF REPLIES FOLLOWS FROM THE SERVED CALLS.
+pub record RepliesFollow (N : ℕ) (byKey : ReplyKey → ℕ) (byNumber : ℕ → ℕ) (copies : ℕ) (h : List Call) (s : Stand) : Type 0 where
+  pub keys-sound : key_ring.Sound N byKey byNumber (keysTable s)
+  pub keys-are : keysOf N (keysTable s) ≡ lastAccepted N (events N h)
+  pub probes-sound : probe_laws.Sound N byNumber (probeRooms s)
+  pub probes-are : probe_ring.held N (probeRooms s) ≡ map (probeIn (events N h)) (held N (events N h))
+  pub awaits-is : s .ledger .tables .awaits ≡ present (awaiting (events N h))
+  pub copies-are : s .ledger .copies ≡ copies
+  pub replies-are : s .ledger .counts .replies ≡ repliesIn N copies h

@@ -1,0 +1,3 @@
+pub mod Fits
+pub mod Stands
+pub mod Follows

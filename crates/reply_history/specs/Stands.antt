@@ -1,0 +1,75 @@
+-- The ledger with its rooms, from fresh and after each served call. N is how many keys and probes are held; byKey and byNumber say which
+-- chain is walked. Assumes nothing.
+use mathlib.Core.Path.{_≡_}
+use mathlib.Core.List.{List, [], _∷_}
+use Prim.Native.Nat.{ℕ, _<_}
+use lib.ListN.{length}
+use Rattle.calls.specs.declared.ReplyKey.{ReplyKey}
+use Rattle.calls.specs.declared.SentProbe.{SentProbe}
+use Rattle.calls.specs.declared.Reply.{Reply}
+use Rattle.calls.specs.declared.ReplyObservation.{ReplyObservation}
+use Rattle.calls.specs.declared.Call.{Call}
+use Rattle.calls.specs.declared.Call.the-variants.{Sent, Accept, Observe, Advance, Idle}
+use Rattle.chains.specs.Links.{Rows}
+use Rattle.ledger_state.specs.State.{freshLedger}
+use Rattle.ledger_steps.specs.Rooms.{Rooms, Stand}
+use Rattle.ledger_steps.specs.Sent.{SentOutcome, sentIn}
+use Rattle.ledger_steps.specs.Accept.{AcceptOutcome, acceptIn}
+use Rattle.ledger_steps.specs.Observe.{ObserveOutcome, observeIn}
+
+-- ---- fresh
+
+-- rooms of the right size, whatever they hold
+pub record RoomsFit (N : ℕ) (r : Rooms) : Type 0 where
+  pub keys-fit : Rows N 2 (r .keys)
+  pub slots-fit : Rows N 3 (r .slots)
+  pub probes-fit : Rows N 4 (r .probes)
+  pub offsets-fit : length (r .offsets) ≡ N
+  pub links-fit : Rows N 8 (r .links)
+
+-- a fresh ledger over these rooms
+abbrev pub freshStand : ℕ → List ℕ → Rooms → Stand
+freshStand copies secret r = record { ledger = freshLedger copies secret; rooms = r }
+
+-- ---- what each call leaves; the rooms that it is not lent stay
+
+abbrev pub withSent : Stand → SentOutcome → Stand
+withSent s o = record {
+  ledger = o .ledger;
+  rooms = record { keys = s .rooms .keys; slots = s .rooms .slots; probes = o .probes; offsets = s .rooms .offsets; links = o .links };
+}
+
+abbrev pub withAccept : Stand → AcceptOutcome → Stand
+withAccept s o = record {
+  ledger = o .ledger;
+  rooms = record { keys = o .keys; slots = o .slots; probes = o .probes; offsets = s .rooms .offsets; links = o .links };
+}
+
+abbrev pub withObserve : Stand → ObserveOutcome → Stand
+withObserve s o = record {
+  ledger = o .ledger;
+  rooms = record { keys = s .rooms .keys; slots = o .slots; probes = s .rooms .probes; offsets = o .offsets; links = o .links };
+}
+
+module _ (N : ℕ) (byKey : ReplyKey → ℕ) (byNumber : ℕ → ℕ) where
+  abbrev pub sentOf : Stand → SentProbe → SentOutcome
+  sentOf s p = sentIn N byNumber (s .ledger) (s .rooms .probes) (s .rooms .links) p
+
+  abbrev pub acceptOf : Stand → Reply → AcceptOutcome
+  acceptOf s a = acceptIn N byKey byNumber (s .ledger) (s .rooms .keys) (s .rooms .slots) (s .rooms .probes) (s .rooms .links) a
+
+  abbrev pub observeOf : Stand → ReplyObservation → ObserveOutcome
+  observeOf s o = observeIn N byKey byNumber (s .ledger) (s .rooms .keys) (s .rooms .slots) (s .rooms .offsets) (s .rooms .links) o
+
+  -- one served call; those of the monitor alone leave the ledger as it is
+  abbrev pub stepped : Stand → Call → Stand
+  stepped s (Sent p) = withSent s (sentOf s p)
+  stepped s (Accept a) = withAccept s (acceptOf s a)
+  stepped s (Observe o) = withObserve s (observeOf s o)
+  stepped s (Advance t) = s
+  stepped s Idle = s
+
+  -- all of these served, newest first
+  unfoldable pub steppedAll : Stand → List Call → Stand
+  steppedAll s [] = s
+  steppedAll s (c ∷ h) = stepped (steppedAll s h) c

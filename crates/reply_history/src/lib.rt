@@ -1,0 +1,2 @@
+// That what the ledger shows of replies follows from the plain list of served calls: `stepped-follows` of proofs/Steps.antt. This crate has
+// definitions and theorems, and no code.
