@@ -1,2 +1,2 @@
-// That what the ledger shows of replies follows from the plain list of served calls: `stepped-follows` of proofs/Steps.antt. This crate has
+// That what the ledger shows of replies follows from the plain list of served calls. This crate has
 // definitions and theorems, and no code.
