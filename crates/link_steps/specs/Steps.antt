@@ -50,14 +50,14 @@ standing l r w = record { link = record { ledger = l; watch = w .watch }; rooms 
 
 -- ---- the monitor's part
 
--- its refusal of `sent`, and of its other calls
-abbrev pub watchRefusesSent : Watch → List Probe → SentProbe → ℕ
-watchRefusesSent Absent queue s = 0
-watchRefusesSent (Present m) queue s = monitor.refusalOfSent m (length queue) (s .packet .time)
+-- its refusal of `sent`, and of its other calls, with a room of this size
+abbrev pub watchRefusesSent : Watch → ℕ → SentProbe → ℕ
+watchRefusesSent Absent room s = 0
+watchRefusesSent (Present m) room s = monitor.refusalOfSent m room (s .packet .time)
 
-abbrev pub watchRefuses : Watch → List Probe → ℕ
-watchRefuses Absent queue = 0
-watchRefuses (Present m) queue = monitor.refusalOf m (length queue)
+abbrev pub watchRefuses : Watch → ℕ → ℕ
+watchRefuses Absent room = 0
+watchRefuses (Present m) room = monitor.refusalOf m room
 
 -- what it does where the call goes on
 abbrev pub watchSent : Bool → Watch → List Probe → SentProbe → Watched
@@ -77,10 +77,6 @@ abbrev pub idleBy : ℕ → Monitor → Monitor
 idleBy zero m = idleOn m
 idleBy (suc n) m = m
 
-abbrev pub watchRefusesIdle : Watch → ℕ
-watchRefusesIdle Absent = 0
-watchRefusesIdle (Present m) = monitor.refusalOf m capacity
-
 abbrev pub watchIdle : Watch → List Probe → Watched
 watchIdle Absent queue = unwatched queue
 watchIdle (Present m) queue = record { watch = Present (idleBy (monitor.refusalOf m capacity) m); queue = queue }
@@ -97,7 +93,7 @@ ledgerOf l (answer.Served next) = next
 ledgerOf l (answer.Refused n) = l
 
 abbrev pub sentResult : Standing → SentProbe → SentResult
-sentResult k s = sentTo (watchRefusesSent (k .link .watch) (k .queue) s) (k .link .ledger) (k .rooms .probes) (k .rooms .links) s
+sentResult k s = sentTo (watchRefusesSent (k .link .watch) (length (k .queue)) s) (k .link .ledger) (k .rooms .probes) (k .rooms .links) s
 
 abbrev pub sentLeaves : Standing → SentProbe → SentResult → Standing
 sentLeaves k s r =
@@ -119,7 +115,7 @@ ledgerOfAccept l (accepts.Refused n) = l
 
 abbrev pub acceptResult : Standing → Reply → AcceptResult
 acceptResult k a =
-    acceptTo (watchRefuses (k .link .watch) (k .queue)) (k .link .ledger) (k .rooms .keys) (k .rooms .slots) (k .rooms .probes) (k .rooms .links) a
+    acceptTo (watchRefuses (k .link .watch) (length (k .queue))) (k .link .ledger) (k .rooms .keys) (k .rooms .slots) (k .rooms .probes) (k .rooms .links) a
 
 abbrev pub acceptLeaves : Standing → Reply → AcceptResult → Standing
 acceptLeaves k a r =
@@ -145,8 +141,8 @@ unfoldable pub refuses : Standing → Call → ℕ
 refuses k (Sent s) = number (sentResult k s .answer)
 refuses k (Accept a) = acceptNumber (acceptResult k a .answer)
 refuses k (Observe o) = number (observeResult k o .answer)
-refuses k (Advance t) = watchRefuses (k .link .watch) (k .queue)
-refuses k Idle = watchRefusesIdle (k .link .watch)
+refuses k (Advance t) = watchRefuses (k .link .watch) (length (k .queue))
+refuses k Idle = watchRefuses (k .link .watch) capacity
 
 -- what it leaves
 unfoldable pub after : Standing → Call → Standing
