@@ -5,6 +5,7 @@ use mathlib.Core.List.{List}
 use Prim.Native.Nat.{ℕ}
 use lib.Dec.{ltb}
 use Rattle.scope.specs.Limits.{capacity}
+use Rattle.chains.specs.declared.Ring.{Ring}
 use Rattle.chains.specs.Hash.{numberHash}
 use Rattle.correlation.specs.declared.follow.Shown.{Shown}
 use Rattle.correlation.specs.Words.{slotOf}
@@ -20,10 +21,13 @@ use Rattle.ledger_steps.specs.Observe.{holderOf}
 
 module _ (N : ℕ) (byKey : ReplyKey → ℕ) (byNumber : ℕ → ℕ) where
   -- "The lookup shows a slot's format and reference exactly when no class down to repeated holds"; own: the reply's own reflector number
-  unfoldable pub lookupIn : Ledger → List (List ℕ) → List (List ℕ) → List (List ℕ) → ℕ → FollowUpTelemetry → Shown
-  lookupIn l keys slots links own f =
+  unfoldable pub shownIn : Ring → List (List ℕ) → List (List ℕ) → List (List ℕ) → ℕ → FollowUpTelemetry → Shown
+  shownIn ring keys slots links own f =
       shownOf (foundBy (f .unknown) (f .timestamp) (f .sequence) own
-      (slotOf (wordsAt N slots (holderOf N byKey byNumber (l .tables .keys) keys slots links (f .sequence)))))
+      (slotOf (wordsAt N slots (holderOf N byKey byNumber ring keys slots links (f .sequence)))))
+
+  abbrev pub lookupIn : Ledger → List (List ℕ) → List (List ℕ) → List (List ℕ) → ℕ → FollowUpTelemetry → Shown
+  lookupIn l keys slots links own f = shownIn (l .tables .keys) keys slots links own f
 
   -- whether the probe of a sequence is held and has a reply
   abbrev pub answeredAt : List (List ℕ) → ℕ → Bool
