@@ -1,0 +1,66 @@
+-- What a call may rely on once it is not refused: one record a call, which the functions behind it require. proofs/Sound.antt has the laws.
+-- Assumes nothing.
+use mathlib.Core.Path.{_≡_}
+use mathlib.Core.Bool.{true}
+use mathlib.Core.List.{List}
+use Prim.Native.Nat.{ℕ, _<_, _≤_}
+use lib.ListN.{length}
+use Rattle.scope.specs.Limits.{capacity, mostCalls}
+use Rattle.calls.specs.declared.ReplyObservation.{ReplyObservation}
+use Rattle.chains.specs.Rings.{RingFits}
+use Rattle.ranges.specs.Ranges.{inRange}
+use Rattle.replies.specs.Bounds as replies
+use Rattle.delays.specs.Bounds as delays
+use Rattle.direct.specs.Outcomes as direct
+use Rattle.follow_ups.specs.Bounds as follow_ups
+use Rattle.ledger_state.specs.declared.Ledger.{Ledger}
+use Rattle.ledger_steps.specs.Refusals.{awaitsKey}
+
+-- refusal 5, the part of the state
+pub record SoundRings (l : Ledger) : Type 0 where
+  pub keys-ring : RingFits capacity (l .tables .keys)
+  pub probes-ring : RingFits capacity (l .tables .probes)
+  pub seen-in : direct.seenIn (l .counts .direct .window) ≤ capacity
+
+-- refusal 4
+pub record SoundCounts (l : Ledger) : Type 0 where
+  pub calls-below : l .calls < mostCalls
+  pub replies-in : replies.InBounds (l .counts .replies)
+  pub rtt-in : delays.Bounded (l .counts .rtt)
+  pub direct-in : direct.InBounds (l .counts .direct .counts)
+  pub follow-in : follow_ups.InBounds (l .counts .follow)
+
+pub record SoundSent (l : Ledger) (probes links : ℕ) : Type 0 where
+  pub probes-size : probes ≡ capacity
+  pub links-size : links ≡ capacity
+  pub rings : SoundRings l
+  pub counts : SoundCounts l
+
+pub record SoundAccept (l : Ledger) (keys slots probes links : ℕ) : Type 0 where
+  pub keys-size : keys ≡ capacity
+  pub slots-size : slots ≡ capacity
+  pub probes-size : probes ≡ capacity
+  pub links-size : links ≡ capacity
+  pub rings : SoundRings l
+  pub counts : SoundCounts l
+
+pub record SoundObserve (l : Ledger) (keys : List (List ℕ)) (slots offsets links : ℕ) (o : ReplyObservation) : Type 0 where
+  pub keys-size : length keys ≡ capacity
+  pub slots-size : slots ≡ capacity
+  pub offsets-size : offsets ≡ capacity
+  pub links-size : links ≡ capacity
+  pub rings : SoundRings l
+  pub ranged : inRange o ≡ true
+  pub counts : SoundCounts l
+  pub awaiting : awaitsKey l keys (o .key) ≡ true
+
+pub record SoundLookup (l : Ledger) (keys slots links : ℕ) : Type 0 where
+  pub keys-size : keys ≡ capacity
+  pub slots-size : slots ≡ capacity
+  pub links-size : links ≡ capacity
+  pub rings : SoundRings l
+
+pub record SoundAnswered (l : Ledger) (probes links : ℕ) : Type 0 where
+  pub probes-size : probes ≡ capacity
+  pub links-size : links ≡ capacity
+  pub rings : SoundRings l
