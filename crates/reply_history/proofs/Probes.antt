@@ -1,0 +1,162 @@
+-- The held probes as the history has them: what remembering one and a reply to one do to the list.
+-- Assumes nothing.
+use mathlib.Core.Path.{_≡_, refl, sym, ap, ap₂, _∙_}
+use mathlib.Core.Bool.{Bool, true, false, not, _||_, _&&_, cond}
+use mathlib.Core.List.{List, [], _∷_, map}
+use mathlib.Core.Option.{Option, none, some}
+use Prim.Native.Nat.{ℕ, zero, suc, _≤_, _<_, min}
+use native.Mathlib.Omega.{arith}
+use lib.Dec.{eqb, ltb, leb}
+use borrow.Author.Tests.{lt-leb, le-leb}
+use lib.ListN.{length, take}
+use Rattle.chains.specs.Walk.{firstOf}
+use Rattle.chains.proofs.Tests.{Test, holds, fails, eq-test, lt-test, eq-true, eq-false, true-not-false}
+use Rattle.calls.specs.declared.PendingPacket.{PendingPacket}
+use Rattle.calls.specs.declared.Pending.{Pending}
+use Rattle.calls.specs.declared.Pending.the-variants as pending
+use Rattle.calls.specs.declared.ReplyKey.{ReplyKey}
+use Rattle.probe_ring.specs.declared.Probe.{Probe}
+use Rattle.probe_ring.specs.Row.{mostReplies, unanswered, packetAfter, afterReply}
+use Rattle.probe_ring.specs.Held as list
+use Rattle.probe_ring.specs.Held.{others, remembering, replacing, evicts}
+use Rattle.history.specs.Counting.{has, orElse}
+use Rattle.history.specs.Given.{packetOf}
+use Rattle.history.specs.Ledger.{Event, remembered, replied, observed, rememberings, without, distinct, replies, packet, held}
+use Rattle.history.specs.Ledger as history
+use Rattle.reply_history.specs.Follows.{asOrdinal, probeIn}
+use Rattle.reply_history.proofs.Saturation.{one-more}
+use Rattle.reply_history.proofs.Lists.{eqb-same, eqb-flip, kept-without, take-map}
+
+-- ---- any list of sequences
+
+module _ (es : List Event) where
+  pub rows-has : (ss : List ℕ) (s : ℕ) → list.holds (map (probeIn es) ss) s ≡ has ss s
+  unfolding list.holds has
+  rows-has [] s = refl
+  rows-has (x ∷ ss) s = ap (λ (b : Bool). eqb s x || b) (rows-has ss s)
+
+  rows-others : (s : ℕ) (ss : List ℕ) → others s (map (probeIn es) ss) ≡ map (probeIn es) (without s ss)
+  unfolding others without
+  rows-others s [] = refl
+  rows-others s (x ∷ ss) = go (eqb s x) (rows-others s ss)
+    where
+      go : (b : Bool) → others s (map (probeIn es) ss) ≡ map (probeIn es) (without s ss)
+          → cond b (others s (map (probeIn es) ss)) (probeIn es x ∷ others s (map (probeIn es) ss)) ≡ map (probeIn es) (cond b (without s ss) (x ∷ without s ss))
+      go true ih = ih
+      go false ih = ap (λ (q : List Probe). probeIn es x ∷ q) ih
+
+  -- the first of a sequence that is there is its probe
+  pub rows-first : {B : Type 0} (f : Probe → B) (d : B) (s : ℕ) (ss : List ℕ) → has ss s ≡ true → firstOf (λ p. eqb s (p .sequence)) f d (map (probeIn es) ss) ≡ f (probeIn es s)
+  unfolding firstOf has
+  rows-first f d s [] e = absurd (true-not-false e refl)
+  rows-first {B} f d s (x ∷ ss) e = go (eq-test s x) (rows-first f d s ss)
+    where
+      go : Test (s ≡ x) (eqb s x) → (has ss s ≡ true → firstOf (λ p. eqb s (p .sequence)) f d (map (probeIn es) ss) ≡ f (probeIn es s))
+          → cond (eqb s x) (f (probeIn es x)) (firstOf (λ p. eqb s (p .sequence)) f d (map (probeIn es) ss)) ≡ f (probeIn es s)
+      go (holds p t) ih = rw t (ap (λ (y : ℕ). f (probeIn es y)) (sym p))
+      go (fails p t) ih = rw t (ih (rw t at e))
+
+  -- ---- one more event
+
+  -- rows that the new event does not change
+  rows-kept : (e : Event) (ss : List ℕ) (s : ℕ) → ((x : ℕ) → eqb s x ≡ false → probeIn (e ∷ es) x ≡ probeIn es x)
+      → map (probeIn (e ∷ es)) (without s ss) ≡ map (probeIn es) (without s ss)
+  unfolding without
+  rows-kept e [] s k = refl
+  rows-kept e (x ∷ ss) s k = go (eqb s x) refl (rows-kept e ss s k)
+    where
+      go : (b : Bool) → eqb s x ≡ b → map (probeIn (e ∷ es)) (without s ss) ≡ map (probeIn es) (without s ss)
+          → map (probeIn (e ∷ es)) (cond b (without s ss) (x ∷ without s ss)) ≡ map (probeIn es) (cond b (without s ss) (x ∷ without s ss))
+      go true t ih = ih
+      go false t ih = ap₂ (λ (p : Probe) (ps : List Probe). p ∷ ps) (k x t) ih
+
+  remembered-row : (s : ℕ) (o : Option ℕ) (p : PendingPacket) → probeIn (remembered s o p ∷ es) s ≡ unanswered s p (asOrdinal o)
+  unfolding replies history.ordinal packet
+  remembered-row s o p = rw (eqb-same s)
+
+  other-row : (s : ℕ) (o : Option ℕ) (p : PendingPacket) (x : ℕ) → eqb s x ≡ false → probeIn (remembered s o p ∷ es) x ≡ probeIn es x
+  unfolding replies history.ordinal packet
+  other-row s o p x e = rw (eqb-flip x s, e)
+
+  -- REMEMBERED AMONG THE HELD ONES AS AMONG ALL.
+  pub rows-remember : (N s : ℕ) (o : Option ℕ) (p : PendingPacket)
+      → remembering N (unanswered s p (asOrdinal o)) (map (probeIn es) (held N es)) ≡ map (probeIn (remembered s o p ∷ es)) (held N (remembered s o p ∷ es))
+  unfolding remembering held rememberings distinct
+  rows-remember zero s o p = refl
+  rows-remember (suc n) s o p =
+      ap₂ (λ (q : Probe) (qs : List Probe). q ∷ qs) (sym (remembered-row s o p))
+      (ap (take n) (rows-others s (take (suc n) (distinct (rememberings es))))
+      ∙ take-map (probeIn es) n (without s (take (suc n) (distinct (rememberings es))))
+      ∙ ap (map (probeIn es)) (kept-without n s (rememberings es))
+      ∙ sym (take-map (probeIn es) n (without s (distinct (rememberings es))))
+      ∙ ap (take n) (sym (rows-kept (remembered s o p) (distinct (rememberings es)) s (other-row s o p)))
+      ∙ take-map (probeIn (remembered s o p ∷ es)) n (without s (distinct (rememberings es))))
+
+  packet-after : (p : Pending) (q : PendingPacket) → packetAfter p q ≡ orElse (packetOf p) q
+  packet-after pending.Absent q = refl
+  packet-after (pending.Held x) q = refl
+
+  -- the row of its own sequence after a reply
+  pub replied-row : (k : ReplyKey) (p : Pending) → afterReply p (probeIn es (k .sender)) ≡ probeIn (replied k (packetOf p) ∷ es) (k .sender)
+  unfolding afterReply replies history.ordinal packet
+  replied-row k p = rw (eqb-same (k .sender), packet-after p (packet (k .sender) es), one-more (replies (k .sender) es))
+
+  unreplied-row : (k : ReplyKey) (p : Option PendingPacket) (x : ℕ) → eqb (k .sender) x ≡ false → probeIn es x ≡ probeIn (replied k p ∷ es) x
+  unfolding replies history.ordinal packet
+  unreplied-row k p x e = rw (eqb-flip x (k .sender), e)
+
+  each-row : (k : ReplyKey) (p : Pending) (x : ℕ) → cond (eqb (k .sender) x) (afterReply p (probeIn es (k .sender))) (probeIn es x) ≡ probeIn (replied k (packetOf p) ∷ es) x
+  each-row k p x = go (eq-test (k .sender) x)
+    where
+      go : Test (k .sender ≡ x) (eqb (k .sender) x) → cond (eqb (k .sender) x) (afterReply p (probeIn es (k .sender))) (probeIn es x) ≡ probeIn (replied k (packetOf p) ∷ es) x
+      go (holds q t) = rw t (replied-row k p ∙ ap (probeIn (replied k (packetOf p) ∷ es)) q)
+      go (fails q t) = rw t (unreplied-row k (packetOf p) x t)
+
+  -- A REPLY AMONG THE HELD ONES.
+  pub rows-replied : (k : ReplyKey) (p : Pending) (ss : List ℕ) → replacing (afterReply p (probeIn es (k .sender))) (map (probeIn es) ss) ≡ map (probeIn (replied k (packetOf p) ∷ es)) ss
+  unfolding replacing afterReply
+  rows-replied k p [] = refl
+  rows-replied k p (x ∷ ss) =
+      ap₂ (λ (q : Probe) (qs : List Probe). q ∷ qs) (each-row k p x) (rows-replied k p ss)
+
+  -- the probe just remembered is held
+  pub held-new : (N s : ℕ) (o : Option ℕ) (p : PendingPacket) → 0 < N → has (held N (remembered s o p ∷ es)) s ≡ true
+  unfolding has held rememberings distinct
+  held-new zero s o p h = absurd (omega arith)
+  held-new (suc n) s o p h = rw (eqb-same s)
+
+-- ---- evictions
+
+length-map : {A B : Type 0} (f : A → B) (xs : List A) → length (map f xs) ≡ length xs
+length-map f [] = refl
+length-map f (x ∷ xs) = ap suc (length-map f xs)
+
+length-take : {A : Type 0} (n : ℕ) (xs : List A) → length (take n xs) ≤ n
+length-take zero xs = omega arith
+length-take (suc n) [] = omega arith
+length-take (suc n) (x ∷ xs) = let l = length-take n xs in omega arith
+
+pub full-is : (N n : ℕ) → n ≤ N → leb N n ≡ eqb n N
+full-is N n l = go (eq-test n N)
+  where
+    go : Test (n ≡ N) (eqb n N) → leb N n ≡ eqb n N
+    go (holds p t) = rw (t, p) (le-leb N N (omega arith))
+    go (fails p t) = rw t (lt-leb N n (omega arith))
+
+and-flip : (a b : Bool) → (a && b) ≡ (b && a)
+and-flip true true = refl
+and-flip true false = refl
+and-flip false true = refl
+and-flip false false = refl
+
+-- "nothing is evicted" where it is held, or where there is room
+pub evicts-is : (N : ℕ) (es : List Event) (p : Probe)
+    → evicts N p (map (probeIn es) (held N es)) ≡ (eqb (length (held N es)) N && not (has (held N es) (p .sequence)))
+unfolding evicts held
+evicts-is N es p =
+    rw (
+      rows-has es (take N (distinct (rememberings es))) (p .sequence),
+      length-map (probeIn es) (take N (distinct (rememberings es))),
+      full-is N (length (take N (distinct (rememberings es)))) (length-take N (distinct (rememberings es))),
+    )
+    (and-flip (not (has (take N (distinct (rememberings es))) (p .sequence))) (eqb (length (take N (distinct (rememberings es)))) N))
