@@ -1,0 +1,4 @@
+pub mod Windows
+pub mod DirectSteps
+pub mod SeenOffsets
+pub mod DirectLaws
