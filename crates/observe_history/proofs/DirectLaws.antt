@@ -1,12 +1,12 @@
 -- Direct loss follows from the served calls: a fresh ledger has it so, each observe keeps it, and no other call touches it. Assumes nothing.
 use mathlib.Core.Path.{_≡_, refl, sym, ap, ap₂, _∙_, subst}
 use mathlib.Core.Bool.{Bool, true, false, cond}
-use mathlib.Core.List.{List, [], _∷_}
+use mathlib.Core.List.{List, _∷_}
 use mathlib.Core.Option.{Option, none, some}
-use Prim.Native.Nat.{ℕ, zero, suc, _+_, _≤_, _<_}
+use Prim.Native.Nat.{ℕ, suc, _≤_}
 use native.Mathlib.Omega.{arith}
 use native.Mathlib.Numerals.{add-one}
-use lib.Dec.{eqb, ltb}
+use lib.Dec.{ltb}
 use lib.ListN.{length}
 use Rattle.calls.specs.declared.CounterPoint.{CounterPoint}
 use Rattle.calls.specs.declared.Counters.{Counters}
@@ -14,25 +14,23 @@ use Rattle.calls.specs.declared.Counters.the-variants as counters
 use Rattle.calls.specs.declared.Ordinal.{Ordinal}
 use Rattle.calls.specs.declared.ReplyObservation.{ReplyObservation}
 use Rattle.calls.specs.declared.Call.{Call}
-use Rattle.calls.specs.declared.Call.the-variants.{Sent, Accept, Observe, Advance, Idle}
+use Rattle.calls.specs.declared.Call.the-variants.{Observe}
 use Rattle.chains.proofs.Tests.{lt-true}
-use Rattle.chains.specs.Links.{Rows}
 use Rattle.direct.specs.declared.Counts.{Counts as StateCounts}
 use Rattle.direct.specs.declared.Direct.{Direct}
-use Rattle.direct.specs.declared.Step.{Step}
-use Rattle.direct.specs.Outcomes.{recorded, soughtIn, seenIn, freshDirect}
+use Rattle.direct.specs.Outcomes.{soughtIn, seenIn}
 use Rattle.offset_set.specs.Offsets as offset_set
 use Rattle.offset_set.specs.Offsets.{OffsetSet}
-use Rattle.offset_set.proofs.Laws.{Sound, contains-is, seen-count, cleared-sound, seen-none}
+use Rattle.offset_set.proofs.Laws.{contains-is}
 use Rattle.history.specs.Counting.{tally, has}
 use Rattle.history.specs.Given.{ordinalOf, countersOf}
 use Rattle.history.specs.Ledger.{events, count}
 use Rattle.history.specs.DirectLoss.{DirectClass, directClass, withCounters, window, directAt, isDirect, directCounts, isObservation, isUnavailable, isDiscontinuity, isBelow, isExceeded}
-use Rattle.ledger_steps.specs.Observe.{DirectOutcome, directWith, directBy, directIn}
+use Rattle.ledger_steps.specs.Observe.{DirectOutcome, directBy, directIn}
 use Rattle.observe_history.specs.Direct.{windowOf, seenSince, countsOf, since, offsetsOf, DirectFollows}
 use Rattle.observe_history.proofs.Windows.{has-same}
-use Rattle.observe_history.proofs.DirectSteps.{raisedBy, countsAfter, sought, sought-same, stepBy, step-is, class-room}
-use Rattle.observe_history.proofs.SeenOffsets.{Seen, seen-length, setAfter, after-class}
+use Rattle.observe_history.proofs.DirectSteps.{raisedBy, countsAfter, sought, sought-same, step-is, class-room}
+use Rattle.observe_history.proofs.SeenOffsets.{Seen, seen-length, after-class}
 
 -- ---- one observe
 
@@ -111,11 +109,11 @@ module _ (N : ℕ) (byNumber : ℕ → ℕ) where
       let size : seenIn (d .window) ≡ length (since N h) = ap seenIn (f .window) ∙ seen-length (since N h) in
       let left = by-counters (countsOf (directCounts N h)) (since N h) (offsetsOf d offsets links) size (record { offsets = f .seen; sound = f .sound }) (o .ordinal) (o .counters) in
       let left′ : Left (directBy N byNumber (o .counters) d (offsetsOf d offsets links) (o .ordinal))
-          (countsWith N (ordinalOf (o .ordinal)) (countersOf (o .counters)) (since N h) (countsOf (directCounts N h)))
-          (withCounters N (ordinalOf (o .ordinal)) (countersOf (o .counters)) (since N h)) =
-          subst (λ (e : Direct). Left (directBy N byNumber (o .counters) e (offsetsOf d offsets links) (o .ordinal))
-          (countsWith N (ordinalOf (o .ordinal)) (countersOf (o .counters)) (since N h) (countsOf (directCounts N h)))
-          (withCounters N (ordinalOf (o .ordinal)) (countersOf (o .counters)) (since N h))) (sym same) left in
+      (countsWith N (ordinalOf (o .ordinal)) (countersOf (o .counters)) (since N h) (countsOf (directCounts N h)))
+      (withCounters N (ordinalOf (o .ordinal)) (countersOf (o .counters)) (since N h)) =
+      subst (λ (e : Direct). Left (directBy N byNumber (o .counters) e (offsetsOf d offsets links) (o .ordinal))
+      (countsWith N (ordinalOf (o .ordinal)) (countersOf (o .counters)) (since N h) (countsOf (directCounts N h)))
+      (withCounters N (ordinalOf (o .ordinal)) (countersOf (o .counters)) (since N h))) (sym same) left in
       record {
         counts = left′ .counts ∙ counts-more o h;
         window = left′ .window;

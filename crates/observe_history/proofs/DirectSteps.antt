@@ -1,10 +1,10 @@
 -- One reply's counters: the outcome of crate direct is the one that the history's class calls for, in counts, window and seen offsets.
 -- Assumes nothing.
-use mathlib.Core.Path.{_≡_, refl, sym, ap, ap₂, _∙_, subst}
-use mathlib.Core.Bool.{Bool, true, false, _||_, _&&_, cond}
+use mathlib.Core.Path.{_≡_, refl, ap, ap₂}
+use mathlib.Core.Bool.{Bool, true, false, _&&_, cond}
 use mathlib.Core.List.{List, [], _∷_}
 use mathlib.Core.Option.{Option, none, some}
-use Prim.Native.Nat.{ℕ, zero, suc, _+_, _≤_, _<_}
+use Prim.Native.Nat.{ℕ, _+_, _≤_, _<_}
 use native.Mathlib.Omega.{arith}
 use lib.Dec.{eqb, ltb}
 use lib.ListN.{length}
@@ -14,11 +14,10 @@ use Rattle.calls.specs.declared.Ordinal.the-variants as ordinal
 use Rattle.chains.proofs.Tests.{Test, holds, fails, lt-test, eq-test, true-not-false}
 use Rattle.direct.specs.declared.Counts.{Counts}
 use Rattle.direct.specs.declared.Epoch.{Epoch}
-use Rattle.direct.specs.declared.Window.the-variants.{Closed, Open}
+use Rattle.direct.specs.declared.Window.the-variants.{Open}
 use Rattle.direct.specs.declared.Offsets.{Offsets}
 use Rattle.direct.specs.declared.Offsets.the-variants.{Kept, Begun, Added, Cleared}
 use Rattle.direct.specs.declared.Step.{Step}
-use Rattle.direct.specs.Offsets as direct
 use Rattle.direct.specs.Outcomes as outcomes
 use Rattle.history.specs.Counting.{has}
 use Rattle.history.specs.Given.{ordinalOf}
@@ -97,8 +96,13 @@ module _ (N : ℕ) (c : CounterPoint) where
     in-window : (w : List CounterPoint) (seen? : Bool) → seen? ≡ has (seenSince w) (sought w c) → outcomes.inWindow N n (windowOf w) c seen? ≡ stepBy (onWindow N c w) w n
     in-window [] seen? e = without-anchor (eqb (c .received .0) 0 && eqb (c .transmitted .0) 0)
     in-window (d ∷ w) seen? e =
-        rw (jumps-same (anchorOf d w) c, offset-same (anchorOf d w .transmitted .0) (c .transmitted .0),
-        offset-same (anchorOf d w .transmitted .0) (epochOf (anchorOf d w) (d ∷ w) .latest .transmitted .0), latest-highest (anchorOf d w) (d ∷ w), e)
+        rw (
+          jumps-same (anchorOf d w) c,
+          offset-same (anchorOf d w .transmitted .0) (c .transmitted .0),
+          offset-same (anchorOf d w .transmitted .0) (epochOf (anchorOf d w) (d ∷ w) .latest .transmitted .0),
+          latest-highest (anchorOf d w) (d ∷ w),
+          e,
+        )
         (with-anchor d w (jumps (anchorOf d w) c) (has (seen (anchorOf d w) (d ∷ w)) (transmitOffset (anchorOf d w) c)) (eqb (length (d ∷ w)) N)
         (ltb (transmitOffset (anchorOf d w) c) (highest (anchorOf d w) (d ∷ w))) refl (lt-test (transmitOffset (anchorOf d w) c) (highest (anchorOf d w) (d ∷ w))))
 

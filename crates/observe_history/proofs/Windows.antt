@@ -1,11 +1,11 @@
 -- The counters of a window: what crate direct keeps of them is what crate history says of their list. Assumes nothing.
-use mathlib.Core.Path.{_≡_, refl, sym, ap, ap₂, _∙_, subst}
-use mathlib.Core.Bool.{Bool, true, false, _||_, _&&_, cond}
+use mathlib.Core.Path.{_≡_, refl, ap}
+use mathlib.Core.Bool.{Bool, true, false, _||_, cond}
 use mathlib.Core.List.{List, [], _∷_, map}
-use Prim.Native.Nat.{ℕ, zero, suc, _+_, _-_, _^_, _≤_, _<_, max}
+use Prim.Native.Nat.{ℕ, _+_, _-_, _^_, _≤_, _<_, max}
 use native.Mathlib.Omega.{arith}
 use native.Mathlib.Numerals.{add-one}
-use lib.Dec.{T, eqb, ltb}
+use lib.Dec.{eqb, ltb}
 use lib.ListN.{length}
 use Rattle.calls.specs.declared.CounterPoint.{CounterPoint}
 use Rattle.chains.proofs.Tests.{Test, holds, fails, eq-test, lt-test, eq-true, true-not-false}
@@ -14,8 +14,8 @@ use Rattle.direct.specs.Offsets as direct
 use Rattle.direct.specs.Outcomes as outcomes
 use Rattle.history.specs.Counting.{has, largest, offset}
 use Rattle.history.specs.DirectLoss as history
-use Rattle.history.specs.DirectLoss.{anchorOf, seen, highest, senderMaximum, receivedMaximum, latest}
-use Rattle.observe_history.specs.Direct.{epochOf, windowOf, seenSince}
+use Rattle.history.specs.DirectLoss.{seen, highest, senderMaximum, receivedMaximum, latest}
+use Rattle.observe_history.specs.Direct.{epochOf}
 
 -- ---- one offset, one membership
 
