@@ -4,6 +4,7 @@
 use mathlib.Core.Bool.{Bool, true, false}
 use mathlib.Core.List.{List, [], _∷_}
 use Prim.Native.Nat.{ℕ, zero, suc, _+_}
+use lib.Dec.{eqb}
 use lib.ListN.{length}
 use Rattle.scope.specs.Limits.{capacity}
 use Rattle.calls.specs.declared.SentProbe.{SentProbe}
@@ -73,13 +74,13 @@ abbrev pub watchAdvance : Watch → List Probe → ℕ → Watched
 watchAdvance Absent queue time = unwatched queue
 watchAdvance (Present m) queue time = watched (advanceIf true m queue time)
 
-abbrev pub idleBy : ℕ → Monitor → Monitor
-idleBy zero m = idleOn m
-idleBy (suc n) m = m
+abbrev pub idleBy : Bool → Monitor → Monitor
+idleBy true m = idleOn m
+idleBy false m = m
 
 abbrev pub watchIdle : Watch → List Probe → Watched
 watchIdle Absent queue = unwatched queue
-watchIdle (Present m) queue = record { watch = Present (idleBy (monitor.refusalOf m capacity) m); queue = queue }
+watchIdle (Present m) queue = record { watch = Present (idleBy (eqb (monitor.refusalOf m capacity) 0) m); queue = queue }
 
 -- ---- `sent`: the ledger's part with the monitor's refusal, then the monitor's where it was served
 
