@@ -69,7 +69,7 @@ followUp s t = record { sequence = s; timestamp = 1; unknown = false; t3 = t }
 
 -- ---- document 01's listing: sent 7, accept (7,7,5) pending, observe, the same accept again
 
-abbrev listing : List Call
+abbrev pub listing : List Call
 listing = accept (key 7 7 5) NoPacket ∷ observe (key 7 7 5) NoCounters NoFollowUp ∷ accept (key 7 7 5) (Held (packetAt 100)) ∷ sent 7 1 ∷ []
 
 listing-counts : replyCounts 4096 1 listing ≡ record {
@@ -148,7 +148,7 @@ thousandths-of = (refl, refl, refl)
 
 -- ---- every class of a follow-up, after probe 1 was sent, answered with reflector number 11 and observed
 
-abbrev one : List Call
+abbrev pub one : List Call
 one = observe (key 1 11 5) NoCounters NoFollowUp ∷ accept (key 1 11 5) NoPacket ∷ sent 1 1 ∷ []
 
 -- the class of a follow-up of an observation of reflector number 12
@@ -179,7 +179,7 @@ unfolding followClass slotAt events replyClass lastAccepted held ready afterRepl
 is-unmatched = refl
 
 -- matched once, its slot is corrected
-abbrev corrected : List Call
+abbrev pub corrected : List Call
 corrected = observe (key 1 12 6) NoCounters (Telemetry (followUp 11 (Nanoseconds (pos 800)))) ∷ accept (key 1 12 6) NoPacket ∷ one
 
 is-repeated : classAfter (followUp 11 NoTime) corrected ≡ repeated

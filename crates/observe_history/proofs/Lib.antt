@@ -5,3 +5,5 @@ pub mod Lanes
 pub mod DirectLaws
 pub mod DirectElsewhere
 pub mod DirectShown
+pub mod Delays
+pub mod RoundTrips

@@ -1,0 +1,46 @@
+-- Worked examples of the figures, each computed. Lists are newest first.
+use mathlib.Core.Path.{_≡_, refl}
+use mathlib.Core.List.{[], _∷_}
+use mathlib.Core.Option.{none, some}
+use lib.IntN.{pos, negsuc}
+use Rattle.clock_quality.specs.declared.LastEstimate.the-variants as last
+use Rattle.clock_quality.specs.declared.LargestError.the-variants as largest
+use Rattle.clock_quality.specs.Samples as samples
+use Rattle.history.specs.Counting.{has}
+use Rattle.history.specs.Ledger.{rememberings, without, distinct, accepted, hasKey, lastAccepted, held, replyClass, ready, afterReply, events}
+use Rattle.history.specs.FollowUps.{followClass, slotAt, measured, roundTrips}
+use Rattle.history.specs.Figures.{total, least, greatest, figuresOf, delays, estimates, roundTripFigures, delayFigures, clockQuality}
+use Rattle.history.proofs.Examples.{listing, one, corrected}
+
+-- 1 ns after -3 ns after 4 ns
+three-delays : figuresOf (pos 1 ∷ negsuc 2 ∷ pos 4 ∷ []) ≡ record { samples = 3; sum = pos 2; minimum = some (negsuc 2); maximum = some (pos 4) }
+unfolding total least greatest
+three-delays = refl
+
+no-delay : figuresOf [] ≡ record { samples = 0; sum = pos 0; minimum = none; maximum = none }
+unfolding total least greatest
+no-delay = refl
+
+-- document 01's listing: one round trip of 50
+listing-round-trips : roundTripFigures 4096 listing ≡ record { samples = 1; sum = pos 50; minimum = some (pos 50); maximum = some (pos 50) }
+unfolding total least greatest roundTrips events replyClass lastAccepted held ready afterReply accepted rememberings distinct without hasKey has
+listing-round-trips = refl
+
+-- a matched follow-up of a delay of 900 - 800, of a reply without estimates; before it, none
+corrected-delays : (delayFigures 4 1 corrected ≡ record { samples = 1; sum = pos 100; minimum = some (pos 100); maximum = some (pos 100) })
+    × (delayFigures 4 1 one ≡ record { samples = 0; sum = pos 0; minimum = none; maximum = none })
+unfolding total least greatest delays measured followClass slotAt events replyClass lastAccepted held ready afterReply accepted rememberings distinct without hasKey has
+corrected-delays = (refl, refl)
+
+corrected-quality : clockQuality 4 1 corrected ≡ record {
+  samples = 1;
+  both = 0;
+  unsynchronized = 0;
+  invalid = 0;
+  unknown = 1;
+  sender = last.Absent;
+  reflector = last.Absent;
+  largest = largest.Absent;
+}
+unfolding samples.count samples.largestAmong estimates measured followClass slotAt events replyClass lastAccepted held ready afterReply accepted rememberings distinct without hasKey has
+corrected-quality = refl
