@@ -104,10 +104,13 @@ sentLeaves k s r =
 
 -- ---- `accept`: a unique reply goes to the monitor
 
+abbrev pub isUnique : Accepted → Bool
+isUnique accepted.Duplicate = false
+isUnique accepted.Unknown = false
+isUnique (accepted.Unique p o) = true
+
 abbrev pub wasUnique : AcceptAnswer → Bool
-wasUnique (accepts.Served l accepted.Duplicate) = false
-wasUnique (accepts.Served l accepted.Unknown) = false
-wasUnique (accepts.Served l (accepted.Unique p o)) = true
+wasUnique (accepts.Served l a) = isUnique a
 wasUnique (accepts.Refused n) = false
 
 abbrev pub ledgerOfAccept : Ledger → AcceptAnswer → Ledger
