@@ -1,7 +1,7 @@
 // `Measurements` of src/sender/measurements.rs: its state by value, the refusals of the calls that change it, and the calls that only read
 // it. The rooms and the calls over them stand above.
 ghost use mathlib.Core.Path.{_≡_};
-ghost use Rattle.ledger_state.specs.State.{atLeastOne, freshCounts, freshLedger};
+ghost use Rattle.ledger_state.specs.State.{atLeastOne, secretOf, wordsOf, freshCounts, freshLedger};
 ghost use Rattle.ledger_state.specs.Refusal.{firstRefusal, ringFits, ringsFit, countsFit, roomForCall};
 
 pub mod snapshot;
@@ -27,10 +27,54 @@ pub struct Counts {
     pub follow: FollowUps,
 }
 
+// The words of the hash. They are no array, since an answer that is an enum cannot hold one.
+pub struct Secret {
+    pub first: u32,
+    pub second: u32,
+    pub third: u32,
+    pub fourth: u32,
+    pub fifth: u32,
+    pub sixth: u32,
+    pub seventh: u32,
+    pub eighth: u32,
+}
+
+impl Secret {
+    pub fn of_words(words: [u32; 8]) -> Secret
+        ensures { λ r. ⌜ r ≡ secretOf words ⌝ }
+    {
+        Secret {
+            first: words[0],
+            second: words[1],
+            third: words[2],
+            fourth: words[3],
+            fifth: words[4],
+            sixth: words[5],
+            seventh: words[6],
+            eighth: words[7],
+        }
+    }
+
+    pub fn words(self) -> [u32; 8]
+        ensures { λ r. ⌜ r ≡ wordsOf self ⌝ }
+    {
+        [
+            self.first,
+            self.second,
+            self.third,
+            self.fourth,
+            self.fifth,
+            self.sixth,
+            self.seventh,
+            self.eighth,
+        ]
+    }
+}
+
 // `copies`, the words of the hash, and how many sent, accept and observe calls were served.
 pub struct Ledger {
     pub copies: u16,
-    pub secret: [u32; 8],
+    pub secret: Secret,
     pub calls: u64,
     pub tables: Tables,
     pub counts: Counts,
@@ -61,6 +105,7 @@ pub fn fresh(copies: u16, secret: [u32; 8]) -> Ledger
     ensures { λ r. ⌜ r ≡ freshLedger copies secret ⌝ }
 {
     let counts = fresh_counts();
+    let secret = Secret::of_words(secret);
     Ledger {
         copies: at_least_one(copies),
         secret,

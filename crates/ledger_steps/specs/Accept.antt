@@ -25,6 +25,7 @@ use Rattle.replies.specs.declared.ReplyClass.{ReplyClass}
 use Rattle.replies.specs.declared.ReplyClass.the-variants.{Duplicate, Unknown, Unique}
 use Rattle.replies.specs.Served.{classBy, afterDuplicate, afterUnknown, afterUnique}
 use Rattle.ledger_state.specs.declared.Ledger.{Ledger}
+use Rattle.ledger_state.specs.State.{hashWords}
 use Rattle.ledger_steps.specs.declared.Accepted.{Accepted}
 use Rattle.ledger_steps.specs.declared.Accepted.the-variants as accepted
 
@@ -136,4 +137,4 @@ module _ (N : ℕ) (byKey : ReplyKey → ℕ) (byNumber : ℕ → ℕ) where
 
 -- at 4,096, with the hashes of the code
 abbrev pub acceptOn : Ledger → List (List ℕ) → List (List ℕ) → List (List ℕ) → List (List ℕ) → Reply → AcceptOutcome
-acceptOn l = acceptIn capacity (hashOf (l .secret)) (numberHash (l .secret)) l
+acceptOn l = acceptIn capacity (hashOf (hashWords l)) (numberHash (hashWords l)) l

@@ -37,6 +37,7 @@ use Rattle.offset_set.specs.Offsets as offset_set
 use Rattle.key_ring.specs.Table as key_ring
 use Rattle.key_ring.specs.Table.{hashOf, wordsAt, storedAt, newestSlot}
 use Rattle.ledger_state.specs.declared.Ledger.{Ledger}
+use Rattle.ledger_state.specs.State.{hashWords}
 
 -- the state and the rooms that `observe` changes: the rows of words, the seen offsets, the links
 pub record ObserveOutcome : Type 0 where
@@ -167,4 +168,4 @@ module _ (N : ℕ) (byKey : ReplyKey → ℕ) (byNumber : ℕ → ℕ) where
 
 -- at 4,096, with the hashes of the code
 abbrev pub observeOn : Ledger → List (List ℕ) → List (List ℕ) → List ℕ → List (List ℕ) → ReplyObservation → ObserveOutcome
-observeOn l = observeIn capacity (hashOf (l .secret)) (numberHash (l .secret)) l
+observeOn l = observeIn capacity (hashOf (hashWords l)) (numberHash (hashWords l)) l

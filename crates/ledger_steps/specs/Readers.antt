@@ -16,6 +16,7 @@ use Rattle.calls.specs.declared.FollowUpTelemetry.{FollowUpTelemetry}
 use Rattle.probe_ring.specs.Row.{isAnswered}
 use Rattle.probe_ring.specs.Rooms as probe_ring
 use Rattle.ledger_state.specs.declared.Ledger.{Ledger}
+use Rattle.ledger_state.specs.State.{hashWords}
 use Rattle.ledger_steps.specs.Accept.{probeAt}
 use Rattle.ledger_steps.specs.Observe.{holderOf}
 
@@ -38,7 +39,7 @@ module _ (N : ℕ) (byKey : ReplyKey → ℕ) (byNumber : ℕ → ℕ) where
 
 -- at 4,096, with the hashes of the code
 abbrev pub lookupOn : Ledger → List (List ℕ) → List (List ℕ) → List (List ℕ) → ℕ → FollowUpTelemetry → Shown
-lookupOn l = lookupIn capacity (hashOf (l .secret)) (numberHash (l .secret)) l
+lookupOn l = lookupIn capacity (hashOf (hashWords l)) (numberHash (hashWords l)) l
 
 abbrev pub answeredOn : Ledger → List (List ℕ) → List (List ℕ) → ℕ → Bool
-answeredOn l = answeredIn capacity (hashOf (l .secret)) (numberHash (l .secret)) l
+answeredOn l = answeredIn capacity (hashOf (hashWords l)) (numberHash (hashWords l)) l

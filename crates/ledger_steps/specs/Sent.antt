@@ -10,6 +10,7 @@ use Rattle.probe_ring.specs.Row.{unanswered}
 use Rattle.probe_ring.specs.Rooms as probe_ring
 use Rattle.replies.specs.Served.{afterSent}
 use Rattle.ledger_state.specs.declared.Ledger.{Ledger}
+use Rattle.ledger_state.specs.State.{hashWords}
 
 -- the state, the room of the probes and the links
 pub record SentOutcome : Type 0 where
@@ -42,4 +43,4 @@ sentIn N byNumber l probes links s =
 
 -- at 4,096, with the hash of the code
 abbrev pub sentOn : Ledger → List (List ℕ) → List (List ℕ) → SentProbe → SentOutcome
-sentOn l = sentIn capacity (numberHash (l .secret)) l
+sentOn l = sentIn capacity (numberHash (hashWords l)) l

@@ -10,11 +10,14 @@ use Rattle.ledger_state.proofs.fresh.Tie as tie
 fresh-counts-requires : tie.Need-fresh-counts-requires
 fresh-counts-requires c κs = search needs
 
+of-words-requires : tie.Need-of-words-requires
+of-words-requires c κs = search needs
+
 at-least-one-requires : tie.Need-at-least-one-requires
 at-least-one-requires c κs = search needs
 
 returns : tie.Need-returns
-returns c = λ i. record { copies = c .at-least-one .ensures i; secret = c .before .before .args .secret; calls = 0; tables = freshTables; counts = c .before .fresh-counts .ensures i }
+returns c = λ i. record { copies = c .at-least-one .ensures i; secret = c .before .of-words .ensures i; calls = 0; tables = freshTables; counts = c .before .before .fresh-counts .ensures i }
 
 pub fresh-spec : {M : Type 1} → statement M
-fresh-spec = tie.close (tie.spec fresh-counts-requires at-least-one-requires returns)
+fresh-spec = tie.close (tie.spec fresh-counts-requires of-words-requires at-least-one-requires returns)
