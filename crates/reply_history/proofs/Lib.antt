@@ -4,3 +4,12 @@ pub mod Probes
 pub mod Keys
 pub mod Numbers
 pub mod Lanes
+pub mod Counts
+pub mod Sent
+pub mod Slots
+pub mod Observe
+pub mod Ready
+pub mod Classes
+pub mod Unique
+pub mod Accept
+pub mod Steps

@@ -92,7 +92,7 @@ module _ (es : List Event) where
       ∙ ap (take n) (sym (rows-kept (remembered s o p) (distinct (rememberings es)) s (other-row s o p)))
       ∙ take-map (probeIn (remembered s o p ∷ es)) n (without s (distinct (rememberings es))))
 
-  packet-after : (p : Pending) (q : PendingPacket) → packetAfter p q ≡ orElse (packetOf p) q
+  pub packet-after : (p : Pending) (q : PendingPacket) → packetAfter p q ≡ orElse (packetOf p) q
   packet-after pending.Absent q = refl
   packet-after (pending.Held x) q = refl
 

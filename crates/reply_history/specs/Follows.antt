@@ -21,6 +21,8 @@ use Rattle.replies.specs.declared.Replies.{Replies}
 use Rattle.history.specs.Counting.{present}
 use Rattle.history.specs.Ledger.{Event, accepted, lastAccepted, held, replies, packet, awaiting, events, sameKey, ReplyCounts, replyCounts, lastReflector, highestReflector}
 use Rattle.history.specs.Ledger as history
+use Rattle.ledger_steps.specs.declared.Accepted.{Accepted}
+use Rattle.ledger_steps.specs.declared.Accepted.the-variants as answers
 use Rattle.ledger_steps.specs.Rooms.{Stand}
 
 -- ---- the history's words in the code's types
@@ -53,6 +55,12 @@ repliesIn N copies h = repliesBy (replyCounts N copies h) (accepted (events N h)
 abbrev pub awaitsIn : Option ReplyKey → ReplyKey → Bool
 awaitsIn none k = false
 awaitsIn (some a) k = sameKey k a
+
+-- the answer of an accept
+abbrev pub asAccepted : history.Answer → Accepted
+asAccepted history.isDuplicate = answers.Duplicate
+asAccepted history.isUnknown = answers.Unknown
+asAccepted (history.isUnique p o) = answers.Unique p (asOrdinal o)
 
 -- ---- the parts of a stand
 

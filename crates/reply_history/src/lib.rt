@@ -1,2 +1,2 @@
-// That what the ledger shows of replies follows from the plain list of served calls. This crate has
+// That what the ledger shows of replies follows from the plain list of served calls: `replies-follow` of proofs/Steps.antt. This crate has
 // definitions and theorems, and no code.
