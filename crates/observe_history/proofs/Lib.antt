@@ -7,3 +7,13 @@ pub mod DirectElsewhere
 pub mod DirectShown
 pub mod Delays
 pub mod RoundTrips
+pub mod SlotViews
+pub mod Records
+pub mod SlotWords
+pub mod FollowClasses
+pub mod Quality
+pub mod SlotSteps
+pub mod OwnSlots
+pub mod FollowFigures
+pub mod FollowObserve
+pub mod FollowAccept

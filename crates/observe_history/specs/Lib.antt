@@ -1,2 +1,3 @@
 pub mod Direct
 pub mod RoundTrips
+pub mod FollowUps
