@@ -17,3 +17,5 @@ pub mod OwnSlots
 pub mod FollowFigures
 pub mod FollowObserve
 pub mod FollowAccept
+pub mod FollowCalls
+pub mod Steps

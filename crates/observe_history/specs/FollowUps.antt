@@ -10,7 +10,6 @@ use lib.ListN.{getD}
 use Rattle.estimate.specs.declared.Estimates.{Estimates}
 use Rattle.estimate.specs.declared.Estimates.the-variants as estimates
 use Rattle.estimate.specs.Wire.{estimateOf}
-use Rattle.calls.specs.declared.ReplyKey.{ReplyKey}
 use Rattle.calls.specs.declared.Call.{Call}
 use Rattle.correlation.specs.declared.Slot.{Slot}
 use Rattle.correlation.specs.declared.Unique.{Unique}
@@ -20,13 +19,11 @@ use Rattle.correlation.specs.declared.Wires.the-variants as wires
 use Rattle.correlation.specs.Words.{slotOf}
 use Rattle.correlation.proofs.Back.{RecordFits}
 use Rattle.key_ring.specs.Rows.{isObserved, slotIn, Counted}
-use Rattle.key_ring.specs.Table.{Table, tableOf, newestSlot, keysOf, rowsOf, Sound}
-use Rattle.replies.specs.declared.ReplyClass.{ReplyClass}
-use Rattle.replies.specs.declared.ReplyClass.the-variants as reply
+use Rattle.key_ring.specs.Table.{Table, tableOf, newestSlot, rowsOf}
 use Rattle.follow_ups.specs.declared.FollowCounts.{FollowCounts as Counts}
 use Rattle.follow_ups.specs.declared.FollowUps.{FollowUps}
 use Rattle.history.specs.Given.{EstimatePair, timeOf}
-use Rattle.history.specs.Ledger.{Class as HistoryClass, duplicate, unknown, unique, lastAccepted, events}
+use Rattle.history.specs.Ledger.{unique, events}
 use Rattle.history.specs.FollowUps as history
 use Rattle.history.specs.FollowUps.{Kept, free, taken, slotAt, FollowCounts, followCounts}
 use Rattle.history.specs.Figures.{delayFigures, clockQuality}
@@ -85,19 +82,7 @@ pub record FollowsFollow (N copies : ℕ) (h : List Call) (s : Stand) : Type 0 w
   pub figures : FiguresFollow N copies h (s .ledger .counts .follow)
   pub slots : SlotsFollow N copies h (tableOf (s .rooms .keys) (s .rooms .slots) (s .rooms .links) (s .ledger .tables .keys)) (s .ledger .tables .awaits)
 
--- ---- what the laws take of the accepted keys: the rooms are sound, and hold the last accepted
-
-pub record KeysFollow (N : ℕ) (byKey : ReplyKey → ℕ) (byNumber : ℕ → ℕ) (h : List Call) (t : Table) : Type 0 where
-  pub sound : Sound N byKey byNumber t
-  pub keys : keysOf N t ≡ lastAccepted N (events N h)
-
 -- the types of an observation's estimates: a multiplier has eight bits
 abbrev pub QualityFits : Estimates → Type 0
 QualityFits estimates.Absent = Unit
 QualityFits (estimates.Pair s r) = (s .multiplier < 256) × (r .multiplier < 256)
-
--- the class of a reply in the code's type: what the accept law takes of the keys and the probes
-abbrev pub classIs : HistoryClass → ReplyClass
-classIs duplicate = reply.Duplicate
-classIs unknown = reply.Unknown
-classIs unique = reply.Unique

@@ -1,3 +1,4 @@
 pub mod Direct
 pub mod RoundTrips
 pub mod FollowUps
+pub mod Follows
