@@ -13,3 +13,5 @@ pub mod Classes
 pub mod Unique
 pub mod Accept
 pub mod Steps
+pub mod Secret
+pub mod Shown

@@ -39,7 +39,7 @@ without-there : (s x : ℕ) (xs : List ℕ) → eqb s x ≡ false → without s 
 unfolding without
 without-there s x xs e = rw e
 
-has-tail : (x : ℕ) (xs : List ℕ) (n : ℕ) → has (x ∷ xs) n ≡ false → (eqb n x ≡ false) × (has xs n ≡ false)
+pub has-tail : (x : ℕ) (xs : List ℕ) (n : ℕ) → has (x ∷ xs) n ≡ false → (eqb n x ≡ false) × (has xs n ≡ false)
 unfolding has
 has-tail x xs n e = or-false (eqb n x) (has xs n) e
 

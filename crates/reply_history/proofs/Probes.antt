@@ -25,7 +25,7 @@ use Rattle.history.specs.Ledger.{Event, remembered, replied, observed, remember
 use Rattle.history.specs.Ledger as history
 use Rattle.reply_history.specs.Follows.{asOrdinal, probeIn}
 use Rattle.reply_history.proofs.Saturation.{one-more}
-use Rattle.reply_history.proofs.Lists.{eqb-same, eqb-flip, kept-without, take-map}
+use Rattle.reply_history.proofs.Lists.{has-tail, eqb-same, eqb-flip, kept-without, take-map}
 
 -- ---- any list of sequences
 
@@ -55,6 +55,12 @@ module _ (es : List Event) where
           → cond (eqb s x) (f (probeIn es x)) (firstOf (λ p. eqb s (p .sequence)) f d (map (probeIn es) ss)) ≡ f (probeIn es s)
       go (holds p t) ih = rw t (ap (λ (y : ℕ). f (probeIn es y)) (sym p))
       go (fails p t) ih = rw t (ih (rw t at e))
+
+  -- and d where it is not there
+  pub rows-absent : {B : Type 0} (f : Probe → B) (d : B) (s : ℕ) (ss : List ℕ) → has ss s ≡ false → firstOf (λ p. eqb s (p .sequence)) f d (map (probeIn es) ss) ≡ d
+  unfolding firstOf
+  rows-absent f d s [] e = refl
+  rows-absent f d s (x ∷ ss) e = let t = has-tail x ss s e in rw (t .0) (rows-absent f d s ss (t .1))
 
   -- ---- one more event
 
