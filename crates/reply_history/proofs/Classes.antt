@@ -1,30 +1,20 @@
 -- The class of a reply over the rooms is that over the history; a duplicate and an unknown leave all but one count.
 -- Assumes nothing.
-use mathlib.Core.Path.{_≡_, refl, sym, ap, _∙_}
-use mathlib.Core.Bool.{Bool, true, false, cond}
-use mathlib.Core.Logic.{_≢_}
-use mathlib.Core.List.{List, [], _∷_, map}
-use mathlib.Core.Option.{Option, none, some}
-use Prim.Native.Nat.{ℕ, _-_, _+_, _^_, _<_, suc}
-use native.Mathlib.Nat.{mod-lt}
-use native.Mathlib.Omega.{arith}
-use lib.Dec.{ltb, leb}
-use lib.ListN.{length, take, getD, set}
-use Rattle.chains.specs.Links.{wordOf}
+use mathlib.Core.Path.{_≡_, refl, ap, _∙_}
+use mathlib.Core.Bool.{Bool, true, false}
+use mathlib.Core.List.{List, _∷_, map}
+use mathlib.Core.Option.{Option}
+use Prim.Native.Nat.{ℕ, _<_}
+use lib.Dec.{ltb}
 use Rattle.calls.specs.declared.ReplyKey.{ReplyKey}
 use Rattle.calls.specs.declared.PendingPacket.{PendingPacket}
-use Rattle.calls.specs.declared.Pending.{Pending}
 use Rattle.calls.specs.declared.Reply.{Reply}
 use Rattle.calls.specs.declared.Call.{Call}
 use Rattle.calls.specs.declared.Call.the-variants.{Accept}
 use Rattle.key_ring.specs.Keys as ring
-use Rattle.key_ring.specs.Table as key_ring
-use Rattle.key_ring.specs.Table.{Table, tableOf, keysOf, findIn, acceptedKey}
+use Rattle.key_ring.specs.Table.{findIn}
 use Rattle.key_ring.proofs.Tables as key_laws
-use Rattle.key_ring.proofs.Accepts.{accepted-sound, accepted-keys}
-use Rattle.probe_ring.specs.declared.Probe.{Probe}
-use Rattle.probe_ring.specs.Rooms as probe_ring
-use Rattle.probe_ring.specs.Rooms.{Outcome, slotOf}
+use Rattle.probe_ring.specs.Rooms.{slotOf}
 use Rattle.replies.specs.declared.ReplyClass.{ReplyClass}
 use Rattle.replies.specs.declared.ReplyClass.the-variants as class
 use Rattle.replies.specs.Served as served
@@ -32,12 +22,11 @@ use Rattle.history.specs.Counting.{has, present}
 use Rattle.history.specs.Given.{packetOf}
 use Rattle.history.specs.Ledger.{Event, Class, duplicate, unknown, unique, classBy, hasKey, lastAccepted, held, replyClass, afterReply, awaiting, events, answer}
 use Rattle.ledger_steps.specs.Rooms.{Stand}
-use Rattle.ledger_steps.specs.Accept.{AcceptOutcome, isPending, probeSlot, acceptBy, acceptIn}
-use Rattle.reply_history.specs.Fits.{KeyFits, AllFit}
+use Rattle.ledger_steps.specs.Accept.{AcceptOutcome, acceptBy, acceptIn}
+use Rattle.reply_history.specs.Fits.{KeyFits}
 use Rattle.reply_history.specs.Stands.{withAccept, acceptOf}
 use Rattle.reply_history.specs.Follows.{asAccepted, keysTable, probeRooms, probeIn, RepliesFollow}
 use Rattle.reply_history.proofs.Keys.{has-same}
-use Rattle.reply_history.proofs.Probes.{rows-has}
 use Rattle.reply_history.proofs.Ready.{found-is}
 use Rattle.reply_history.proofs.Counts.{pending-same, counts-duplicate, counts-unknown}
 

@@ -1,10 +1,9 @@
 -- The counts of replies: what each served call adds to them is what it adds to the history's.
 -- Assumes nothing.
-use mathlib.Core.Path.{_≡_, refl, sym, ap, _∙_}
-use mathlib.Core.Bool.{Bool, true, false, not, _&&_, cond}
-use mathlib.Core.List.{List, [], _∷_}
-use mathlib.Core.Option.{Option, none, some}
-use Prim.Native.Nat.{ℕ, zero, suc, _+_, _-_, _*_, _^_, _<_, min}
+use mathlib.Core.Path.{_≡_, refl}
+use mathlib.Core.Bool.{Bool, true, false, not, _&&_}
+use mathlib.Core.List.{List, _∷_}
+use Prim.Native.Nat.{ℕ, suc, _+_, _-_, _*_, _^_, _<_, min}
 use native.Mathlib.Nat.{mul-suc}
 use native.Mathlib.Omega.{arith}
 use lib.Dec.{eqb, ltb}
@@ -20,9 +19,9 @@ use Rattle.probe_ring.specs.Row.{mostReplies}
 use Rattle.replies.specs.declared.Reflector.the-variants.{Number}
 use Rattle.replies.specs.Served as served
 use Rattle.replies.specs.Served.{afterSent, afterDuplicate, afterUnknown, afterUnique, highestAfter, isReordered}
-use Rattle.history.specs.Counting.{tally, has, present, orElse}
+use Rattle.history.specs.Counting.{tally, has, present}
 use Rattle.history.specs.Given.{packetOf}
-use Rattle.history.specs.Ledger.{Event, remembered, Class, duplicate, unknown, unique, accepted, held, noPacket, replyClass, ready, before, afterReply, events, count, isSent, isClass, isAnswered, isAdditional, isLate, isSatisfying, isReordered as isBehind, isIndependent, behind, lastReflector, highestReflector, probesEvicted}
+use Rattle.history.specs.Ledger.{Event, Class, duplicate, unknown, unique, accepted, held, replyClass, ready, before, afterReply, events, count, isSent, isClass, isAnswered, isAdditional, isLate, isSatisfying, isReordered as isBehind, isIndependent, behind, lastReflector, highestReflector, probesEvicted}
 use Rattle.ledger_steps.specs.Accept.{isPending}
 use Rattle.reply_history.specs.Fits.{KeyFits}
 use Rattle.reply_history.specs.Follows.{asReflector, repliesIn}

@@ -1,15 +1,14 @@
 -- The accepted keys: found as the history has them, and one more evicts the oldest where there are N.
 -- Assumes nothing.
-use mathlib.Core.Path.{_≡_, refl, sym, ap, _∙_}
-use mathlib.Core.Bool.{Bool, true, false, _||_}
+use mathlib.Core.Path.{_≡_, refl, ap}
+use mathlib.Core.Bool.{Bool, _||_}
 use mathlib.Core.List.{List, [], _∷_}
-use Prim.Native.Nat.{ℕ, zero, suc, _+_, _-_, _≤_, _<_}
+use Prim.Native.Nat.{ℕ, zero, suc, _-_, _≤_, _<_}
 use native.Mathlib.Omega.{arith}
 use borrow.Author.Tests.{lt-leb, le-leb}
 use lib.Dec.{leb, ltb}
 use lib.ListN.{length, take}
 use lib.Seq.{take-all}
-use Rattle.chains.specs.Rings.{contents}
 use Rattle.chains.proofs.Tests.{Test, holds, fails, lt-test}
 use Rattle.chains.proofs.Contents.{length-contents}
 use Rattle.calls.specs.declared.ReplyKey.{ReplyKey}

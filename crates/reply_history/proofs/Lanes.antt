@@ -1,8 +1,6 @@
 -- The lanes of the links do not meet: 0 to 3 are the keys', 4 and 5 the probes', 6 and 7 the offsets'. What changes one leaves the others whole.
 -- Assumes nothing.
-use mathlib.Core.Path.{_≡_, refl, sym, _∙_}
-use mathlib.Core.Bool.{Bool}
-use mathlib.Core.Logic.{_≢_}
+use mathlib.Core.Path.{_≡_, refl, _∙_}
 use mathlib.Core.List.{List}
 use Prim.Native.Nat.{ℕ, _+_, _<_}
 use native.Mathlib.Omega.{arith}
@@ -23,7 +21,6 @@ use Rattle.direct.specs.declared.Direct.{Direct}
 use Rattle.direct.specs.declared.Offsets.{Offsets}
 use Rattle.direct.specs.declared.Offsets.the-variants.{Kept, Begun, Added, Cleared}
 use Rattle.direct.specs.Outcomes.{recorded, soughtIn, seenIn}
-use Rattle.offset_set.specs.Offsets as offset_set
 use Rattle.offset_set.specs.Offsets.{OffsetSet, offsetSet, added, contains}
 use Rattle.key_ring.specs.Table as key_ring
 use Rattle.key_ring.specs.Table.{Table, tableOf, acceptedKey, pushedKey, keysOf}

@@ -1,10 +1,10 @@
 -- The reflector numbers of the accepted keys: they fit 32 bits, and the highest moves as the history says.
 -- Assumes nothing.
-use mathlib.Core.Path.{_≡_, refl, sym, ap, _∙_}
+use mathlib.Core.Path.{_≡_, refl, sym, ap}
 use mathlib.Core.Bool.{Bool, true, false, not, cond}
 use mathlib.Core.List.{List, [], _∷_}
 use mathlib.Core.Option.{Option, none, some}
-use Prim.Native.Nat.{ℕ, zero, suc, _+_, _-_, _%_, _^_, _≤_, _<_}
+use Prim.Native.Nat.{ℕ, _+_, _-_, _%_, _^_, _<_}
 use native.Mathlib.Omega.{arith}
 use borrow.Author.Tests.{lt-leb, le-leb}
 use lib.Dec.{eqb, ltb, leb}
@@ -13,12 +13,11 @@ use Rattle.calls.specs.declared.ReplyKey.{ReplyKey}
 use Rattle.calls.specs.declared.PendingPacket.{PendingPacket}
 use Rattle.calls.specs.declared.Call.{Call}
 use Rattle.calls.specs.declared.Call.the-variants.{Sent, Accept, Observe, Advance, Idle}
-use Rattle.replies.specs.declared.Reflector.{Reflector}
 use Rattle.replies.specs.Served.{stepFrom, highestBy, highestAfter, isReordered}
 use Rattle.history.specs.Counting.{has, offset, orElse}
 use Rattle.history.specs.Given.{packetOf}
-use Rattle.history.specs.Ledger.{Event, remembered, replied, observed, Class, duplicate, unknown, unique, accepted, held, noPacket, ready, afterReply, replyClass, events, newHighest, behind, highestReflector}
-use Rattle.reply_history.specs.Fits.{KeyFits, CallFits, AllFit}
+use Rattle.history.specs.Ledger.{Event, remembered, Class, duplicate, unknown, unique, accepted, held, noPacket, ready, afterReply, replyClass, events, newHighest, behind, highestReflector}
+use Rattle.reply_history.specs.Fits.{KeyFits, AllFit}
 use Rattle.reply_history.specs.Follows.{asReflector}
 
 -- ---- every accepted key fits

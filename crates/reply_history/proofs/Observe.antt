@@ -1,6 +1,6 @@
 -- A served `observe`, and the calls of the monitor alone, keep what the ledger shows of replies.
 -- Assumes nothing.
-use mathlib.Core.Path.{_≡_, refl, sym, ap, _∙_}
+use mathlib.Core.Path.{_≡_, refl, _∙_}
 use mathlib.Core.List.{List, _∷_, map}
 use Prim.Native.Nat.{ℕ, _<_}
 use native.Mathlib.Omega.{arith}
@@ -12,9 +12,9 @@ use Rattle.key_ring.specs.Table.{tableOf, Sound}
 use Rattle.history.specs.Ledger.{accepted, lastAccepted, rememberings, held, replies, packet, awaiting, events}
 use Rattle.history.specs.Ledger as history
 use Rattle.ledger_steps.specs.Rooms.{Stand}
-use Rattle.ledger_steps.specs.Observe.{directIn, followIn, ownIn, observeIn}
+use Rattle.ledger_steps.specs.Observe.{directIn, followIn, observeIn}
 use Rattle.reply_history.specs.Stands.{withObserve, observeOf}
-use Rattle.reply_history.specs.Follows.{probeIn, keysTable, probeRooms, RepliesFollow}
+use Rattle.reply_history.specs.Follows.{probeIn, RepliesFollow}
 use Rattle.reply_history.proofs.Lanes.{keys-stay, keys-alike, probes-stay, probes-alike, OffsetLane, direct-lane}
 use Rattle.reply_history.proofs.Slots.{follow-sound, own-sound}
 use Rattle.reply_history.proofs.Counts.{counts-observe, counts-advance, counts-idle}

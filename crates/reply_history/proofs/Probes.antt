@@ -3,25 +3,25 @@
 use mathlib.Core.Path.{_≡_, refl, sym, ap, ap₂, _∙_}
 use mathlib.Core.Bool.{Bool, true, false, not, _||_, _&&_, cond}
 use mathlib.Core.List.{List, [], _∷_, map}
-use mathlib.Core.Option.{Option, none, some}
-use Prim.Native.Nat.{ℕ, zero, suc, _≤_, _<_, min}
+use mathlib.Core.Option.{Option}
+use Prim.Native.Nat.{ℕ, zero, suc, _≤_, _<_}
 use native.Mathlib.Omega.{arith}
-use lib.Dec.{eqb, ltb, leb}
+use lib.Dec.{eqb, leb}
 use borrow.Author.Tests.{lt-leb, le-leb}
 use lib.ListN.{length, take}
 use Rattle.chains.specs.Walk.{firstOf}
-use Rattle.chains.proofs.Tests.{Test, holds, fails, eq-test, lt-test, eq-true, eq-false, true-not-false}
+use Rattle.chains.proofs.Tests.{Test, holds, fails, eq-test, true-not-false}
 use Rattle.calls.specs.declared.PendingPacket.{PendingPacket}
 use Rattle.calls.specs.declared.Pending.{Pending}
 use Rattle.calls.specs.declared.Pending.the-variants as pending
 use Rattle.calls.specs.declared.ReplyKey.{ReplyKey}
 use Rattle.probe_ring.specs.declared.Probe.{Probe}
-use Rattle.probe_ring.specs.Row.{mostReplies, unanswered, packetAfter, afterReply}
+use Rattle.probe_ring.specs.Row.{unanswered, packetAfter, afterReply}
 use Rattle.probe_ring.specs.Held as list
 use Rattle.probe_ring.specs.Held.{others, remembering, replacing, evicts}
 use Rattle.history.specs.Counting.{has, orElse}
 use Rattle.history.specs.Given.{packetOf}
-use Rattle.history.specs.Ledger.{Event, remembered, replied, observed, rememberings, without, distinct, replies, packet, held}
+use Rattle.history.specs.Ledger.{Event, remembered, replied, rememberings, without, distinct, replies, packet, held}
 use Rattle.history.specs.Ledger as history
 use Rattle.reply_history.specs.Follows.{asOrdinal, probeIn}
 use Rattle.reply_history.proofs.Saturation.{one-more}

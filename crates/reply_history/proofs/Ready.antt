@@ -1,21 +1,21 @@
 -- Before a unique reply counts, its probe is held: as it was, or remembered without ordinal. What the rooms then hold, and where its row stands.
 -- Assumes nothing.
-use mathlib.Core.Path.{_≡_, refl, sym, ap, _∙_, subst}
-use mathlib.Core.Bool.{Bool, true, false, not, _&&_, cond}
+use mathlib.Core.Path.{_≡_, refl, ap, _∙_}
+use mathlib.Core.Bool.{Bool, true, false, not, _&&_}
 use mathlib.Core.Logic.{_≢_}
-use mathlib.Core.List.{List, [], map}
+use mathlib.Core.List.{List, map}
 use mathlib.Core.Option.{none}
-use Prim.Native.Nat.{ℕ, _+_, _<_}
+use Prim.Native.Nat.{ℕ, _<_}
 use native.Mathlib.Omega.{arith}
 use borrow.Author.Tests.{ltb-true}
 use lib.Dec.{eqb, ltb}
-use lib.ListN.{length, getD}
+use lib.ListN.{length}
 use Rattle.chains.specs.Links.{wordOf}
 use Rattle.calls.specs.declared.ReplyKey.{ReplyKey}
 use Rattle.calls.specs.declared.Pending.{Pending}
 use Rattle.calls.specs.declared.Ordinal.the-variants as ordinal
 use Rattle.probe_ring.specs.declared.Probe.{Probe}
-use Rattle.probe_ring.specs.Row.{unanswered, packetAfter, probeOf, ProbeFits}
+use Rattle.probe_ring.specs.Row.{unanswered, packetAfter, ProbeFits}
 use Rattle.probe_ring.specs.Held as list
 use Rattle.probe_ring.specs.Held.{remembering, evicts}
 use Rattle.probe_ring.specs.Rooms as probe_ring

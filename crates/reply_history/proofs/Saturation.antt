@@ -1,12 +1,12 @@
 -- A probe's replies are counted up to 65,535: no test of a count sees the difference, since copies are at most that.
 -- Assumes nothing.
-use mathlib.Core.Path.{_≡_, refl, sym, ap, _∙_}
-use mathlib.Core.Bool.{Bool, true, false, not}
-use Prim.Native.Nat.{ℕ, zero, suc, _+_, _^_, _≤_, _<_, min}
+use mathlib.Core.Path.{_≡_, refl}
+use mathlib.Core.Bool.{not}
+use Prim.Native.Nat.{ℕ, zero, suc, _^_, _≤_, _<_, min}
 use native.Mathlib.Nat.{min-eq-left, min-eq-right}
 use native.Mathlib.Omega.{arith}
 use lib.Dec.{eqb, ltb}
-use Rattle.chains.proofs.Tests.{Test, holds, fails, eq-test, lt-test, eq-true, eq-false, lt-true, lt-false}
+use Rattle.chains.proofs.Tests.{Test, holds, fails, lt-test, eq-false, lt-true, lt-false}
 use Rattle.probe_ring.specs.Row.{mostReplies, oneMore}
 
 below-most : (r : ℕ) → r ≤ mostReplies → min r mostReplies ≡ r

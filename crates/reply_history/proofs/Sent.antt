@@ -1,9 +1,9 @@
 -- A served `sent` keeps what the ledger shows of replies.
 -- Assumes nothing.
-use mathlib.Core.Path.{_≡_, refl, sym, ap, _∙_}
+use mathlib.Core.Path.{_≡_, refl, ap, _∙_}
 use mathlib.Core.List.{List, _∷_}
 use mathlib.Core.Option.{some}
-use Prim.Native.Nat.{ℕ, _^_, _<_}
+use Prim.Native.Nat.{ℕ}
 use native.Mathlib.Omega.{arith}
 use Rattle.calls.specs.declared.ReplyKey.{ReplyKey}
 use Rattle.calls.specs.declared.Ordinal.the-variants as ordinal
@@ -20,7 +20,7 @@ use Rattle.ledger_steps.specs.Rooms.{Stand}
 use Rattle.ledger_steps.specs.Sent.{sentIn}
 use Rattle.reply_history.specs.Fits.{SentFits}
 use Rattle.reply_history.specs.Stands.{withSent, sentOf}
-use Rattle.reply_history.specs.Follows.{keysTable, probeRooms, RepliesFollow}
+use Rattle.reply_history.specs.Follows.{probeRooms, RepliesFollow}
 use Rattle.reply_history.proofs.Probes.{rows-remember, evicts-is}
 use Rattle.reply_history.proofs.Lanes.{keys-stay, keys-alike}
 use Rattle.reply_history.proofs.Counts.{counts-sent}

@@ -1,10 +1,10 @@
 -- What the host is shown of replies, from the served calls: the snapshot's part, whether a probe is answered, and which key awaits its observe.
 -- Assumes nothing.
-use mathlib.Core.Path.{_≡_, refl, sym, ap, _∙_}
-use mathlib.Core.Bool.{Bool, true, false, not, _||_, _&&_, cond}
+use mathlib.Core.Path.{_≡_, refl, _∙_}
+use mathlib.Core.Bool.{Bool, true, false, not, _&&_}
 use mathlib.Core.List.{List, [], _∷_, map}
-use mathlib.Core.Option.{Option, none, some}
-use Prim.Native.Nat.{ℕ, zero, suc, _*_, _/_, _<_, min}
+use mathlib.Core.Option.{some}
+use Prim.Native.Nat.{ℕ, zero, suc, _<_}
 use native.Mathlib.Omega.{arith}
 use lib.Dec.{eqb, ltb}
 use lib.ListN.{take}
@@ -15,8 +15,7 @@ use Rattle.calls.specs.declared.Call.{Call}
 use Rattle.key_ring.specs.Keys.{firstIs}
 use Rattle.key_ring.specs.Table.{newestIs}
 use Rattle.key_ring.proofs.Accepts.{newest-is}
-use Rattle.probe_ring.specs.declared.Probe.{Probe}
-use Rattle.probe_ring.specs.Row.{mostReplies, isAnswered}
+use Rattle.probe_ring.specs.Row.{isAnswered}
 use Rattle.probe_ring.proofs.Laws.{find-first}
 use Rattle.thousandths.specs.Thousandths.{thousandthsOf}
 use Rattle.history.specs.Counting.{has, present}

@@ -3,11 +3,10 @@
 use mathlib.Core.Path.{_≡_, refl, sym, ap, _∙_}
 use mathlib.Core.Bool.{Bool, true, false, cond}
 use mathlib.Core.List.{List, [], _∷_, map}
-use Prim.Native.Nat.{ℕ, zero, suc, _-_, _*_, _^_, _<_, max}
+use Prim.Native.Nat.{ℕ, zero, suc, _-_, _^_, _<_}
 use native.Mathlib.Nat.{mul-zero, max-eq-left}
 use native.Mathlib.Omega.{arith}
 use lib.Dec.{eqb}
-use lib.ListN.{length, take}
 use lib.Seq.{take-nil}
 use Rattle.scope.specs.Limits.{capacity}
 use Rattle.calls.specs.declared.ReplyKey.{ReplyKey}
@@ -20,11 +19,10 @@ use Rattle.chains.proofs.Hashes.{key-hash-below, number-hash-below}
 use Rattle.key_ring.specs.Keys.{numbersOf}
 use Rattle.key_ring.specs.Table.{keysOf, hashOf}
 use Rattle.key_ring.proofs.Fresh.{fresh-sound}
-use Rattle.probe_ring.specs.declared.Probe.{Probe}
 use Rattle.probe_ring.specs.Rooms as probe_ring
 use Rattle.probe_ring.proofs.Laws.{empty-sound, empty-held}
 use Rattle.replies.specs.Served.{freshReplies}
-use Rattle.history.specs.Ledger.{Event, rememberings, distinct, held, accepted, lastAccepted, awaiting, events, count, isSent, highestReflector, probesEvicted, copiesOf}
+use Rattle.history.specs.Ledger.{rememberings, distinct, held, accepted, lastAccepted, awaiting, events, count, highestReflector, probesEvicted, copiesOf}
 use Rattle.ledger_state.specs.State.{atLeastOne}
 use Rattle.ledger_steps.specs.Rooms.{Rooms, Stand}
 use Rattle.reply_history.specs.Fits.{CallFits, AllFit}

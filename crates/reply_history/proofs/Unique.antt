@@ -3,14 +3,11 @@
 use mathlib.Core.Path.{_≡_, refl, sym, ap, _∙_, subst}
 use mathlib.Core.Bool.{Bool, true, false, cond}
 use mathlib.Core.List.{List, [], _∷_, map}
-use mathlib.Core.Option.{Option, none, some}
-use Prim.Native.Nat.{ℕ, _/_, _%_, _^_, _<_, _-_, _+_, suc, min}
+use Prim.Native.Nat.{ℕ, _%_, _^_, _<_, _-_, suc}
 use native.Mathlib.Omega.{arith}
-use lib.Dec.{ltb, leb, eqb}
-use lib.ListN.{length, take, getD, set}
-use Rattle.chains.specs.Links.{Rows}
+use lib.Dec.{leb, eqb}
+use lib.ListN.{take, getD, set}
 use Rattle.calls.specs.declared.ReplyKey.{ReplyKey}
-use Rattle.calls.specs.declared.PendingPacket.{PendingPacket}
 use Rattle.calls.specs.declared.Ordinal.the-variants as ordinal
 use Rattle.calls.specs.declared.Reply.{Reply}
 use Rattle.calls.specs.declared.Call.{Call}
@@ -19,23 +16,21 @@ use Rattle.key_ring.specs.Table as key_ring
 use Rattle.key_ring.specs.Table.{Table, tableOf, keysOf, acceptedKey}
 use Rattle.key_ring.proofs.Accepts.{accepted-sound, accepted-keys}
 use Rattle.probe_ring.specs.declared.Probe.{Probe}
-use Rattle.probe_ring.specs.Row.{mostReplies, wordsOf, OrdinalFits, ProbeFits}
+use Rattle.probe_ring.specs.Row.{wordsOf, OrdinalFits, ProbeFits}
 use Rattle.probe_ring.specs.Row as row
 use Rattle.probe_ring.specs.Held.{replacing}
 use Rattle.probe_ring.specs.Rooms as probe_ring
 use Rattle.probe_ring.specs.Rooms.{Outcome, rooms, roomsAfter, slotOf}
 use Rattle.probe_ring.proofs.Laws as probe_laws
 use Rattle.probe_ring.proofs.Replies.{put-held, put-sound}
-use Rattle.replies.specs.declared.Replies.{Replies}
 use Rattle.replies.specs.Served.{afterUnique}
 use Rattle.history.specs.Counting.{present}
 use Rattle.history.specs.Given.{packetOf}
 use Rattle.history.specs.Ledger.{Event, replied, unique, accepted, lastAccepted, rememberings, held, replies, awaiting, replyClass, ready, before, afterReply, events, answer}
 use Rattle.ledger_steps.specs.Rooms.{Stand}
-use Rattle.ledger_steps.specs.declared.Accepted.{Accepted}
 use Rattle.ledger_steps.specs.Accept.{isPending, probeAt, contextOf, readied, repliedRows, uniqueIn}
 use Rattle.reply_history.specs.Fits.{KeyFits, AllFit}
-use Rattle.reply_history.specs.Follows.{asAccepted, keysTable, probeRooms, probeIn, repliesIn, RepliesFollow}
+use Rattle.reply_history.specs.Follows.{asAccepted, probeRooms, probeIn, repliesIn, RepliesFollow}
 use Rattle.reply_history.proofs.Lists.{take-cons-take}
 use Rattle.reply_history.proofs.Saturation.{one-more, kept-in}
 use Rattle.reply_history.proofs.Probes.{replied-row, rows-replied}

@@ -1,6 +1,6 @@
 -- What the types of a call's numbers say: each fits its bits. Assumes nothing.
 use mathlib.Core.List.{List, [], _∷_}
-use Prim.Native.Nat.{ℕ, _^_, _<_}
+use Prim.Native.Nat.{_^_, _<_}
 use Rattle.calls.specs.declared.ReplyKey.{ReplyKey}
 use Rattle.calls.specs.declared.CounterPoint.{CounterPoint}
 use Rattle.calls.specs.declared.Counters.{Counters}

@@ -1,10 +1,10 @@
 -- What the ledger shows of replies, from the plain list of served calls, newest first: the accepted keys, the held probes, the awaiting key
 -- and every count. N is how many keys and probes are held. Assumes nothing.
 use mathlib.Core.Path.{_≡_}
-use mathlib.Core.Bool.{Bool, false, _&&_}
+use mathlib.Core.Bool.{Bool, false}
 use mathlib.Core.List.{List, map}
 use mathlib.Core.Option.{Option, none, some}
-use Prim.Native.Nat.{ℕ, _*_, _^_, _<_, min}
+use Prim.Native.Nat.{ℕ, min}
 use Rattle.calls.specs.declared.ReplyKey.{ReplyKey}
 use Rattle.calls.specs.declared.Ordinal.{Ordinal}
 use Rattle.calls.specs.declared.Ordinal.the-variants as ordinal
@@ -14,7 +14,7 @@ use Rattle.probe_ring.specs.Row.{mostReplies}
 use Rattle.probe_ring.specs.Rooms as probe_ring
 use Rattle.probe_ring.proofs.Laws as probe_laws
 use Rattle.key_ring.specs.Table as key_ring
-use Rattle.key_ring.specs.Table.{Table, tableOf, keysOf, newestIs}
+use Rattle.key_ring.specs.Table.{Table, tableOf, keysOf}
 use Rattle.replies.specs.declared.Reflector.{Reflector}
 use Rattle.replies.specs.declared.Reflector.the-variants as reflector
 use Rattle.replies.specs.declared.Replies.{Replies}
