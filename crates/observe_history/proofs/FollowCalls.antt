@@ -34,11 +34,22 @@ use Rattle.reply_history.specs.Follows.{probeRooms, RepliesFollow}
 use Rattle.reply_history.proofs.Classes.{by, accept-by-class}
 use Rattle.observe_history.specs.RoundTrips.{delaysFrom}
 use Rattle.observe_history.specs.FollowUps.{FiguresFollow, SlotsFollow, FollowsFollow}
-use Rattle.observe_history.proofs.Lanes.{readied-elsewhere}
+use Rattle.observe_history.proofs.Lanes.{Untouched, still-rows, still-whole, readied-elsewhere}
 use Rattle.observe_history.proofs.Delays.{fresh-delays}
 use Rattle.observe_history.proofs.Quality.{fresh-quality}
-use Rattle.observe_history.proofs.FollowObserve.{still-sound}
 use Rattle.observe_history.proofs.FollowAccept.{slots-accepted, fit-accepted, counted-accepted, unobserved-accepted}
+
+-- the rooms of the keys are sound over links whose lanes of the keys are untouched
+still-sound : (N : ℕ) (byKey : ReplyKey → ℕ) (byNumber : ℕ → ℕ) (keys slots links links′ : List (List ℕ)) (ring : Ring) → Untouched 0 links links′ → Untouched 2 links links′
+    → key_ring.Sound N byKey byNumber (tableOf keys slots links ring) → key_ring.Sound N byKey byNumber (tableOf keys slots links′ ring)
+still-sound N byKey byNumber keys slots links links′ ring a b s = record {
+  ring-fits = s .ring-fits;
+  keys-fit = s .keys-fit;
+  slots-fit = s .slots-fit;
+  links-fit = still-rows 0 N 8 links links′ a (s .links-fit);
+  by-key = still-whole 0 N _ (ring .head) (ring .len) links links′ a (s .by-key);
+  by-number = still-whole 2 N _ (ring .head) (ring .len) links links′ b (s .by-number);
+}
 
 -- ---- fresh
 

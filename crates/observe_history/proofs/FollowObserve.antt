@@ -25,22 +25,10 @@ use Rattle.history.specs.FollowUps.{Slot as HistorySlot, slotAt, following}
 use Rattle.ledger_state.specs.declared.Ledger.{Ledger}
 use Rattle.ledger_steps.specs.Observe.{directIn, holderOf, followBy, followIn, ownIn, observeIn}
 use Rattle.observe_history.specs.FollowUps.{FiguresFollow, SlotsFollow, QualityFits}
-use Rattle.observe_history.proofs.Lanes.{Untouched, still-rows, still-whole, direct-elsewhere}
+use Rattle.reply_history.proofs.Lanes.{keys-stay, OffsetLane, direct-lane}
 use Rattle.observe_history.proofs.SlotSteps.{Held, slot-at}
 use Rattle.observe_history.proofs.OwnSlots.{held-followed, slots-observed, fit-observed, counted-observed}
 use Rattle.observe_history.proofs.FollowFigures.{figures-without, figures-with}
-
--- the rooms of the keys are sound over links whose lanes of the keys are untouched
-pub still-sound : (N : ℕ) (byKey : ReplyKey → ℕ) (byNumber : ℕ → ℕ) (keys slots links links′ : List (List ℕ)) (ring : Ring) → Untouched 0 links links′ → Untouched 2 links links′
-    → Sound N byKey byNumber (tableOf keys slots links ring) → Sound N byKey byNumber (tableOf keys slots links′ ring)
-still-sound N byKey byNumber keys slots links links′ ring a b s = record {
-  ring-fits = s .ring-fits;
-  keys-fit = s .keys-fit;
-  slots-fit = s .slots-fit;
-  links-fit = still-rows 0 N 8 links links′ a (s .links-fit);
-  by-key = still-whole 0 N _ (ring .head) (ring .len) links links′ a (s .by-key);
-  by-number = still-whole 2 N _ (ring .head) (ring .len) links links′ b (s .by-number);
-}
 
 -- ---- the newest key
 
@@ -54,7 +42,7 @@ newest-both N keys ring k e = go (ltb 0 (ring .len)) refl e
 
 -- ---- the law
 
-module _ (N : ℕ) (few : N < 65535) (byKey : ReplyKey → ℕ) (byNumber : ℕ → ℕ) (copies : ℕ) (h : List Call) (l : Ledger) (keys slots : List (List ℕ)) (offsets : List ℕ) (links : List (List ℕ))
+module _ (N : ℕ) (few : N < 65535) (byKey : ReplyKey → ℕ) (byNumber : ℕ → ℕ) (number-below : (n : ℕ) → byNumber n < N) (copies : ℕ) (h : List Call) (l : Ledger) (keys slots : List (List ℕ)) (offsets : List ℕ) (links : List (List ℕ))
     (o : ReplyObservation) (same-copies : l .copies ≡ copies) (sound : Sound N byKey byNumber (tableOf keys slots links (l .tables .keys)))
     (awaits : l .tables .awaits ≡ true) (newest : newestIs N keys (l .tables .keys) (o .key) ≡ true) (ranged : inRange o ≡ true) (fits : QualityFits (o .quality))
     (figures : FiguresFollow N copies h (l .counts .follow)) (held : SlotsFollow N copies h (tableOf keys slots links (l .tables .keys)) (l .tables .awaits)) where
@@ -71,11 +59,13 @@ module _ (N : ℕ) (few : N < 65535) (byKey : ReplyKey → ℕ) (byNumber : ℕ 
   abbrev slot : ℕ → HistorySlot
   slot = slotAt N copies (events N h)
 
+  lane : OffsetLane N links after
+  lane = direct-lane N byNumber number-below (l .counts .direct) offsets links o (sound .links-fit)
+
   start : Held N byKey byNumber slot t
   unfolding rowsOf
   start = record {
-    sound = still-sound N byKey byNumber keys slots links after ring (direct-elsewhere 0 N byNumber (l .counts .direct) offsets links o (omega arith))
-        (direct-elsewhere 2 N byNumber (l .counts .direct) offsets links o (omega arith)) sound;
+    sound = keys-stay N byKey byNumber keys slots links after ring (lane .links-fit) (λ i j m. lane .elsewhere i j (omega arith)) sound;
     slots = held .slots;
     fit = held .fit;
     counted = held .counted;

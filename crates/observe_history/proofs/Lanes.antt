@@ -1,4 +1,4 @@
--- Which words of the links a call leaves alone: the probes change lane 4 only, the keys lanes 0 and 2, the offsets lane 6, whatever the rooms hold.
+-- Which words of the links a call leaves alone: the probes change lane 4 only, the keys lanes 0 and 2, whatever the rooms hold.
 -- Assumes nothing.
 use mathlib.Core.Path.{_≡_, refl, _∙_}
 use mathlib.Core.Bool.{Bool, true, false, cond}
@@ -11,15 +11,7 @@ use lib.ListN.{length, getD, set, length-set, length-map}
 use lib.Seq.{getD-set-other}
 use Rattle.calls.specs.declared.ReplyKey.{ReplyKey}
 use Rattle.calls.specs.declared.Pending.{Pending}
-use Rattle.calls.specs.declared.Ordinal.{Ordinal}
 use Rattle.calls.specs.declared.Ordinal.the-variants as ordinal
-use Rattle.calls.specs.declared.Counters.{Counters}
-use Rattle.calls.specs.declared.Counters.the-variants as counters
-use Rattle.calls.specs.declared.ReplyObservation.{ReplyObservation}
-use Rattle.direct.specs.declared.Direct.{Direct}
-use Rattle.direct.specs.declared.Offsets.{Offsets}
-use Rattle.direct.specs.declared.Offsets.the-variants.{Kept, Begun, Added, Cleared}
-use Rattle.direct.specs.Outcomes.{recorded, soughtIn, seenIn}
 use Rattle.chains.specs.Rings.{wrap, pushSlot}
 use Rattle.chains.specs.Links.{wordOf, setWord, newest, older, linked, Rows}
 use Rattle.chains.specs.Walk.{placeOf}
@@ -29,10 +21,7 @@ use Rattle.probe_ring.specs.Row.{unanswered, packetAfter}
 use Rattle.probe_ring.specs.Rooms as probes
 use Rattle.probe_ring.specs.Rooms.{Rooms, moved, moveLink, mendedLink, mendRow, mendNewest, closedUp, takenOut, pushed, rememberedAt, remembered}
 use Rattle.key_ring.specs.Table.{Table, pushedKey, acceptedKey}
-use Rattle.offset_set.specs.Offsets as offsets
-use Rattle.offset_set.specs.Offsets.{OffsetSet, added}
 use Rattle.ledger_steps.specs.Accept.{readied, noPacket}
-use Rattle.ledger_steps.specs.Observe.{offsetsAfter, directBy, directIn}
 
 -- the sizes and the two words of a lane are as they were
 pub record Untouched (lane : ℕ) (links links′ : List (List ℕ)) : Type 0 where
@@ -177,29 +166,3 @@ module _ (lane : ℕ) where
       then (t .links) (linked 0 (t .links) (byKey k) (pushSlot N (t .ring))) _
       (link-elsewhere 0 (t .links) (byKey k) (pushSlot N (t .ring)) (λ e. omega (arith, e)) (λ e. omega (arith, e)) (λ e. omega (arith, e)))
       (link-elsewhere 2 (linked 0 (t .links) (byKey k) (pushSlot N (t .ring))) (byNumber (k .reflector)) (pushSlot N (t .ring)) (λ e. omega (arith, e)) (λ e. omega (arith, e)) (λ e. omega (arith, e)))
-
-  -- ---- the offsets
-
-  pub added-elsewhere : (N : ℕ) (hash : ℕ → ℕ) (s : OffsetSet) (n : ℕ) → lane < 5 → Untouched lane (s .links) (added N hash s n .links)
-  unfolding added
-  added-elsewhere N hash s n l = go (ltb (s .count) N)
-    where
-      go : (t : Bool) → Untouched lane (s .links) (cond t (offsets.offsetSet (set (s .offsets) (s .count) n) (linked 6 (s .links) (hash n) (s .count)) (s .count + 1)) s .links)
-      go true = link-elsewhere 6 (s .links) (hash n) (s .count) (λ e. omega (arith, e)) (λ e. omega (arith, e)) (λ e. omega (arith, e))
-      go false = same (s .links)
-
-  after-elsewhere : (N : ℕ) (hash : ℕ → ℕ) (o : Offsets) (s : OffsetSet) → lane < 5 → Untouched lane (s .links) (offsetsAfter N hash o s .links)
-  after-elsewhere N hash Kept s l = same (s .links)
-  after-elsewhere N hash Begun s l = added-elsewhere N hash (offsets.offsetSet (s .offsets) (s .links) 0) 0 l
-  after-elsewhere N hash (Added n) s l = added-elsewhere N hash s n l
-  after-elsewhere N hash Cleared s l = same (s .links)
-
-  -- the direct counters of an observation
-  by-elsewhere : (N : ℕ) (hash : ℕ → ℕ) (c : Counters) (d : Direct) (s : OffsetSet) (o : Ordinal) → lane < 5 → Untouched lane (s .links) (directBy N hash c d s o .links)
-  by-elsewhere N hash counters.Absent d s o l = same (s .links)
-  by-elsewhere N hash (counters.Point c) d s o l = after-elsewhere N hash (recorded N d c o (offsets.contains N hash s (soughtIn (d .window) c)) .offsets) s l
-
-  pub direct-elsewhere : (N : ℕ) (hash : ℕ → ℕ) (d : Direct) (room : List ℕ) (links : List (List ℕ)) (o : ReplyObservation) → lane < 5
-      → Untouched lane links (directIn N hash d room links o .links)
-  unfolding directIn
-  direct-elsewhere N hash d room links o l = by-elsewhere N hash (o .counters) d (offsets.offsetSet room links (seenIn (d .window))) (o .ordinal) l

@@ -19,3 +19,5 @@ pub mod FollowObserve
 pub mod FollowAccept
 pub mod FollowCalls
 pub mod Steps
+pub mod Lookups
+pub mod Served

@@ -43,7 +43,7 @@ both true true e = (refl, refl)
 both true false e = absurd (true-not-false e refl)
 both false b e = absurd (true-not-false e refl)
 
-module _ (N : ℕ) (few : N < 65535) (byKey : ReplyKey → ℕ) (byNumber : ℕ → ℕ) (copies : ℕ) (h : List Call) (s : Stand) (o : ReplyObservation)
+module _ (N : ℕ) (few : N < 65535) (byKey : ReplyKey → ℕ) (byNumber : ℕ → ℕ) (number-below : (n : ℕ) → byNumber n < N) (copies : ℕ) (h : List Call) (s : Stand) (o : ReplyObservation)
     (r : RepliesFollow N byKey byNumber copies h s) (v : ObserveServed N s o) (f : FollowsFollow N copies h s) where
   abbrev tests : (s .ledger .tables .awaits ≡ true) × (newestIs N (s .rooms .keys) (s .ledger .tables .keys) (o .key) ≡ true)
   tests = both (s .ledger .tables .awaits) (newestIs N (s .rooms .keys) (s .ledger .tables .keys) (o .key)) (v .awaiting)
@@ -51,9 +51,9 @@ module _ (N : ℕ) (few : N < 65535) (byKey : ReplyKey → ℕ) (byNumber : ℕ 
   pub follows-observed : FollowsFollow N copies (Observe o ∷ h) (withObserve s (observeOf N byKey byNumber s o))
   unfolding observeIn
   follows-observed = record {
-    figures = figures-follow N few byKey byNumber copies h (s .ledger) (s .rooms .keys) (s .rooms .slots) (s .rooms .offsets) (s .rooms .links) o (r .copies-are) (r .keys-sound)
+    figures = figures-follow N few byKey byNumber number-below copies h (s .ledger) (s .rooms .keys) (s .rooms .slots) (s .rooms .offsets) (s .rooms .links) o (r .copies-are) (r .keys-sound)
         (tests .0) (tests .1) (v .ranged) (v .quality-fits) (f .figures) (f .slots);
-    slots = slots-follow N few byKey byNumber copies h (s .ledger) (s .rooms .keys) (s .rooms .slots) (s .rooms .offsets) (s .rooms .links) o (r .copies-are) (r .keys-sound)
+    slots = slots-follow N few byKey byNumber number-below copies h (s .ledger) (s .rooms .keys) (s .rooms .slots) (s .rooms .offsets) (s .rooms .links) o (r .copies-are) (r .keys-sound)
         (tests .0) (tests .1) (v .ranged) (v .quality-fits) (f .figures) (f .slots);
   }
 
@@ -84,7 +84,7 @@ module _ (N : ℕ) (some-room : 0 < N) (few : N < 65535) (byKey : ReplyKey → �
     observes-stepped (Observe o) fits v = record {
       direct = direct-kept N byNumber byKey h (s .ledger) (s .rooms .keys) (s .rooms .slots) (s .rooms .probes) (s .rooms .offsets) (s .rooms .links) (f .direct) o;
       round-trips = trips-observed N byKey byNumber h (s .ledger) (s .rooms .keys) (s .rooms .slots) (s .rooms .probes) (s .rooms .offsets) (s .rooms .links) (f .round-trips) o;
-      follow-ups = follows-observed N few byKey byNumber copies h s o r v (f .follow-ups);
+      follow-ups = follows-observed N few byKey byNumber number-below copies h s o r v (f .follow-ups);
     }
     observes-stepped (Advance t) fits v = record {
       direct = direct-advanced N byNumber byKey h (s .ledger) (s .rooms .keys) (s .rooms .slots) (s .rooms .probes) (s .rooms .offsets) (s .rooms .links) (f .direct) t;
