@@ -1,0 +1,90 @@
+-- What each answer to a log means. Assumes nothing.
+use mathlib.Core.Path.{_≡_, refl, sym, ap, ap₂, _∙_, subst}
+use mathlib.Core.Bool.{Bool, true, false, cond}
+use mathlib.Core.List.{List}
+use Prim.Native.Nat.{ℕ, _+_, _*_, _≤_, _<_}
+use native.Mathlib.Omega.{arith}
+use lib.Dec.{eqb, ltb}
+use lib.ListN.{length, take, drop, length-take, length-drop}
+use borrow.Author.Tests.{ltb-true, ltb-false, eqb-true, eqb-false, eq-eqb}
+use Rattle.calls.specs.declared.Call.{Call}
+use Rattle.log_record.specs.declared.Record.the-variants as record'
+use Rattle.log_record.specs.Records.{recordOf, callOf, good, answer, readOf}
+use Rattle.log_record.proofs.Good.{good-is-written}
+use Rattle.link_log.specs.declared.Settings.{Settings}
+use Rattle.link_log.specs.declared.Log.{Log}
+use Rattle.link_log.specs.declared.Log.the-variants as log
+use Rattle.link_log.specs.declared.Played.the-variants as played
+use Rattle.link_log.specs.Logs.{mostBytes, countOf, settingsOf, trailerGood, recordAt, firstBad, byRecords, logOf, playedBy, callAt, numberOf}
+use Rattle.link_log.proofs.Laws.{count-is, one-within, call-there}
+use Rattle.link_log.proofs.First.{First, first-is}
+
+-- what holds where an answer is given: 9 above 65,536 bytes; 7 for a bad trailer; 8 for the first bad record; else every record is good
+abbrev pub Means : List ℕ → Log → Type 0
+Means bs log.TooLong = 65536 < length bs
+Means bs log.BadTrailer = (length bs ≤ 65536) × (trailerGood bs ≡ false)
+Means bs (log.BadRecord n) =
+    (length bs ≤ 65536) × (trailerGood bs ≡ true) × (n < countOf bs) × (good (recordAt bs (settingsOf bs .start) n) ≡ false)
+    × ((j : ℕ) → j < n → good (recordAt bs (settingsOf bs .start) j) ≡ true)
+Means bs (log.Good s) =
+    (length bs ≤ 65536) × (trailerGood bs ≡ true) × (s ≡ settingsOf bs) × ((j : ℕ) → j < s .count → good (recordAt bs (s .start) j) ≡ true)
+
+module _ (bs : List ℕ) (small : length bs ≤ 65536) (kept : trailerGood bs ≡ true) where
+  abbrev found : ℕ
+  found = firstBad bs (settingsOf bs .start) 0 (countOf bs)
+
+  facts : First bs (settingsOf bs .start) 0 (countOf bs) found
+  facts = first-is bs (settingsOf bs .start) 0 (countOf bs)
+
+  by-found : (b : Bool) → eqb found (settingsOf bs .count) ≡ b → Means bs (cond b (log.Good (settingsOf bs)) (log.BadRecord found))
+  by-found true e = (
+    small,
+    kept,
+    refl,
+    λ j l. facts .before j (omega arith) (subst (λ (n : ℕ). j < n) (sym (eqb-true found (settingsOf bs .count) e)) l),
+  )
+  by-found false e = (small, kept, below, facts .itself (wide found (countOf bs) below), λ j l. facts .before j (omega arith) l)
+    where
+      wide : (f n : ℕ) → f < n → f < 0 + n
+      wide f n h = omega arith
+
+      below : found < countOf bs
+      below = strict found (countOf bs) (facts .high) (λ q. eqb-false found (settingsOf bs .count) e (q ∙ sym (count-is bs)))
+        where
+          strict : (f n : ℕ) → f ≤ 0 + n → (f ≡ n → ⊥) → f < n
+          strict f n h q = omega arith
+
+-- Each answer is right.
+pub answer-means : (bs : List ℕ) → Means bs (logOf bs)
+unfolding logOf
+answer-means bs = by-long (ltb mostBytes (length bs)) refl
+  where
+    by-trailer : length bs ≤ 65536 → (b : Bool) → trailerGood bs ≡ b
+        → Means bs (cond b (byRecords (firstBad bs (settingsOf bs .start) 0 (countOf bs)) (settingsOf bs)) log.BadTrailer)
+    by-trailer h true e = by-found bs h e (eqb (firstBad bs (settingsOf bs .start) 0 (countOf bs)) (settingsOf bs .count)) refl
+    by-trailer h false e = (h, e)
+
+    by-long : (b : Bool) → ltb mostBytes (length bs) ≡ b
+        → Means bs (cond b log.TooLong (cond (trailerGood bs) (byRecords (firstBad bs (settingsOf bs .start) 0 (countOf bs)) (settingsOf bs)) log.BadTrailer))
+    by-long true e = ltb-true 65536 (length bs) e
+    by-long false e = by-trailer (ltb-false 65536 (length bs) e) (trailerGood bs) refl
+
+good-read : (r : List ℕ) → length r ≡ 96 → good r ≡ true → readOf r ≡ record'.Good (callOf r)
+unfolding readOf
+good-read r l g = ap (λ (n : ℕ). answer n (callOf r)) (λ i. cond (eq-eqb (length r) 96 l i) (cond (g i) 0 8) 5)
+
+-- Every record of an accepted log says a call, and is the record of that call.
+pub accepted-decodes : (bs : List ℕ) (s : Settings) (i : ℕ) → logOf bs ≡ log.Good s → i < s .count
+    → (c : Call) × (callAt bs i ≡ played.Call c) × (recordAt bs (s .start) i ≡ recordOf c)
+accepted-decodes bs s i e l =
+    let m : Means bs (log.Good s) = subst (Means bs) e (answer-means bs) in
+    let r : List ℕ = recordAt bs (s .start) i in
+    let g : good (recordAt bs (s .start) i) ≡ true = m .3 i l in
+    let room : s .start + 96 * i + 96 ≤ length bs = one-within bs s i (m .1) (m .2) l in (
+      callOf (recordAt bs (s .start) i),
+      sym (call-there bs i s (m .0) (m .1) (m .2) l) ∙ ap playedBy (good-read (recordAt bs (s .start) i) (part bs (s .start + 96 * i) room) g),
+      good-is-written (recordAt bs (s .start) i) g,
+    )
+  where
+    part : (l : List ℕ) (n : ℕ) → n + 96 ≤ length l → length (take 96 (drop n l)) ≡ 96
+    part l n h = simp (length-take, length-drop) (omega arith)

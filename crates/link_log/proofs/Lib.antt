@@ -1,0 +1,5 @@
+pub mod Laws
+pub mod First
+pub mod Back
+pub mod Accepted
+pub mod Determined

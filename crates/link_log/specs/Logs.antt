@@ -1,0 +1,141 @@
+-- A log (document 01, 'Log and program'): "96-byte records, ..; then a 24-byte trailer: distance from the end to the first record (u32), record
+-- count (u32), copies (u16), threshold (u16; 0 means no monitor), timeout (u64), bytes `STLG`. Anything may stand before the first record."
+-- Assumes nothing.
+use mathlib.Core.Bool.{Bool, true, false, _&&_, cond}
+use mathlib.Core.List.{List, [], _∷_}
+use Prim.Native.Nat.{ℕ, zero, suc, _+_, _-_, _*_}
+use lib.Dec.{eqb, leb, ltb}
+use lib.ListN.{length, take, drop}
+use Rattle.scope.specs.Refusals.{wrongRoom}
+use Rattle.big_endian.specs.Numbers.{numberAt}
+use Rattle.big_endian.specs.Fields.{Field, bytes2, bytes4, bytes8, written}
+use Rattle.log_record.specs.declared.Record.{Record}
+use Rattle.log_record.specs.declared.Record.the-variants as record'
+use Rattle.log_record.specs.Records.{badRecord, good, readOf}
+use Rattle.link_log.specs.declared.Settings.{Settings}
+use Rattle.link_log.specs.declared.Log.{Log}
+use Rattle.link_log.specs.declared.Log.the-variants as log
+use Rattle.link_log.specs.declared.Played.{Played}
+use Rattle.link_log.specs.declared.Played.the-variants as played
+
+-- ---- the trailer
+
+-- "9 above 65,536 bytes"
+abbrev pub mostBytes : ℕ
+mostBytes = 65536
+
+-- `STLG`, as one number
+abbrev pub mark : ℕ
+mark = 0x53544c47
+
+-- the last 24 bytes start here
+abbrev pub trailerAt : List ℕ → ℕ
+trailerAt bs = length bs - 24
+
+abbrev pub distanceOf : List ℕ → ℕ
+distanceOf bs = numberAt 2 bs (trailerAt bs)
+
+abbrev pub countOf : List ℕ → ℕ
+countOf bs = numberAt 2 bs (trailerAt bs + 4)
+
+abbrev pub markOf : List ℕ → ℕ
+markOf bs = numberAt 2 bs (trailerAt bs + 20)
+
+-- what a log says besides its records: they start at `start`
+unfoldable pub settingsOf : List ℕ → Settings
+settingsOf bs = record {
+  copies = numberAt 1 bs (trailerAt bs + 8);
+  threshold = numberAt 1 bs (trailerAt bs + 10);
+  timeout = numberAt 3 bs (trailerAt bs + 12);
+  count = countOf bs;
+  start = length bs - distanceOf bs;
+}
+
+-- "It is bad (7) when under 24 bytes, without `STLG`, or its distance isn't 24+96·count or passes the start."
+abbrev pub trailerFits : List ℕ → Bool
+trailerFits bs = eqb (markOf bs) mark && eqb (distanceOf bs) (24 + 96 * countOf bs) && leb (distanceOf bs) (length bs)
+
+unfoldable pub trailerGood : List ℕ → Bool
+trailerGood bs = cond (ltb (length bs) 24) false (trailerFits bs)
+
+-- ---- the records
+
+-- record i, of those that start at `start`
+abbrev pub recordAt : List ℕ → ℕ → ℕ → List ℕ
+recordAt bs start i = take 96 (drop (start + 96 * i) bs)
+
+-- the first bad one of n records from i on; i + n where there is none
+abbrev pub firstBad : List ℕ → ℕ → ℕ → ℕ → ℕ
+firstBad bs start i zero = i
+firstBad bs start i (suc n) = cond (good (recordAt bs start i)) (firstBad bs start (i + 1) n) i
+
+-- ---- the answer
+
+-- "8 bad record (first, from 0)"
+abbrev pub byRecords : ℕ → Settings → Log
+byRecords first s = cond (eqb first (s .count)) (log.Good s) (log.BadRecord first)
+
+-- "Log answers: 9 above 65,536 bytes, 7 bad trailer, 8 bad record (first, from 0); tested in that order"
+unfoldable pub logOf : List ℕ → Log
+logOf bs =
+    cond (ltb mostBytes (length bs)) log.TooLong
+    (cond (trailerGood bs) (byRecords (firstBad bs (settingsOf bs .start) 0 (countOf bs)) (settingsOf bs))
+    log.BadTrailer)
+
+-- document 01's number of each answer, 0 for a good log; the N of `refused 8 at N` stands in the answer
+abbrev pub numberOf : Log → ℕ
+numberOf (log.Good s) = 0
+numberOf log.TooLong = 9
+numberOf log.BadTrailer = 7
+numberOf (log.BadRecord n) = badRecord
+
+-- ---- reading record i as a call
+
+abbrev pub playedBy : Record → Played
+playedBy (record'.Good c) = played.Call c
+playedBy (record'.Refused n) = played.Nothing
+
+-- no call where the log is too long or its trailer bad, where it has no record i, and where that record is bad
+unfoldable pub callAt : List ℕ → ℕ → Played
+callAt bs i =
+    cond (ltb mostBytes (length bs)) played.Nothing
+    (cond (trailerGood bs)
+    (cond (ltb i (countOf bs)) (playedBy (readOf (recordAt bs (settingsOf bs .start) i))) played.Nothing)
+    played.Nothing)
+
+-- ---- writing a trailer
+
+abbrev pub trailerTable : ℕ → ℕ → ℕ → ℕ → List Field
+trailerTable count copies threshold timeout =
+    bytes4 0 (24 + 96 * count)
+    ∷ bytes4 4 count
+    ∷ bytes2 8 copies
+    ∷ bytes2 10 threshold
+    ∷ bytes8 12 timeout
+    ∷ bytes4 20 mark
+    ∷ []
+
+-- 24 bytes with a trailer written over them: its six fields take all of them
+unfoldable pub trailerOver : List ℕ → ℕ → ℕ → ℕ → ℕ → List ℕ
+trailerOver bs count copies threshold timeout = written (trailerTable count copies threshold timeout) bs
+
+-- what a call of the writer leaves: its number, and the lent bytes
+pub record Wrote : Type 0 where
+  pub number : ℕ
+  pub bytes : List ℕ
+
+abbrev pub wrote : ℕ → List ℕ → Wrote
+wrote n bs = record { number = n; bytes = bs }
+
+-- 5 for another number of bytes than 24; 9 for more records than 65,536 bytes hold
+abbrev pub trailerNumber : List ℕ → ℕ → ℕ
+trailerNumber bs count = cond (eqb (length bs) 24) (cond (ltb 682 count) 9 0) wrongRoom
+
+-- at 0 the trailer; a refusal changes nothing
+abbrev pub trailerAfter : ℕ → List ℕ → List ℕ → List ℕ
+trailerAfter zero t bs = t
+trailerAfter (suc n) t bs = bs
+
+unfoldable pub trailerTo : List ℕ → ℕ → ℕ → ℕ → ℕ → Wrote
+trailerTo bs count copies threshold timeout =
+    wrote (trailerNumber bs count) (trailerAfter (trailerNumber bs count) (trailerOver bs count copies threshold timeout) bs)

@@ -1,0 +1,20 @@
+-- `log_record::reading::reference` meets its contract. Assumes nothing.
+use mathlib.Core.Path.{ap, _∙_}
+use mir.Syntax.{w64}
+use mir.Val.{toZ}
+use mir.ValLaws.{toZ-ofZ}
+use borrow.Author.Needs.{needs}
+use Rattle.log_record.proofs.reading.reference.Statement.{statement}
+use Rattle.log_record.proofs.reading.reference.Tie as tie
+
+u64-at-requires : tie.Need-u64-at-requires
+u64-at-requires c κs = search needs
+
+signed64-requires : tie.Need-signed64-requires
+signed64-requires c κs = search needs
+
+returns : tie.Need-returns
+returns c = toZ-ofZ w64 (c .signed64 .result) (record { sfits = c .signed64 .ok }) ∙ c .signed64 .ensures ∙ ap (toZ w64) (c .before .u64-at .ensures)
+
+pub reference-spec : {M : Type 1} → statement M
+reference-spec = tie.close (tie.spec u64-at-requires signed64-requires returns)

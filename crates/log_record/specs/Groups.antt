@@ -1,0 +1,28 @@
+-- The fields of a record in the groups in which the code writes them. Assumes nothing.
+use mathlib.Core.List.{List, [], _∷_}
+use mir.Syntax.{w32, w64}
+use mir.Val.{ofZ}
+use Rattle.big_endian.specs.Fields.{Field, bytes2, bytes4, bytes8}
+use Rattle.estimate.specs.declared.Estimates.{Estimates}
+use Rattle.calls.specs.declared.Counters.{Counters}
+use Rattle.calls.specs.declared.FollowUp.{FollowUp}
+use Rattle.calls.specs.declared.Ordinal.{Ordinal}
+use Rattle.calls.specs.declared.Pending.{Pending}
+use Rattle.calls.specs.declared.ReplyObservation.{ReplyObservation}
+use Rattle.record_parts.specs.Parts.{pendingTime, pendingTag, timeWord, ordinalNumber, senderCount, receivedCount, transmittedCount}
+use Rattle.record_parts.specs.Parts.{followSequence, followTimestamp, followTime, senderWire, reflectorWire}
+
+abbrev pub pendingGroup : Pending → List Field
+pendingGroup p = bytes8 20 (pendingTime p) ∷ bytes8 28 (pendingTag p) ∷ []
+
+abbrev pub timesGroup : ReplyObservation → List Field
+timesGroup o = bytes8 20 (o .rtt) ∷ bytes8 28 (timeWord (o .t4)) ∷ bytes8 36 (ofZ w64 (o .reference)) ∷ bytes4 44 (ofZ w32 (o .offset)) ∷ []
+
+abbrev pub countsGroup : Ordinal → Counters → List Field
+countsGroup n k = bytes4 48 (ordinalNumber n) ∷ bytes4 52 (senderCount k) ∷ bytes4 56 (receivedCount k) ∷ bytes4 60 (transmittedCount k) ∷ []
+
+abbrev pub followGroup : FollowUp → List Field
+followGroup f = bytes4 64 (followSequence f) ∷ bytes8 68 (followTimestamp f) ∷ bytes8 76 (timeWord (followTime f)) ∷ []
+
+abbrev pub qualityGroup : Estimates → List Field
+qualityGroup q = bytes2 84 (senderWire q) ∷ bytes2 86 (reflectorWire q) ∷ []

@@ -1,0 +1,110 @@
+-- What the declared types of a call hold, and that an estimate's scale has six bits: such a call loses nothing in a record. Assumes nothing.
+use Prim.Native.Nat.{ℕ, _^_, _≤_, _<_}
+use mir.Syntax.{w32, w64}
+use mir.Val.{SFits}
+use Rattle.estimate.specs.declared.ErrorEstimate.{ErrorEstimate}
+use Rattle.estimate.specs.declared.Estimates.{Estimates}
+use Rattle.estimate.specs.declared.Estimates.the-variants as estimates
+use Rattle.calls.specs.declared.Time.{Time}
+use Rattle.calls.specs.declared.Time.the-variants as time
+use Rattle.calls.specs.declared.PendingPacket.{PendingPacket}
+use Rattle.calls.specs.declared.Pending.{Pending}
+use Rattle.calls.specs.declared.Pending.the-variants as pending
+use Rattle.calls.specs.declared.Ordinal.{Ordinal}
+use Rattle.calls.specs.declared.Ordinal.the-variants as ordinal
+use Rattle.calls.specs.declared.CounterPoint.{CounterPoint}
+use Rattle.calls.specs.declared.Counters.{Counters}
+use Rattle.calls.specs.declared.Counters.the-variants as counters
+use Rattle.calls.specs.declared.FollowUpTelemetry.{FollowUpTelemetry}
+use Rattle.calls.specs.declared.FollowUp.{FollowUp}
+use Rattle.calls.specs.declared.FollowUp.the-variants as follow
+use Rattle.calls.specs.declared.ReplyKey.{ReplyKey}
+use Rattle.calls.specs.declared.Reply.{Reply}
+use Rattle.calls.specs.declared.SentProbe.{SentProbe}
+use Rattle.calls.specs.declared.ReplyObservation.{ReplyObservation}
+use Rattle.calls.specs.declared.Call.{Call}
+use Rattle.calls.specs.declared.Call.the-variants as call
+
+-- numbers of 2, 4 and 8 bytes
+abbrev pub U16 : ℕ → Type 0
+U16 n = n < 2 ^ 16
+
+abbrev pub U32 : ℕ → Type 0
+U32 n = n < 2 ^ 32
+
+abbrev pub U64 : ℕ → Type 0
+U64 n = n < 2 ^ 64
+
+pub record PacketFits (p : PendingPacket) : Type 0 where
+  pub time : U64 (p .time)
+  pub tag : U64 (p .tag)
+
+abbrev pub PendingFits : Pending → Type 0
+PendingFits pending.Absent = Unit
+PendingFits (pending.Held p) = PacketFits p
+
+pub record KeyFits (k : ReplyKey) : Type 0 where
+  pub sender : U32 (k .sender)
+  pub reflector : U32 (k .reflector)
+  pub t3 : U64 (k .t3)
+
+abbrev pub TimeFits : Time → Type 0
+TimeFits time.Absent = Unit
+TimeFits (time.Nanoseconds z) = SFits w64 z
+
+abbrev pub OrdinalFits : Ordinal → Type 0
+OrdinalFits ordinal.Absent = Unit
+OrdinalFits (ordinal.Number n) = U32 n
+
+pub record PointFits (p : CounterPoint) : Type 0 where
+  pub sender : U32 (p .sender .0)
+  pub received : U32 (p .received .0)
+  pub transmitted : U32 (p .transmitted .0)
+
+abbrev pub CountersFit : Counters → Type 0
+CountersFit counters.Absent = Unit
+CountersFit (counters.Point p) = PointFits p
+
+pub record TelemetryFits (f : FollowUpTelemetry) : Type 0 where
+  pub sequence : U32 (f .sequence)
+  pub timestamp : U64 (f .timestamp)
+  pub t3 : TimeFits (f .t3)
+
+abbrev pub FollowFits : FollowUp → Type 0
+FollowFits follow.Absent = Unit
+FollowFits (follow.Telemetry f) = TelemetryFits f
+
+pub record EstimateFits (e : ErrorEstimate) : Type 0 where
+  pub scale : e .scale ≤ 63
+  pub multiplier : e .multiplier < 256
+
+abbrev pub EstimatesFit : Estimates → Type 0
+EstimatesFit estimates.Absent = Unit
+EstimatesFit (estimates.Pair s r) = EstimateFits s × EstimateFits r
+
+pub record SentFits (p : SentProbe) : Type 0 where
+  pub sequence : U32 (p .sequence)
+  pub ordinal : U32 (p .ordinal)
+  pub packet : PacketFits (p .packet)
+
+pub record ReplyFits (r : Reply) : Type 0 where
+  pub key : KeyFits (r .key)
+  pub pending : PendingFits (r .pending)
+
+pub record ObservationFits (o : ReplyObservation) : Type 0 where
+  pub key : KeyFits (o .key)
+  pub rtt : U64 (o .rtt)
+  pub t4 : TimeFits (o .t4)
+  pub reference : SFits w64 (o .reference)
+  pub offset : SFits w32 (o .offset)
+  pub ordinal : OrdinalFits (o .ordinal)
+  pub counters : CountersFit (o .counters)
+  pub follow : FollowFits (o .follow)
+  pub quality : EstimatesFit (o .quality)
+
+abbrev pub CallFits : Call → Type 0
+CallFits (call.Sent p) = SentFits p
+CallFits (call.Accept r) = ReplyFits r
+CallFits (call.Observe o) = ObservationFits o
+CallFits (call.Advance n) = U64 n
+CallFits call.Idle = Unit

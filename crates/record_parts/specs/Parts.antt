@@ -1,0 +1,142 @@
+-- The parts of a call as numbers of a log record, and back (document 01, 'Log and program'): "absent fields and flags 0", "signed as two's
+-- complement" (`ofZ` and `toZ` are the logic's own). Assumes nothing.
+use mathlib.Core.Bool.{Bool, true, false}
+use Prim.Native.Nat.{ℕ, _+_, _*_, _/_, _%_}
+use lib.Dec.{eqb}
+use lib.IntN.{ℤ}
+use mir.Syntax.{w32, w64}
+use mir.Val.{ofZ, toZ}
+use Rattle.estimate.specs.declared.ClockFormat.{ClockFormat}
+use Rattle.estimate.specs.declared.Estimates.{Estimates}
+use Rattle.estimate.specs.declared.Estimates.the-variants as estimates
+use Rattle.estimate.specs.Make.{isPtp}
+use Rattle.estimate.specs.Wire.{bit, estimateOf, wireOf}
+use Rattle.calls.specs.declared.Time.{Time}
+use Rattle.calls.specs.declared.Time.the-variants as time
+use Rattle.calls.specs.declared.Pending.{Pending}
+use Rattle.calls.specs.declared.Pending.the-variants as pending
+use Rattle.calls.specs.declared.Ordinal.{Ordinal}
+use Rattle.calls.specs.declared.Ordinal.the-variants as ordinal
+use Rattle.calls.specs.declared.Counters.{Counters}
+use Rattle.calls.specs.declared.Counters.the-variants as counters
+use Rattle.calls.specs.declared.FollowUp.{FollowUp}
+use Rattle.calls.specs.declared.FollowUp.the-variants as follow
+use Rattle.calls.specs.declared.ReplyObservation.{ReplyObservation}
+
+-- the flag of a record's flags that document 01 calls 1, 2, 4, .. or 128
+abbrev pub flag : ℕ → ℕ → Bool
+flag k flags = eqb (flags / k % 2) 1
+
+-- ---- each part as a flag, 1 where it is there, and its numbers
+
+abbrev pub pendingFlag : Pending → ℕ
+pendingFlag pending.Absent = 0
+pendingFlag (pending.Held p) = 1
+
+abbrev pub pendingTime : Pending → ℕ
+pendingTime pending.Absent = 0
+pendingTime (pending.Held p) = p .time
+
+abbrev pub pendingTag : Pending → ℕ
+pendingTag pending.Absent = 0
+pendingTag (pending.Held p) = p .tag
+
+abbrev pub timeFlag : Time → ℕ
+timeFlag time.Absent = 0
+timeFlag (time.Nanoseconds z) = 1
+
+abbrev pub timeWord : Time → ℕ
+timeWord time.Absent = 0
+timeWord (time.Nanoseconds z) = ofZ w64 z
+
+abbrev pub ordinalFlag : Ordinal → ℕ
+ordinalFlag ordinal.Absent = 0
+ordinalFlag (ordinal.Number n) = 1
+
+abbrev pub ordinalNumber : Ordinal → ℕ
+ordinalNumber ordinal.Absent = 0
+ordinalNumber (ordinal.Number n) = n
+
+abbrev pub countersFlag : Counters → ℕ
+countersFlag counters.Absent = 0
+countersFlag (counters.Point p) = 1
+
+abbrev pub senderCount : Counters → ℕ
+senderCount counters.Absent = 0
+senderCount (counters.Point p) = p .sender .0
+
+abbrev pub receivedCount : Counters → ℕ
+receivedCount counters.Absent = 0
+receivedCount (counters.Point p) = p .received .0
+
+abbrev pub transmittedCount : Counters → ℕ
+transmittedCount counters.Absent = 0
+transmittedCount (counters.Point p) = p .transmitted .0
+
+abbrev pub followFlag : FollowUp → ℕ
+followFlag follow.Absent = 0
+followFlag (follow.Telemetry f) = 1
+
+abbrev pub followSequence : FollowUp → ℕ
+followSequence follow.Absent = 0
+followSequence (follow.Telemetry f) = f .sequence
+
+abbrev pub followTimestamp : FollowUp → ℕ
+followTimestamp follow.Absent = 0
+followTimestamp (follow.Telemetry f) = f .timestamp
+
+-- the converted T3 of a follow-up, which is absent where the follow-up is
+abbrev pub followTime : FollowUp → Time
+followTime follow.Absent = time.Absent
+followTime (follow.Telemetry f) = f .t3
+
+abbrev pub unknownFlag : FollowUp → ℕ
+unknownFlag follow.Absent = 0
+unknownFlag (follow.Telemetry f) = bit (f .unknown)
+
+abbrev pub estimatesFlag : Estimates → ℕ
+estimatesFlag estimates.Absent = 0
+estimatesFlag (estimates.Pair s r) = 1
+
+abbrev pub senderWire : Estimates → ℕ
+senderWire estimates.Absent = 0
+senderWire (estimates.Pair s r) = wireOf s
+
+abbrev pub reflectorWire : Estimates → ℕ
+reflectorWire estimates.Absent = 0
+reflectorWire (estimates.Pair s r) = wireOf r
+
+abbrev pub formatFlag : ClockFormat → ℕ
+formatFlag f = bit (isPtp f)
+
+-- the flags of an observe: 1 T4, 2 ordinal, 4 counters, 8 follow-up, 16 converted T3, 32 estimates, 64 PTP, 128 unknown mode
+unfoldable pub observeFlags : ReplyObservation → ℕ
+observeFlags o =
+    timeFlag (o .t4) + 2 * ordinalFlag (o .ordinal) + 4 * countersFlag (o .counters) + 8 * followFlag (o .follow)
+    + 16 * timeFlag (followTime (o .follow)) + 32 * estimatesFlag (o .quality) + 64 * formatFlag (o .format) + 128 * unknownFlag (o .follow)
+
+-- ---- and back: what a flag and its numbers say
+
+abbrev pub pendingBy : Bool → ℕ → ℕ → Pending
+pendingBy true t g = pending.Held (record { time = t; tag = g })
+pendingBy false t g = pending.Absent
+
+abbrev pub timeBy : Bool → ℕ → Time
+timeBy true w = time.Nanoseconds (toZ w64 w)
+timeBy false w = time.Absent
+
+abbrev pub ordinalBy : Bool → ℕ → Ordinal
+ordinalBy true n = ordinal.Number n
+ordinalBy false n = ordinal.Absent
+
+abbrev pub countersBy : Bool → ℕ → ℕ → ℕ → Counters
+countersBy true s r t = counters.Point (record { sender = record { 0 = s }; received = record { 0 = r }; transmitted = record { 0 = t } })
+countersBy false s r t = counters.Absent
+
+abbrev pub followBy : Bool → ℕ → ℕ → Bool → Time → FollowUp
+followBy true s t u z = follow.Telemetry (record { sequence = s; timestamp = t; unknown = u; t3 = z })
+followBy false s t u z = follow.Absent
+
+abbrev pub estimatesBy : Bool → ℕ → ℕ → Estimates
+estimatesBy true s r = estimates.Pair (estimateOf s) (estimateOf r)
+estimatesBy false s r = estimates.Absent
