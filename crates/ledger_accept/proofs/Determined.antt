@@ -1,7 +1,7 @@
 -- The contracts of `accept_unless` and `accept` determine the answer and every lent word: two exits that meet them are equal.
 -- A refusal is exactly the table's number, and it changes nothing.
 -- Assumes nothing.
-use mathlib.Core.Path.{_≡_, refl, sym, ap, _∙_}
+use mathlib.Core.Path.{_≡_, sym, ap, _∙_}
 use mathlib.Core.List.{List}
 use Prim.Native.Nat.{ℕ, zero, suc}
 use native.Mathlib.Omega.{arith}

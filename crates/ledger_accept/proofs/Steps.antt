@@ -20,15 +20,13 @@ use Rattle.probe_ring.specs.Row.{unanswered, packetAfter, afterReply, wordsOf, 
 use Rattle.probe_ring.specs.Rooms.{Rooms, rooms, Outcome, outcome, slotOf, pushed}
 use Rattle.replies.specs.declared.Replies.{Replies}
 use Rattle.replies.specs.declared.ReplyClass.{ReplyClass}
-use Rattle.replies.specs.declared.ReplyClass.the-variants.{Duplicate, Unknown, Unique}
-use Rattle.replies.specs.Served.{classBy, afterDuplicate, afterUnknown, afterUnique}
+use Rattle.replies.specs.declared.ReplyClass.the-variants.{Unique}
+use Rattle.replies.specs.Served.{classBy, afterUnique}
 use Rattle.ledger_state.specs.declared.Ledger.{Ledger}
 use Rattle.ledger_state.specs.State.{hashWords}
 use Rattle.ledger_steps.specs.declared.Accepted.{Accepted}
-use Rattle.ledger_steps.specs.declared.Accepted.the-variants as accepted
-use Rattle.ledger_steps.specs.declared.AcceptAnswer.{AcceptAnswer}
 use Rattle.ledger_steps.specs.declared.AcceptAnswer.the-variants as accepts
-use Rattle.ledger_steps.specs.Accept.{AcceptOutcome, isPending, noPacket, ledgerCounted, ledgerUnique, probeAt, repliedRows, contextOf, readied, uniqueIn, acceptBy, acceptIn, acceptOn, keySlot, probeSlot}
+use Rattle.ledger_steps.specs.Accept.{isPending, noPacket, ledgerUnique, probeAt, repliedRows, contextOf, readied, uniqueIn, acceptBy, acceptIn, acceptOn, keySlot, probeSlot}
 use Rattle.ledger_steps.specs.Refusals.{refusalOfAccept}
 use Rattle.ledger_steps.specs.Calls.{AcceptResult, acceptResult, acceptBy as callBy, acceptTo}
 use Rattle.ledger_accept.specs.Served.{servedAs}
