@@ -1,15 +1,19 @@
 -- Worked examples of the figures, each computed. Lists are newest first.
 use mathlib.Core.Path.{_≡_, refl}
+use mathlib.Core.Bool.{true, false}
 use mathlib.Core.List.{[], _∷_}
 use mathlib.Core.Option.{none, some}
+use Prim.Native.Nat.{ℕ}
 use lib.IntN.{pos, negsuc}
+use Rattle.estimate.specs.declared.ErrorEstimate.{ErrorEstimate}
+use Rattle.estimate.specs.declared.Estimates.the-variants.{Absent as NoEstimates, Pair}
 use Rattle.clock_quality.specs.declared.LastEstimate.the-variants as last
 use Rattle.clock_quality.specs.declared.LargestError.the-variants as largest
 use Rattle.clock_quality.specs.Samples as samples
 use Rattle.history.specs.Counting.{has}
 use Rattle.history.specs.Ledger.{rememberings, without, distinct, accepted, hasKey, lastAccepted, held, replyClass, ready, afterReply, events}
 use Rattle.history.specs.FollowUps.{followClass, slotAt, measured, roundTrips}
-use Rattle.history.specs.Figures.{total, least, greatest, figuresOf, delays, estimates, roundTripFigures, delayFigures, clockQuality}
+use Rattle.history.specs.Figures.{total, least, greatest, figuresOf, qualityOf, delays, estimates, roundTripFigures, delayFigures, clockQuality}
 use Rattle.history.proofs.Examples.{listing, one, corrected}
 
 -- 1 ns after -3 ns after 4 ns
@@ -44,3 +48,15 @@ corrected-quality : clockQuality 4 1 corrected ≡ record {
 }
 unfolding samples.count samples.largestAmong estimates measured followClass slotAt events replyClass lastAccepted held ready afterReply accepted rememberings distinct without hasKey has
 corrected-quality = refl
+
+-- a synchronized clock with a multiplier of 1, and one with a multiplier of 0, whose error is not known
+abbrev clock : ℕ → ErrorEstimate
+clock m = record { synchronized = true; ptp = false; scale = 0; multiplier = m }
+
+-- newest first: none, one error of two not known, both known
+three-samples : (qualityOf (NoEstimates ∷ Pair (clock 1) (clock 0) ∷ Pair (clock 1) (clock 1) ∷ []) .both ≡ 1)
+    × (qualityOf (NoEstimates ∷ Pair (clock 1) (clock 0) ∷ Pair (clock 1) (clock 1) ∷ []) .invalid ≡ 1)
+    × (qualityOf (NoEstimates ∷ Pair (clock 1) (clock 0) ∷ Pair (clock 1) (clock 1) ∷ []) .unknown ≡ 1)
+    × (qualityOf (NoEstimates ∷ Pair (clock 1) (clock 0) ∷ Pair (clock 1) (clock 1) ∷ []) .sender ≡ last.Absent)
+unfolding samples.count
+three-samples = (refl, refl, refl, refl)

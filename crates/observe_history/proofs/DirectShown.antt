@@ -3,7 +3,7 @@
 use mathlib.Core.Path.{_≡_, refl, sym, ap, _∙_}
 use mathlib.Core.Bool.{Bool, true, false, cond}
 use mathlib.Core.List.{List, [], _∷_, map}
-use mathlib.Core.Option.{none, some}
+use mathlib.Core.Option.{Option, none, some}
 use Prim.Native.Nat.{ℕ, zero, suc, _+_, _-_, _≤_}
 use native.Mathlib.Omega.{arith}
 use lib.Dec.{eqb, leb, eqb·zero-suc}
@@ -14,12 +14,13 @@ use Rattle.calls.specs.declared.Call.{Call}
 use Rattle.chains.proofs.Tests.{lt-true, lt-false, eq-true, true-not-false}
 use Rattle.direct.specs.declared.Direct.{Direct}
 use Rattle.direct.specs.declared.summary.Packets.the-variants.{Number}
+use Rattle.direct.specs.declared.summary.DirectSummary.{DirectSummary}
 use Rattle.direct.specs.Outcomes as outcomes
 use Rattle.direct.specs.Shown as shown
 use Rattle.history.specs.Counting.{has}
 use Rattle.history.specs.Ledger.{events}
-use Rattle.history.specs.DirectLoss.{anchorOf, transmitOffset, seen, highest, senderMaximum, receivedMaximum, latest, missing, window, forwardMissing, spans, anchor, latestTransmit}
-use Rattle.history.proofs.Missing.{Distinct, Clean, above0, missing-present, present-distinct, largest-bounds, window-clean}
+use Rattle.history.specs.DirectLoss.{anchorOf, transmitOffset, seen, highest, senderMaximum, receivedMaximum, latest, missing, window, forwardMissing, Spans, spans, anchor, latestTransmit}
+use Rattle.history.proofs.Missing.{Distinct, Clean, above0, missing-present, present-distinct, largest-bounds, window-clean, shownReverse, highestLessSeen, reverse-missing-is}
 use Rattle.observe_history.specs.Direct.{epochOf, windowOf, packetsOf, pointOf, spansShown, since, summaryFrom, DirectFollows}
 use Rattle.observe_history.proofs.Windows.{offset-same, offset-self, latest-highest, or-true}
 
@@ -123,3 +124,16 @@ direct-shows N byNumber h d offsets links f = λ i. record {
   latest = (ap shown.latestOf (f .window) ∙ latest-is (since N h)) i;
   spans = (ap shown.spansOf (f .window) ∙ spans-are (since N h) (window-clean N (events N h))) i;
 }
+
+-- what the figures of a window show as reverse missing
+reverse-of : (x : Option Spans) → spansShown x .reverse ≡ packetsOf (shownReverse x)
+reverse-of none = refl
+reverse-of (some s) = refl
+
+-- REVERSE MISSING, where it is shown, is the highest transmit offset less the offsets above 0 that were seen since the anchor, of the served calls:
+-- and that is how many of the offsets from 1 to the highest were not (`reverse-missing-is` of crate history).
+pub reverse-shows : (N : ℕ) (byNumber : ℕ → ℕ) (h : List Call) (d : Direct) (offsets : List ℕ) (links : List (List ℕ)) → DirectFollows N byNumber h d offsets links
+    → shown.summaryOf d .spans .reverse ≡ packetsOf (highestLessSeen (since N h))
+reverse-shows N byNumber h d offsets links f =
+    ap (λ (x : DirectSummary). x .spans .reverse) (direct-shows N byNumber h d offsets links f)
+    ∙ reverse-of (spans (since N h)) ∙ ap packetsOf (reverse-missing-is N (events N h))

@@ -1,12 +1,12 @@
 -- What it means that the direct measurement of the state and the room of its seen offsets follow from the plain list of served calls
--- (crate history, newest first).
+-- (crate history, newest first). Assumes nothing.
 use mathlib.Core.Path.{_≡_}
 use mathlib.Core.List.{List, [], _∷_}
 use mathlib.Core.Option.{Option, none, some}
 use Prim.Native.Nat.{ℕ}
 use lib.ListN.{length}
 use Rattle.calls.specs.declared.CounterPoint.{CounterPoint}
-use Rattle.calls.specs.declared.Counters.{Counters as Point?}
+use Rattle.calls.specs.declared.Counters.{Counters}
 use Rattle.calls.specs.declared.Counters.the-variants as counters
 use Rattle.calls.specs.declared.Call.{Call}
 use Rattle.direct.specs.declared.Counts.{Counts}
@@ -28,9 +28,11 @@ use Rattle.ledger_steps.specs.Rooms.{Stand}
 
 -- ---- the window, of the list of the counters since the anchor
 
+-- from the anchor a
 abbrev pub epochOf : CounterPoint → List CounterPoint → Epoch
 epochOf a w = record { anchor = a; latest = latest a w; sender = senderMaximum a w; received = receivedMaximum a w; seen = length w }
 
+-- without counters there is no anchor; with them it is the oldest
 abbrev pub windowOf : List CounterPoint → Window
 windowOf [] = Closed
 windowOf (c ∷ w) = Open (epochOf (anchorOf c w) (c ∷ w))
@@ -40,6 +42,7 @@ abbrev pub seenSince : List CounterPoint → List ℕ
 seenSince [] = []
 seenSince (c ∷ w) = seen (anchorOf c w) (c ∷ w)
 
+-- the counts in the code's type
 abbrev pub countsOf : DirectCounts → Counts
 countsOf n = record {
   observations = n .observations;
@@ -51,14 +54,17 @@ countsOf n = record {
 
 -- ---- what is shown
 
+-- a number of packets, where it is shown
 abbrev pub packetsOf : Option ℕ → Packets
 packetsOf none = Absent
 packetsOf (some n) = Number n
 
-abbrev pub pointOf : Option CounterPoint → Point?
+-- the counters, where they are shown
+abbrev pub pointOf : Option CounterPoint → Counters
 pointOf none = counters.Absent
 pointOf (some c) = counters.Point c
 
+-- the figures of the window: all of them or none
 abbrev pub spansShown : Option Spans → ShownSpans
 spansShown none = noSpans
 spansShown (some s) = record {

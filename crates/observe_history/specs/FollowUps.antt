@@ -1,5 +1,5 @@
 -- What it means that the follow-ups of the state and the correlation slots in the rooms follow from the plain list of served calls
--- (crate history, newest first). N is how many keys are held.
+-- (crate history, newest first). N is how many keys are held. Assumes nothing.
 use mathlib.Core.Path.{_≡_}
 use mathlib.Core.Bool.{Bool, true, false, cond}
 use mathlib.Core.List.{List, []}
@@ -89,8 +89,9 @@ abbrev pub QualityFits : Estimates → Type 0
 QualityFits estimates.Absent = Unit
 QualityFits (estimates.Pair s r) = (s .multiplier < 256) × (r .multiplier < 256)
 
--- ---- the lookup, in the code's type
+-- ---- the lookup
 
+-- what it shows, in the code's type
 abbrev pub lookupFrom : Lookup → Shown
 lookupFrom nothing = shown.Nothing
 lookupFrom (shows format reference) = shown.Slot format reference

@@ -1,5 +1,5 @@
 -- What observes leave in the ledger follows from the plain list of served calls: the statement, of a ledger with its rooms.
--- N is how many keys and offsets are held; byKey and byNumber say which chain is walked.
+-- N is how many keys and offsets are held; byKey and byNumber say which chain is walked. Assumes nothing.
 use mathlib.Core.Path.{_≡_}
 use mathlib.Core.Bool.{true, _&&_}
 use mathlib.Core.List.{List, [], _∷_}

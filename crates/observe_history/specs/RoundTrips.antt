@@ -1,4 +1,5 @@
 -- What it means that the delays of the state, those of the round trips and those of the follow-ups, follow from the plain list of served calls.
+-- Assumes nothing.
 use mathlib.Core.Path.{_≡_}
 use mathlib.Core.List.{List}
 use mathlib.Core.Option.{Option, none, some}
@@ -18,19 +19,23 @@ use Rattle.ledger_steps.specs.Rooms.{Stand}
 
 -- ---- the state of these figures: sign and words of each integer
 
+-- the least or the greatest
 abbrev pub extremeOf : Option ℤ → Extreme
 extremeOf none = extreme.Absent
 extremeOf (some z) = extreme.At (nanosecondsOf z)
 
+-- the whole
 abbrev pub delaysFrom : Figures → Delays
 delaysFrom f = record { count = f .samples; sum = sumOf (f .sum); min = extremeOf (f .minimum); max = extremeOf (f .maximum) }
 
 -- ---- what is shown of these figures
 
+-- the minimum or the maximum, in ms
 abbrev pub shownMs : Option ℤ → Milliseconds
 shownMs none = milliseconds.Absent
 shownMs (some z) = milliseconds.Known (inMs z)
 
+-- with the average
 abbrev pub shownFrom : Figures → DelaySummary
 shownFrom f = record { samples = f .samples; min = shownMs (f .minimum); average = averageMs (f .sum) (f .samples); max = shownMs (f .maximum) }
 
