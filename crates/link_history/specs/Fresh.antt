@@ -1,0 +1,78 @@
+-- A link as the code makes it fresh, over any rooms of the right size, whatever they held; and calls whose numbers fit their types.
+-- Assumes nothing.
+use mathlib.Core.Path.{_≡_}
+use mathlib.Core.List.{List, [], _∷_}
+use Prim.Native.Nat.{ℕ, _^_, _<_}
+use lib.ListN.{length}
+use Rattle.scope.specs.Limits.{capacity}
+use Rattle.calls.specs.declared.Call.{Call}
+use Rattle.calls.specs.declared.Call.the-variants.{Sent, Accept, Observe, Advance, Idle}
+use Rattle.probe_queue.specs.declared.Probe.{Probe}
+use Rattle.monitor.specs.Operations.{fresh}
+use Rattle.ledger_state.specs.State.{freshLedger, hashWords}
+use Rattle.ledger_steps.specs.Rooms.{Rooms, Stand}
+use Rattle.reply_history.specs.Fits.{CallFits}
+use Rattle.reply_history.specs.Stands.{RoomsFit}
+use Rattle.observe_history.specs.FollowUps.{QualityFits}
+use Rattle.link_steps.specs.declared.Watch.{Watch}
+use Rattle.link_steps.specs.declared.Watch.the-variants.{Absent, Present}
+use Rattle.link_steps.specs.Steps.{Standing}
+
+-- ---- how a link is made
+
+-- without a monitor, or with one of this threshold and timeout
+pub data Watching : Type 0 where
+  alone : Watching
+  watching : (threshold timeout : ℕ) → Watching
+
+-- the copies, the words of the hash, the monitor, and the rooms that the link is lent
+pub record Making : Type 0 where
+  pub copies : ℕ
+  pub secret : List ℕ
+  pub monitor : Watching
+  pub rooms : Rooms
+  pub queue : List Probe
+
+-- the room of the queue has the right size; without a monitor it is not looked at
+abbrev pub QueueFits : Watching → List Probe → Type 0
+QueueFits alone queue = Unit
+QueueFits (watching threshold timeout) queue = length queue ≡ capacity
+
+-- the copies fit their type and the rooms have the right size; what stands in them is of no account
+pub record MakingFits (m : Making) : Type 0 where
+  pub copies-in : m .copies < 2 ^ 16
+  pub rooms-fit : RoomsFit capacity (m .rooms)
+  pub queue-fits : QueueFits (m .monitor) (m .queue)
+
+-- ---- the fresh link: what the calls `fresh` of the ledger and of the monitor hand back
+
+abbrev pub freshWatch : Watching → Watch
+freshWatch alone = Absent
+freshWatch (watching threshold timeout) = Present (fresh threshold timeout)
+
+abbrev pub freshLink : Making → Standing
+freshLink m = record { link = record { ledger = freshLedger (m .copies) (m .secret); watch = freshWatch (m .monitor) }; rooms = m .rooms; queue = m .queue }
+
+-- the words of its hash
+abbrev pub wordsIn : Making → List ℕ
+wordsIn m = hashWords (freshLedger (m .copies) (m .secret))
+
+-- the ledger of a link with its rooms, beside its monitor
+abbrev pub standOf : Standing → Stand
+standOf k = record { ledger = k .link .ledger; rooms = k .rooms }
+
+-- ---- calls whose numbers fit their types
+
+abbrev pub EstimatesFit : Call → Type 0
+EstimatesFit (Sent s) = Unit
+EstimatesFit (Accept a) = Unit
+EstimatesFit (Observe o) = QualityFits (o .quality)
+EstimatesFit (Advance t) = Unit
+EstimatesFit Idle = Unit
+
+abbrev pub Fits : Call → Type 0
+Fits c = CallFits c × EstimatesFit c
+
+unfoldable pub AllFits : List Call → Type 0
+AllFits [] = Unit
+AllFits (c ∷ cs) = Fits c × AllFits cs
