@@ -2,7 +2,7 @@
 -- Assumes nothing.
 use mathlib.Core.Path.{_≡_, refl}
 use mathlib.Core.List.{List}
-use Prim.Native.Nat.{ℕ, zero, suc, _+_, _-_, _<_}
+use Prim.Native.Nat.{ℕ, zero, suc, _+_, _-_}
 use lib.ListN.{length, set}
 use native.Mathlib.Omega.{arith}
 use Rattle.calls.specs.declared.FollowUpTelemetry.{FollowUpTelemetry}
@@ -16,7 +16,6 @@ use Rattle.correlation.specs.declared.follow.Shown.{Shown}
 use Rattle.key_ring.specs.Table.{newestSlot}
 use Rattle.ledger_state.specs.declared.Ledger.{Ledger}
 use Rattle.ledger_steps.specs.declared.Answer.the-variants as answer
-use Rattle.ledger_steps.specs.declared.LookupAnswer.the-variants as looks
 use Rattle.ledger_steps.specs.Refusals.{refusalOfObserve, refusalOfLookup}
 use Rattle.ledger_steps.specs.Observe.{ObserveOutcome, holderOf, ownWords, ownIn, observeOn}
 use Rattle.ledger_steps.specs.Readers.{lookupOn}

@@ -1,7 +1,7 @@
 -- What the answers of the functions that are called say together: the outcome of `observe` and of the lookup, refused or served.
 -- Assumes nothing.
-use mathlib.Core.Path.{_≡_, refl, sym, ap, _∙_, subst}
-use mathlib.Core.Bool.{Bool, true, false, _&&_}
+use mathlib.Core.Path.{_≡_, refl, sym, ap, _∙_}
+use mathlib.Core.Bool.{true, false, _&&_}
 use mathlib.Core.List.{List}
 use Prim.Native.Nat.{ℕ, zero, suc, _+_}
 use lib.IntN.{pos}
@@ -26,13 +26,12 @@ use Rattle.follow_ups.specs.declared.FollowUps.{FollowUps}
 use Rattle.ledger_state.specs.State.{hashWords}
 use Rattle.ledger_state.specs.declared.Ledger.{Ledger}
 use Rattle.ledger_steps.specs.declared.Answer.the-variants as answer
-use Rattle.ledger_steps.specs.declared.LookupAnswer.{LookupAnswer}
 use Rattle.ledger_steps.specs.declared.LookupAnswer.the-variants as looks
 use Rattle.ledger_steps.specs.Refusals.{refusalOfObserve, refusalOfLookup}
 use Rattle.ledger_steps.specs.Observe.{DirectOutcome, directOutcome, directIn, FollowOutcome, followOutcome, followIn, ownIn}
 use Rattle.ledger_steps.specs.Observe.{ledgerObserved, ObserveOutcome, observeOutcome, observeWith, observeIn, observeOn}
 use Rattle.ledger_steps.specs.Readers.{shownIn, lookupOn}
-use Rattle.ledger_steps.specs.Calls.{ObserveResult, observeResult, observeBy, observeTo, lookupBy, lookupTo}
+use Rattle.ledger_steps.specs.Calls.{observeResult, observeBy, observeTo, lookupBy, lookupTo}
 
 -- what the range tests show to the follow-up's part
 pub follow-ranged : (o : ReplyObservation) → inRange o ≡ true → (followFits (o .follow) ≡ true) × offsetInRange (o .offset)
