@@ -1,0 +1,5 @@
+pub mod Copied
+pub mod Kept
+pub mod Said
+pub mod Theorem
+pub mod Examples
