@@ -3,8 +3,8 @@ ghost use mathlib.Core.Path.{_≡_};
 ghost use lib.ListN.{length};
 ghost use Rattle.log_record.specs.Records.{blank, sameBytes, recordOf, readOf, wrote, writtenTo, scalesFit};
 
-pub mod putting;
-pub mod reading;
+mod putting;
+mod reading;
 
 use calls::Call;
 

@@ -1,4 +1,5 @@
 pub mod Copied
+pub mod Over
 pub mod Kept
 pub mod Said
 pub mod Theorem
