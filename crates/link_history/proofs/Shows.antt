@@ -50,7 +50,7 @@ both-hold a b p q = ap (λ (x : Bool). x && b) p ∙ q
 ring-true : (r : Ring) → RingFits capacity r → ringFits r ≡ true
 ring-true r fit = both-hold _ _ (lt-true (r .head) capacity (fit .head-in)) (le-leb (r .len) capacity (fit .len-in))
 
-module _ (words : List ℕ) (copies : ℕ) (copies-in : copies < 2 ^ 16) (h : List Call) (fit : AllFit h) (k : Standing) (f : Follow words copies h (standOf k)) where
+module _ (words : List ℕ) (copies : ℕ) (h : List Call) (k : Standing) (f : Follow words copies h (standOf k)) where
   abbrev l : Ledger
   l = k .link .ledger
 
@@ -143,39 +143,40 @@ module _ (words : List ℕ) (copies : ℕ) (copies-in : copies < 2 ^ 16) (h : Li
   unfolding lookupTo
   looked-is own t = ap (λ (n : ℕ). lookupBy n (lookupOn l (k .rooms .keys) (k .rooms .slots) (k .rooms .links) own t)) looked-served ∙ ap looks.Served (looked-on own t)
 
-  accepted-on : (a : Reply) → KeyFits (a .key) → acceptOn l (k .rooms .keys) (k .rooms .slots) (k .rooms .probes) (k .rooms .links) a .accepted ≡ acceptedFrom h a
-  accepted-on a fits =
-      subst (λ (w : List ℕ). acceptIn capacity (hashOf w) (numberHash w) l (k .rooms .keys) (k .rooms .slots) (k .rooms .probes) (k .rooms .links) a .accepted ≡ acceptedFrom h a) (sym (f .words-are))
-      (accept-follows capacity (omega arith) (hashOf words) (numberHash words) (key-below words) (number-hash-below words) copies copies-in h fit s a fits (f .replies) .answers)
+  module _ (copies-in : copies < 2 ^ 16) (fit : AllFit h) where
+    accepted-on : (a : Reply) → KeyFits (a .key) → acceptOn l (k .rooms .keys) (k .rooms .slots) (k .rooms .probes) (k .rooms .links) a .accepted ≡ acceptedFrom h a
+    accepted-on a fits =
+        subst (λ (w : List ℕ). acceptIn capacity (hashOf w) (numberHash w) l (k .rooms .keys) (k .rooms .slots) (k .rooms .probes) (k .rooms .links) a .accepted ≡ acceptedFrom h a) (sym (f .words-are))
+        (accept-follows capacity (omega arith) (hashOf words) (numberHash words) (key-below words) (number-hash-below words) copies copies-in h fit s a fits (f .replies) .answers)
 
-  pub accepted-is : (a : Reply) → KeyFits (a .key) → refuses k (Accept a) ≡ 0 → acceptResult k a .answer ≡ accepts.Served (after k (Accept a) .link .ledger) (acceptedFrom h a)
-  unfolding refuses after acceptTo
-  accepted-is a fits = go (refusalOfAccept (watchRefuses (k .link .watch) (length (k .queue))) l (length (k .rooms .keys)) (length (k .rooms .slots)) (length (k .rooms .probes)) (length (k .rooms .links)))
-    where
-      o : AcceptOutcome
-      o = acceptOn l (k .rooms .keys) (k .rooms .slots) (k .rooms .probes) (k .rooms .links) a
+    pub accepted-is : (a : Reply) → KeyFits (a .key) → refuses k (Accept a) ≡ 0 → acceptResult k a .answer ≡ accepts.Served (after k (Accept a) .link .ledger) (acceptedFrom h a)
+    unfolding refuses after acceptTo
+    accepted-is a fits = go (refusalOfAccept (watchRefuses (k .link .watch) (length (k .queue))) l (length (k .rooms .keys)) (length (k .rooms .slots)) (length (k .rooms .probes)) (length (k .rooms .links)))
+      where
+        o : AcceptOutcome
+        o = acceptOn l (k .rooms .keys) (k .rooms .slots) (k .rooms .probes) (k .rooms .links) a
 
-      go : (n : ℕ) → acceptNumber (acceptBy n o (k .rooms .keys) (k .rooms .slots) (k .rooms .probes) (k .rooms .links) .answer) ≡ 0
-          → acceptBy n o (k .rooms .keys) (k .rooms .slots) (k .rooms .probes) (k .rooms .links) .answer
-          ≡ accepts.Served (ledgerOfAccept l (acceptBy n o (k .rooms .keys) (k .rooms .slots) (k .rooms .probes) (k .rooms .links) .answer)) (acceptedFrom h a)
-      go zero e = ap (accepts.Served (o .ledger)) (accepted-on a fits)
-      go (suc n) e = absurd (omega (arith, e))
+        go : (n : ℕ) → acceptNumber (acceptBy n o (k .rooms .keys) (k .rooms .slots) (k .rooms .probes) (k .rooms .links) .answer) ≡ 0
+            → acceptBy n o (k .rooms .keys) (k .rooms .slots) (k .rooms .probes) (k .rooms .links) .answer
+            ≡ accepts.Served (ledgerOfAccept l (acceptBy n o (k .rooms .keys) (k .rooms .slots) (k .rooms .probes) (k .rooms .links) .answer)) (acceptedFrom h a)
+        go zero e = ap (accepts.Served (o .ledger)) (accepted-on a fits)
+        go (suc n) e = absurd (omega (arith, e))
 
-  pub ledger-shows : LedgerShows copies h k
-  ledger-shows = record {
-    snapshot = snapshot-is;
-    counts = counts-are;
-    calls = f .calls-are;
-    waits = waits-is;
-    awaits = awaits-is;
-    answered = answered-is;
-    looked-up = looked-is;
-    accepted = accepted-is;
-  }
+    pub ledger-shows : LedgerShows copies h k
+    ledger-shows = record {
+      snapshot = snapshot-is;
+      counts = counts-are;
+      calls = f .calls-are;
+      waits = waits-is;
+      awaits = awaits-is;
+      answered = answered-is;
+      looked-up = looked-is;
+      accepted = accepted-is;
+    }
 
 -- THE THEOREM. Whatever the rooms held, whatever was called and whatever was refused, each call given what the last one left: what the code's state
 -- and rooms show is what the served calls call for, by the plain definitions of crate history.
 pub link-shows : (m : Making) → MakingFits m → (cs : List Call) → AllFits cs → LedgerShows (copiesOf (m .copies)) (served (freshLink m) cs) (played (freshLink m) cs)
 link-shows m ok cs w =
-    ledger-shows (wordsIn m) (copiesOf (m .copies)) (copies-fit (m .copies) (ok .copies-in)) (served (freshLink m) cs)
-    (calls-fit (served (freshLink m) cs) (served-fit (freshLink m) cs w)) (played (freshLink m) cs) (link-follows m ok cs w)
+    ledger-shows (wordsIn m) (copiesOf (m .copies)) (served (freshLink m) cs) (played (freshLink m) cs) (link-follows m ok cs w)
+    (copies-fit (m .copies) (ok .copies-in)) (calls-fit (served (freshLink m) cs) (served-fit (freshLink m) cs w))
