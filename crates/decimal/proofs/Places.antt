@@ -70,10 +70,14 @@ over-over b at t u h =
         ∙ drop-drop (length u) (at + length t) b
         ∙ ap (λ (n : ℕ). drop n b) (sum at (length t) (length u) (length (t ++ u)) (length-append t u))
 
+-- a text of at most so many bytes is one of at most more
+pub within : {m n at r : ℕ} {t before after : List ℕ} → m ≤ n → Stands m t before at after r → Stands n t before at after r
+within h s = record { bytes = s .bytes; end = s .end; short = omega (arith, s .short) }
+
 -- One text that stands, then another behind it, are the two together.
-pub then : (m n at r r' : ℕ) (t u before between after : List ℕ) → at + m ≤ length before
+pub then : {m n at r r' : ℕ} {t u before between after : List ℕ} → at + m ≤ length before
     → Stands m t before at between r → Stands n u between r after r' → Stands (m + n) (t ++ u) before at after r'
-then m n at r r' t u before between after room s s' =
+then {m} {n} {at} {r} {r'} {t} {u} {before} {between} {after} room s s' =
     record {
       bytes = s' .bytes ∙ ap₂ (λ (b : List ℕ) (i : ℕ). over b i u) (s .bytes) (s .end) ∙ over-over before at t u (omega (arith, s .short));
       end = s' .end ∙ ap (λ (i : ℕ). i + length u) (s .end) ∙ sum at (length t) (length u) (length (t ++ u)) (length-append t u);

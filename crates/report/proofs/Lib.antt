@@ -1,0 +1,4 @@
+pub mod Joined
+pub mod Fits
+pub mod Examples
+pub mod Determined
