@@ -1,5 +1,5 @@
 -- What each answer to a log means. Assumes nothing.
-use mathlib.Core.Path.{_≡_, refl, sym, ap, ap₂, _∙_, subst}
+use mathlib.Core.Path.{_≡_, refl, sym, ap, _∙_, subst}
 use mathlib.Core.Bool.{Bool, true, false, cond}
 use mathlib.Core.List.{List}
 use Prim.Native.Nat.{ℕ, _+_, _*_, _≤_, _<_}
@@ -9,13 +9,14 @@ use lib.ListN.{length, take, drop, length-take, length-drop}
 use borrow.Author.Tests.{ltb-true, ltb-false, eqb-true, eqb-false, eq-eqb}
 use Rattle.calls.specs.declared.Call.{Call}
 use Rattle.log_record.specs.declared.Record.the-variants as record'
-use Rattle.log_record.specs.Records.{recordOf, callOf, good, answer, readOf}
+use Rattle.log_record.specs.Records.{recordOf, callOf, good, readOf}
+use Rattle.log_record.specs.Records as records
 use Rattle.log_record.proofs.Good.{good-is-written}
 use Rattle.link_log.specs.declared.Settings.{Settings}
 use Rattle.link_log.specs.declared.Log.{Log}
 use Rattle.link_log.specs.declared.Log.the-variants as log
 use Rattle.link_log.specs.declared.Played.the-variants as played
-use Rattle.link_log.specs.Logs.{mostBytes, countOf, settingsOf, trailerGood, recordAt, firstBad, byRecords, logOf, playedBy, callAt, numberOf}
+use Rattle.link_log.specs.Logs.{mostBytes, countOf, settingsOf, trailerGood, recordAt, answer, recordsNumber, numberBy, firstOf, logOf, playedBy, callAt}
 use Rattle.link_log.proofs.Laws.{count-is, one-within, call-there}
 use Rattle.link_log.proofs.First.{First, first-is}
 
@@ -31,12 +32,12 @@ Means bs (log.Good s) =
 
 module _ (bs : List ℕ) (small : length bs ≤ 65536) (kept : trailerGood bs ≡ true) where
   abbrev found : ℕ
-  found = firstBad bs (settingsOf bs .start) 0 (countOf bs)
+  found = firstOf bs
 
   facts : First bs (settingsOf bs .start) 0 (countOf bs) found
   facts = first-is bs (settingsOf bs .start) 0 (countOf bs)
 
-  by-found : (b : Bool) → eqb found (settingsOf bs .count) ≡ b → Means bs (cond b (log.Good (settingsOf bs)) (log.BadRecord found))
+  by-found : (b : Bool) → eqb found (settingsOf bs .count) ≡ b → Means bs (answer (cond b 0 8) found (settingsOf bs))
   by-found true e = (
     small,
     kept,
@@ -60,18 +61,18 @@ unfolding logOf
 answer-means bs = by-long (ltb mostBytes (length bs)) refl
   where
     by-trailer : length bs ≤ 65536 → (b : Bool) → trailerGood bs ≡ b
-        → Means bs (cond b (byRecords (firstBad bs (settingsOf bs .start) 0 (countOf bs)) (settingsOf bs)) log.BadTrailer)
-    by-trailer h true e = by-found bs h e (eqb (firstBad bs (settingsOf bs .start) 0 (countOf bs)) (settingsOf bs .count)) refl
+        → Means bs (answer (numberBy false b (recordsNumber (firstOf bs) (settingsOf bs .count))) (firstOf bs) (settingsOf bs))
+    by-trailer h true e = by-found bs h e (eqb (firstOf bs) (settingsOf bs .count)) refl
     by-trailer h false e = (h, e)
 
     by-long : (b : Bool) → ltb mostBytes (length bs) ≡ b
-        → Means bs (cond b log.TooLong (cond (trailerGood bs) (byRecords (firstBad bs (settingsOf bs .start) 0 (countOf bs)) (settingsOf bs)) log.BadTrailer))
+        → Means bs (answer (numberBy b (trailerGood bs) (recordsNumber (firstOf bs) (settingsOf bs .count))) (firstOf bs) (settingsOf bs))
     by-long true e = ltb-true 65536 (length bs) e
     by-long false e = by-trailer (ltb-false 65536 (length bs) e) (trailerGood bs) refl
 
 good-read : (r : List ℕ) → length r ≡ 96 → good r ≡ true → readOf r ≡ record'.Good (callOf r)
 unfolding readOf
-good-read r l g = ap (λ (n : ℕ). answer n (callOf r)) (λ i. cond (eq-eqb (length r) 96 l i) (cond (g i) 0 8) 5)
+good-read r l g = ap (λ (n : ℕ). records.answer n (callOf r)) (λ i. cond (eq-eqb (length r) 96 l i) (cond (g i) 0 8) 5)
 
 -- Every record of an accepted log says a call, and is the record of that call.
 pub accepted-decodes : (bs : List ℕ) (s : Settings) (i : ℕ) → logOf bs ≡ log.Good s → i < s .count

@@ -5,7 +5,7 @@ use mathlib.Core.List.{List, [], _∷_, _++_, append-assoc}
 use Prim.Native.Nat.{ℕ, zero, suc, _+_, _-_, _*_, _^_, _≤_, _<_}
 use native.Mathlib.Omega.{arith}
 use native.Mathlib.Nat.{le-of-suc-le-suc, not-suc-le-zero}
-use lib.Dec.{T, eqb, leb, ltb, lit<}
+use lib.Dec.{lit<}
 use lib.ListN.{length, getD, take, drop, length-append}
 use lib.Seq.{getD-append-add, take-at, drop-at, drop-drop}
 use borrow.Author.Tests.{eq-eqb, le-leb, le-ltb}
@@ -18,12 +18,11 @@ use Rattle.record_parts.specs.Fits.{U16, U64, CallFits}
 use Rattle.log_record.specs.Records.{recordOf, good, readOf}
 use Rattle.log_record.proofs.Back.{record-length}
 use Rattle.log_record.proofs.Good.{written-is-good, read-back}
-use Rattle.link_log.specs.declared.Settings.{Settings}
 use Rattle.link_log.specs.declared.Log.the-variants as log
 use Rattle.link_log.specs.declared.Played.the-variants as played
-use Rattle.link_log.specs.Logs.{mark, trailerAt, distanceOf, countOf, markOf, settingsOf, trailerFits, trailerGood, recordAt, firstBad, logOf, playedBy, callAt, trailerTable, trailerOver}
+use Rattle.link_log.specs.Logs.{mark, trailerAt, distanceOf, countOf, markOf, settingsOf, trailerFits, trailerGood, recordAt, logOf, playedBy, callAt, trailerTable, trailerOver}
 use Rattle.link_log.specs.Written.{records, AllFit, logBytes, settingsBy}
-use Rattle.link_log.proofs.Laws.{by-good, count-is, start-is, log-by-records, call-there}
+use Rattle.link_log.proofs.Laws.{by-good, log-by-records, call-there}
 use Rattle.link_log.proofs.First.{none-bad}
 
 -- ---- a number behind other bytes

@@ -1,22 +1,22 @@
 -- What the proofs of this crate's functions need of the definitions. Assumes nothing.
 use mathlib.Core.Path.{_≡_, refl, sym, ap, ap₂, _∙_, subst}
 use mathlib.Core.Bool.{Bool, true, false, _&&_, cond}
-use mathlib.Core.List.{List, [], _∷_}
-use Prim.Native.Nat.{ℕ, zero, suc, _+_, _-_, _*_, _≤_, _<_}
+use mathlib.Core.List.{List}
+use Prim.Native.Nat.{ℕ, suc, _+_, _-_, _*_, _≤_, _<_}
 use native.Mathlib.Omega.{arith}
 use lib.Dec.{eqb, leb, ltb}
 use lib.ListN.{length, take, drop}
-use borrow.Author.Tests.{eq-eqb, ne-eqb, eqb-true, leb-true, lt-ltb, le-ltb, ltb-true, ltb-false}
-use Rattle.calls.specs.declared.Call.{Call}
+use borrow.Author.Tests.{eq-eqb, ne-eqb, eqb-true, leb-true, lt-ltb, le-ltb, ltb-false}
 use Rattle.log_record.specs.declared.Record.{Record}
 use Rattle.log_record.specs.declared.Record.the-variants as record'
-use Rattle.log_record.specs.Records.{callOf, good, answer, readOf}
+use Rattle.log_record.specs.Records.{callOf, good, readOf}
+use Rattle.log_record.specs.Records as records
 use Rattle.link_log.specs.declared.Settings.{Settings}
 use Rattle.link_log.specs.declared.Log.{Log}
 use Rattle.link_log.specs.declared.Log.the-variants as log
 use Rattle.link_log.specs.declared.Played.{Played}
 use Rattle.link_log.specs.declared.Played.the-variants as played
-use Rattle.link_log.specs.Logs.{mark, distanceOf, countOf, markOf, settingsOf, trailerFits, trailerGood, recordAt, firstBad, byRecords, logOf, playedBy, callAt}
+use Rattle.link_log.specs.Logs.{mark, distanceOf, countOf, markOf, settingsOf, trailerFits, trailerGood, recordAt, firstBad, answer, recordsNumber, byRecords, numberBy, firstOf, logOf, playedBy, callAt}
 use Rattle.big_endian.specs.Fields.{written}
 use Rattle.link_log.specs.Logs.{trailerTable, trailerOver, wrote, trailerNumber, trailerAfter, trailerTo}
 
@@ -108,12 +108,12 @@ pub good-of-read : (r : List ℕ) (a : Record) (b : Bool) → length r ≡ 96 �
 unfolding readOf
 good-of-read r a b l e h = sym h ∙ ap isGood e ∙ by (good r) ∙ refl
   where
-    at-number : (g : Bool) → isGood (answer (cond g 0 8) (callOf r)) ≡ g
+    at-number : (g : Bool) → isGood (records.answer (cond g 0 8) (callOf r)) ≡ g
     at-number true = refl
     at-number false = refl
 
-    by : (g : Bool) → isGood (answer (cond (eqb (length r) 96) (cond g 0 8) 5) (callOf r)) ≡ g
-    by g = ap (λ (s : Bool). isGood (answer (cond s (cond g 0 8) 5) (callOf r))) (eq-eqb (length r) 96 l) ∙ at-number g
+    by : (g : Bool) → isGood (records.answer (cond (eqb (length r) 96) (cond g 0 8) 5) (callOf r)) ≡ g
+    by g = ap (λ (s : Bool). isGood (records.answer (cond s (cond g 0 8) 5) (callOf r))) (eq-eqb (length r) 96 l) ∙ at-number g
 
 -- ---- the first bad record
 
@@ -146,13 +146,13 @@ bad-end bs start i n e = ap (firstBad bs start i) (none i n e) ∙ e
 -- ---- the answers
 
 pub by-good : (first : ℕ) (s : Settings) → first ≡ s .count → log.Good s ≡ byRecords first s
-by-good first s e = sym (ap (λ (b : Bool). cond b (log.Good s) (log.BadRecord first)) (eq-eqb first (s .count) e))
+by-good first s e = sym (ap (λ (b : Bool). answer (cond b 0 8) first s) (eq-eqb first (s .count) e))
 
 pub by-bad : (first : ℕ) (s : Settings) → (first ≡ s .count → ⊥) → log.BadRecord first ≡ byRecords first s
-by-bad first s e = sym (ap (λ (b : Bool). cond b (log.Good s) (log.BadRecord first)) (ne-eqb first (s .count) e))
+by-bad first s e = sym (ap (λ (b : Bool). answer (cond b 0 8) first s) (ne-eqb first (s .count) e))
 
 abbrev logBy : List ℕ → Bool → Bool → Log
-logBy bs long kept = cond long log.TooLong (cond kept (byRecords (firstBad bs (settingsOf bs .start) 0 (countOf bs)) (settingsOf bs)) log.BadTrailer)
+logBy bs long kept = answer (numberBy long kept (recordsNumber (firstOf bs) (settingsOf bs .count))) (firstOf bs) (settingsOf bs)
 
 pub log-too-long : (bs : List ℕ) → 65536 < length bs → log.TooLong ≡ logOf bs
 unfolding logOf

@@ -1,13 +1,13 @@
 -- The 24 bytes of a trailer are those of its settings, whatever they held before. Assumes nothing.
-use mathlib.Core.Path.{_≡_, sym, _∙_}
+use mathlib.Core.Path.{_≡_}
 use mathlib.Core.Bool.{Bool, true, false}
 use mathlib.Core.List.{List}
 use Prim.Native.Nat.{ℕ, _<_}
 use native.Mathlib.Omega.{arith}
 use lib.Dec.{T}
-use lib.ListN.{length, getD}
+use lib.ListN.{length}
 use Rattle.log_rules.proofs.Copied.{covered}
-use Rattle.log_rules.proofs.Kept.{allBelow, each-below}
+use Rattle.log_rules.proofs.Kept.{each-below}
 use Rattle.log_rules.proofs.Over.{written-same}
 use Rattle.link_log.specs.Logs.{trailerTable, trailerOver}
 

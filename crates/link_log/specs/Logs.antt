@@ -1,7 +1,7 @@
 -- A log (document 01, 'Log and program'): "96-byte records, ..; then a 24-byte trailer: distance from the end to the first record (u32), record
 -- count (u32), copies (u16), threshold (u16; 0 means no monitor), timeout (u64), bytes `STLG`. Anything may stand before the first record."
 -- Assumes nothing.
-use mathlib.Core.Bool.{Bool, true, false, _&&_, cond}
+use mathlib.Core.Bool.{Bool, false, _&&_, cond}
 use mathlib.Core.List.{List, [], _∷_}
 use Prim.Native.Nat.{ℕ, zero, suc, _+_, _-_, _*_}
 use lib.Dec.{eqb, leb, ltb}
@@ -71,23 +71,34 @@ firstBad bs start i (suc n) = cond (good (recordAt bs start i)) (firstBad bs sta
 
 -- ---- the answer
 
--- "8 bad record (first, from 0)"
+-- document 01's numbers: "9 above 65,536 bytes, 7 bad trailer, 8 bad record (first, from 0)"
+abbrev pub tooLong : ℕ
+tooLong = 9
+
+abbrev pub badTrailer : ℕ
+badTrailer = 7
+
+-- the answer by its number: 0 with the settings, 8 with the first bad record, and otherwise the number alone
+abbrev pub answer : ℕ → (first : ℕ) → Settings → Log
+answer number first s =
+    cond (eqb number 0) (log.Good s) (cond (eqb number badRecord) (log.BadRecord first) (cond (eqb number badTrailer) log.BadTrailer log.TooLong))
+
+-- the number that the first bad record gives: none is bad where it is the count
+abbrev pub recordsNumber : (first count : ℕ) → ℕ
+recordsNumber first count = cond (eqb first count) 0 badRecord
+
 abbrev pub byRecords : ℕ → Settings → Log
-byRecords first s = cond (eqb first (s .count)) (log.Good s) (log.BadRecord first)
+byRecords first s = answer (recordsNumber first (s .count)) first s
 
--- "Log answers: 9 above 65,536 bytes, 7 bad trailer, 8 bad record (first, from 0); tested in that order"
+-- "tested in that order"
+abbrev pub numberBy : (long kept : Bool) → (records : ℕ) → ℕ
+numberBy long kept records = cond long tooLong (cond kept records badTrailer)
+
+abbrev pub firstOf : List ℕ → ℕ
+firstOf bs = firstBad bs (settingsOf bs .start) 0 (countOf bs)
+
 unfoldable pub logOf : List ℕ → Log
-logOf bs =
-    cond (ltb mostBytes (length bs)) log.TooLong
-    (cond (trailerGood bs) (byRecords (firstBad bs (settingsOf bs .start) 0 (countOf bs)) (settingsOf bs))
-    log.BadTrailer)
-
--- document 01's number of each answer, 0 for a good log; the N of `refused 8 at N` stands in the answer
-abbrev pub numberOf : Log → ℕ
-numberOf (log.Good s) = 0
-numberOf log.TooLong = 9
-numberOf log.BadTrailer = 7
-numberOf (log.BadRecord n) = badRecord
+logOf bs = answer (numberBy (ltb mostBytes (length bs)) (trailerGood bs) (recordsNumber (firstOf bs) (settingsOf bs .count))) (firstOf bs) (settingsOf bs)
 
 -- ---- reading record i as a call
 
@@ -129,7 +140,7 @@ wrote n bs = record { number = n; bytes = bs }
 
 -- 5 for another number of bytes than 24; 9 for more records than 65,536 bytes hold
 abbrev pub trailerNumber : List ℕ → ℕ → ℕ
-trailerNumber bs count = cond (eqb (length bs) 24) (cond (ltb 682 count) 9 0) wrongRoom
+trailerNumber bs count = cond (eqb (length bs) 24) (cond (ltb 682 count) tooLong 0) wrongRoom
 
 -- at 0 the trailer; a refusal changes nothing
 abbrev pub trailerAfter : ℕ → List ℕ → List ℕ → List ℕ

@@ -3,7 +3,7 @@ use mathlib.Core.List.{List, [], _∷_, _++_}
 use Prim.Native.Nat.{ℕ}
 use lib.ListN.{length}
 use Rattle.calls.specs.declared.Call.{Call}
-use Rattle.record_parts.specs.Fits.{U16, U64, CallFits}
+use Rattle.record_parts.specs.Fits.{CallFits}
 use Rattle.log_record.specs.Records.{recordOf}
 use Rattle.link_log.specs.declared.Settings.{Settings}
 use Rattle.link_log.specs.Logs.{trailerOver}

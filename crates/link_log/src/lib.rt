@@ -4,7 +4,7 @@ ghost use mathlib.Core.Bool.{true};
 ghost use Prim.Native.Nat.{_+_, _*_, _≤_};
 ghost use lib.ListN.{length, take, drop};
 ghost use Rattle.log_record.specs.Records.{good, readOf};
-ghost use Rattle.link_log.specs.Logs.{trailerFits, trailerGood, settingsOf, distanceOf, firstBad, recordAt, byRecords, logOf, playedBy, callAt};
+ghost use Rattle.link_log.specs.Logs.{trailerFits, trailerGood, settingsOf, distanceOf, firstBad, byRecords, logOf, playedBy, callAt};
 
 pub mod trailer;
 

@@ -3,13 +3,12 @@ use mathlib.Core.Path.{_≡_, refl, sym, ap, ap₂, _∙_}
 use mathlib.Core.Bool.{Bool, true, false, cond}
 use mathlib.Core.List.{List}
 use Prim.Native.Nat.{ℕ}
-use lib.Dec.{eqb}
 use lib.ListN.{length, replicate}
 use borrow.Author.Tests.{eq-eqb, ne-eqb}
 use Rattle.big_endian.specs.Fields.{written}
 use Rattle.calls.specs.declared.Call.{Call}
 use Rattle.log_record.specs.declared.Record.the-variants.{Good, Refused}
-use Rattle.log_record.specs.Records.{blank, recordOf, tableOf, callOf, sameBytes, good, answer, readNumber, readOf, wrote, scalesFit, bytesAfter, writeNumber, writtenTo}
+use Rattle.log_record.specs.Records.{blank, recordOf, tableOf, callOf, sameBytes, good, answer, readOf, wrote, scalesFit, bytesAfter, writeNumber, writtenTo}
 
 -- a call's fields over zeros are its record
 pub over-zeros : (c : Call) → written (tableOf c) (replicate 96 0) ≡ recordOf c

@@ -1,14 +1,14 @@
 -- Nothing is lost in a record: the call that it says is the call that was written. Assumes nothing.
-use mathlib.Core.Path.{_≡_, refl, sym, ap, ap₂, _∙_}
+use mathlib.Core.Path.{_≡_, refl, sym, ap, _∙_}
 use mathlib.Core.Bool.{Bool, true, false}
 use mathlib.Core.List.{List, [], _∷_}
-use Prim.Native.Nat.{ℕ, zero, suc, _-_, _<_}
+use Prim.Native.Nat.{ℕ, zero, suc, _<_}
 use native.Mathlib.Omega.{arith}
 use borrow.Author.Tests.{eqb-false}
 use lib.Dec.{T, lit<}
-use lib.ListN.{length, getD}
+use lib.ListN.{length}
 use mir.Syntax.{w32, w64}
-use mir.Val.{ofZ, toZ}
+use mir.Val.{toZ}
 use mir.ValLaws.{toZ-ofZ, ofZ-fits}
 use Rattle.big_endian.specs.Numbers.{base, numberAt}
 use Rattle.big_endian.specs.Fields.{Field, byte, laidOut}

@@ -1,6 +1,5 @@
 -- The contracts determine every answer and every lent byte: two exits that meet them are equal. Assumes nothing.
 use mathlib.Core.Path.{_≡_, refl, sym, ap, _∙_}
-use mathlib.Core.Bool.{Bool, true, false, cond}
 use mathlib.Core.List.{List}
 use Prim.Native.Nat.{ℕ, zero, suc}
 use contract.Lifetimes.{Lfts}
@@ -8,8 +7,6 @@ use borrow.Fn.World as World
 use borrow.Fn.Kinds as Kinds'
 use denote.Triple.Clauses as Clauses
 use denote.Ref.{now}
-use lib.Dec.{eqb}
-use lib.ListN.{length}
 use Rattle.calls.specs.declared.Call.{Call}
 use Rattle.log_record.specs.Records.{Wrote, writeNumber, bytesAfter, writtenTo}
 use Rattle.log_record.proofs.read as read

@@ -1,5 +1,5 @@
 -- What `good` means: a good record is the record of the call that it says, and the record of every call that fits is good. Assumes nothing.
-use mathlib.Core.Path.{_≡_, refl, sym, ap, _∙_, subst}
+use mathlib.Core.Path.{_≡_, refl, sym, ap, _∙_}
 use mathlib.Core.Bool.{Bool, true, false, cond}
 use mathlib.Core.List.{List}
 use Prim.Native.Nat.{ℕ}
@@ -9,9 +9,8 @@ use lib.ListN.{length}
 use borrow.Author.Tests.{eq-eqb}
 use Rattle.calls.specs.declared.Call.{Call}
 use Rattle.record_parts.specs.Fits.{CallFits}
-use Rattle.log_record.specs.declared.Record.{Record}
 use Rattle.log_record.specs.declared.Record.the-variants.{Good, Refused}
-use Rattle.log_record.specs.Records.{recordOf, callOf, sameBytes, good, answer, readNumber, readOf}
+use Rattle.log_record.specs.Records.{recordOf, callOf, sameBytes, good, answer, readOf}
 use Rattle.log_record.proofs.Laws.{same-refl, same-equal}
 use Rattle.log_record.proofs.Back.{record-length, record-back}
 

@@ -1,5 +1,5 @@
 -- One record of a log, 96 bytes (document 01, 'Log and program'): "Byte 0 kind, 1 flags, 95 is 255-kind, unused and absent fields and flags
--- 0; a breach or other kind is bad (8)." A record is good exactly when it is the record of the call that it says; proofs/Rules.antt
+-- 0; a breach or other kind is bad (8)." A record is good exactly when it is the record of the call that it says; crate log_rules
 -- shows that this is the same as document 01's rules byte by byte. Assumes nothing.
 use mathlib.Core.Bool.{Bool, true, false, _&&_, cond}
 use mathlib.Core.List.{List, [], _∷_}
@@ -16,12 +16,10 @@ use Rattle.estimate.specs.Make.{formatOf}
 use Rattle.ranges.specs.Ranges.{estimatesFit}
 use Rattle.calls.specs.declared.Counters.{Counters}
 use Rattle.calls.specs.declared.FollowUp.{FollowUp}
-use Rattle.calls.specs.declared.Ordinal.{Ordinal}
 use Rattle.calls.specs.declared.Reply.{Reply}
 use Rattle.calls.specs.declared.ReplyKey.{ReplyKey}
 use Rattle.calls.specs.declared.ReplyObservation.{ReplyObservation}
 use Rattle.calls.specs.declared.SentProbe.{SentProbe}
-use Rattle.calls.specs.declared.Time.{Time}
 use Rattle.calls.specs.declared.Call.{Call}
 use Rattle.calls.specs.declared.Call.the-variants as call
 use Rattle.record_parts.specs.Parts.{flag, observeFlags, pendingFlag, pendingTime, pendingTag, timeWord, ordinalNumber}

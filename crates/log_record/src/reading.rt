@@ -5,7 +5,7 @@ ghost use lib.ListN.{length};
 ghost use mir.Syntax.{w32, w64};
 ghost use mir.Val.{toZ};
 ghost use Rattle.big_endian.specs.Numbers.{numberAt};
-ghost use Rattle.record_parts.specs.Parts.{flag, timeBy, ordinalBy};
+ghost use Rattle.record_parts.specs.Parts.{timeBy, ordinalBy};
 ghost use Rattle.log_record.specs.Records.{keyAt, sentAt, acceptAt, countersAt, followAt, estimatesAt, observeAt, callOf};
 use big_endian::u8_at;
 use big_endian::u16_at;

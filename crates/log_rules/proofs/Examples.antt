@@ -1,6 +1,6 @@
 -- Worked examples: the bytes of a record of each kind. Assumes nothing.
 use mathlib.Core.Path.{_≡_, refl}
-use mathlib.Core.Bool.{true, false}
+use mathlib.Core.Bool.{true}
 use mathlib.Core.List.{[], _∷_}
 use lib.IntN.{pos, negsuc}
 use Rattle.estimate.specs.declared.ClockFormat.the-variants.{NTP, PTP}

@@ -1,13 +1,13 @@
 -- The record of every call keeps the rules. Assumes nothing.
-use mathlib.Core.Path.{_≡_, refl, sym, ap, ap₂, _∙_, subst}
+use mathlib.Core.Path.{_≡_, refl, sym, _∙_, subst}
 use mathlib.Core.Bool.{Bool, true, false, _&&_, _||_, not}
 use mathlib.Core.List.{List, [], _∷_}
-use Prim.Native.Nat.{ℕ, zero, suc, _-_, _+_, _≤_, _<_}
+use Prim.Native.Nat.{ℕ, zero, suc, _-_, _≤_, _<_}
 use native.Mathlib.Omega.{arith}
 use native.Mathlib.Nat.{not-suc-le-zero, eq-or-lt-of-le, le-of-suc-le-suc}
 use mathlib.Core.Logic.{_⊎_, inl, inr}
 use lib.Dec.{T, eqb, lit<}
-use lib.ListN.{length, getD, getD-replicate}
+use lib.ListN.{getD, getD-replicate}
 use borrow.Author.Tests.{eqb-false}
 use Rattle.big_endian.specs.Numbers.{base, numberAt}
 use Rattle.big_endian.specs.Fields.{Field, written}
@@ -27,7 +27,7 @@ use Rattle.calls.specs.declared.Reply.{Reply}
 use Rattle.calls.specs.declared.ReplyObservation.{ReplyObservation}
 use Rattle.calls.specs.declared.Call.{Call}
 use Rattle.calls.specs.declared.Call.the-variants as call
-use Rattle.record_parts.specs.Parts.{flag, observeFlags, pendingFlag, pendingTime, pendingTag, timeFlag, timeWord, ordinalFlag, ordinalNumber, countersFlag}
+use Rattle.record_parts.specs.Parts.{observeFlags, pendingFlag, pendingTime, pendingTag, timeFlag, timeWord, ordinalFlag, ordinalNumber, countersFlag}
 use Rattle.record_parts.specs.Parts.{senderCount, receivedCount, transmittedCount, followFlag, followSequence, followTimestamp, followTime, unknownFlag}
 use Rattle.record_parts.specs.Parts.{estimatesFlag, senderWire, reflectorWire}
 use Rattle.record_parts.proofs.Back.{pending-flag-back, FlagsBack, flags-back}

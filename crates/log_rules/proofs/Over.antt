@@ -1,5 +1,5 @@
 -- What a table writes over does not matter where its fields cover every byte. Assumes nothing.
-use mathlib.Core.Path.{_≡_, refl, sym, ap, _∙_, subst}
+use mathlib.Core.Path.{_≡_, refl, sym, _∙_, subst}
 use mathlib.Core.Bool.{Bool, true, false, _&&_, _||_}
 use mathlib.Core.List.{List, [], _∷_}
 use Prim.Native.Nat.{ℕ, zero, suc, _+_, _*_, _/_, _%_, _^_, _≤_, _<_}
@@ -12,7 +12,7 @@ use borrow.Author.Tests.{leb-true, leb-false, ltb-true, ltb-false}
 use Rattle.big_endian.specs.Numbers.{base, put}
 use Rattle.big_endian.specs.Fields.{Field, written, apartFrom, laidOut}
 use Rattle.big_endian.proofs.Laws.{put-length, byte-before, byte-behind}
-use Rattle.log_rules.proofs.Copied.{covers, covered}
+use Rattle.log_rules.proofs.Copied.{covered}
 
 twofold : (k : ℕ) → 2 ^ suc k ≡ 2 ^ k + 2 ^ k
 twofold k = pow-suc 2 k ∙ double (2 ^ k)

@@ -1,23 +1,19 @@
 -- Bytes that keep the rules are the record of the call that they say. Assumes nothing.
-use mathlib.Core.Path.{_≡_, refl, sym, ap, ap₂, _∙_, subst}
-use mathlib.Core.Bool.{Bool, true, false, _&&_, _||_, not}
-use mathlib.Core.List.{List, [], _∷_}
-use mathlib.Core.Logic.{_⊎_, inl, inr}
+use mathlib.Core.Path.{_≡_, refl, sym, ap, _∙_, subst}
+use mathlib.Core.Bool.{Bool, true, false}
+use mathlib.Core.List.{List}
 use Prim.Native.Nat.{ℕ, zero, suc, _-_, _+_, _*_, _/_, _%_, _^_, _≤_, _<_}
 use native.Mathlib.Omega.{arith}
-use lib.Dec.{T, eqb, lit<}
+use lib.Dec.{T, eqb}
 use lib.ListN.{length, getD, length-replicate}
 use mir.Syntax.{w32, w64}
-use mir.Val.{ofZ, toZ}
 use mir.ValLaws.{ofZ-toZ}
 use borrow.Author.Tests.{eqb-false}
-use Rattle.big_endian.specs.Numbers.{base, numberAt}
-use Rattle.big_endian.specs.Fields.{Field, written}
-use Rattle.estimate.specs.Wire.{bit, estimateOf, wireOf}
+use Rattle.big_endian.specs.Numbers.{numberAt}
+use Rattle.estimate.specs.Wire.{bit}
 use Rattle.estimate.specs.Make.{formatOf}
 use Rattle.estimate.specs.RoundTrip.{wire-back}
 use Rattle.calls.specs.declared.Time.{Time}
-use Rattle.calls.specs.declared.Time.the-variants as time
 use Rattle.calls.specs.declared.Call.{Call}
 use Rattle.calls.specs.declared.Call.the-variants as call
 use Rattle.record_parts.specs.Parts.{flag, observeFlags, pendingFlag, pendingTime, pendingTag, timeFlag, timeWord, ordinalFlag, ordinalNumber, countersFlag}
@@ -25,7 +21,7 @@ use Rattle.record_parts.specs.Parts.{senderCount, receivedCount, transmittedCou
 use Rattle.record_parts.specs.Parts.{estimatesFlag, senderWire, reflectorWire, formatFlag, pendingBy, timeBy, ordinalBy, countersBy, followBy, estimatesBy}
 use Rattle.log_record.specs.Records.{tableOf, blank, recordOf, callOf, sentAt, acceptAt, observeAt}
 use Rattle.log_record.proofs.Laws.{kind-0, kind-1, kind-2, kind-3, kind-other}
-use Rattle.log_record.proofs.Back.{record-length, laid-out}
+use Rattle.log_record.proofs.Back.{laid-out}
 use Rattle.log_rules.specs.Rules.{Bytes, unused, ObserveRules, Rules}
 use Rattle.log_rules.proofs.Copied.{number-lt, covered, Says, copied}
 use Rattle.log_rules.proofs.Kept.{allBelow, each-below, either, exact, blank-zero}

@@ -3,7 +3,7 @@ use mathlib.Core.Path.{_≡_, sym, ap, _∙_, subst}
 use mathlib.Core.Bool.{true}
 use mathlib.Core.List.{List}
 use Prim.Native.Nat.{ℕ}
-use Rattle.log_record.specs.Records.{recordOf, callOf, sameBytes, good}
+use Rattle.log_record.specs.Records.{callOf, sameBytes, good}
 use Rattle.log_record.proofs.Laws.{same-refl}
 use Rattle.log_record.proofs.Good.{good-is-written}
 use Rattle.log_rules.specs.Rules.{Bytes, Rules}

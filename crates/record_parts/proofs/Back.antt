@@ -1,22 +1,19 @@
 -- Each part of a call that fits is read back from its flag and its numbers, each number fits its field, and each flag is read back from the
 -- sum of them. Assumes nothing.
-use mathlib.Core.Path.{_≡_, refl, sym, ap, ap₂, _∙_}
+use mathlib.Core.Path.{_≡_, refl, ap}
 use mathlib.Core.Bool.{Bool, true, false}
-use Prim.Native.Nat.{ℕ, zero, suc, _+_, _*_, _/_, _%_, _^_, _≤_, _<_}
+use Prim.Native.Nat.{ℕ, _+_, _*_, _/_, _%_, _≤_, _<_}
 use native.Mathlib.Omega.{arith}
 use lib.Dec.{eqb, lit<}
-use lib.IntN.{ℤ}
-use mir.Syntax.{w32, w64}
-use mir.Val.{SFits, ofZ, toZ}
+use mir.Syntax.{w64}
 use mir.ValLaws.{toZ-ofZ, ofZ-fits}
-use borrow.Author.Tests.{eq-eqb, ne-eqb}
 use Rattle.estimate.specs.declared.ClockFormat.{ClockFormat}
 use Rattle.estimate.specs.declared.ClockFormat.the-variants.{NTP, PTP}
 use Rattle.estimate.specs.declared.ErrorEstimate.{ErrorEstimate}
 use Rattle.estimate.specs.declared.Estimates.{Estimates}
 use Rattle.estimate.specs.declared.Estimates.the-variants as estimates
 use Rattle.estimate.specs.Make.{isPtp, formatOf}
-use Rattle.estimate.specs.Wire.{bit, estimateOf, wireOf}
+use Rattle.estimate.specs.Wire.{bit, wireOf}
 use Rattle.estimate.specs.RoundTrip.{estimate-back}
 use Rattle.calls.specs.declared.Time.{Time}
 use Rattle.calls.specs.declared.Time.the-variants as time

@@ -1,5 +1,5 @@
 -- `link_log::check` meets its contract. Assumes nothing.
-use mathlib.Core.Path.{sym, ap, _∙_}
+use mathlib.Core.Path.{sym, _∙_}
 use Rattle.link_log.proofs.Laws.{trailer-facts, settings-within, log-too-long, log-bad-trailer, log-by-records}
 use borrow.Author.Needs.{needs}
 use Rattle.link_log.proofs.check.Statement.{statement}

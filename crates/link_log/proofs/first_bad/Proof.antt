@@ -10,9 +10,6 @@ use Rattle.link_log.specs.Logs.{firstBad}
 use Rattle.link_log.proofs.Laws.{bad-begin, bad-step, bad-stop, bad-end}
 use Rattle.link_log.proofs.first_bad.Statement.{statement}
 use Rattle.link_log.proofs.first_bad.Tie as tie
-use Rattle.link_log.proofs.first_bad.Reads as reads
-use Rattle.link_log.proofs.first_bad.Lts as lts
-use Rattle.link_log.proofs.good_at.Reads as good-at-reads
 
 abbrev Inv-loop : tie.InvT-loop
 Inv-loop log start count i₀ at₀ i at = (i ≤ count) × (at ≡ start + 96 * i) × (firstBad log start 0 count ≡ firstBad log start i (count - i))

@@ -1,9 +1,7 @@
 -- `link_log::good_at` meets its contract. Assumes nothing.
 use mathlib.Core.Path.{ap}
-use mathlib.Core.List.{List}
-use Prim.Native.Nat.{ℕ}
 use native.Mathlib.Omega.{arith}
-use lib.ListN.{length, take, drop, length-take, length-drop}
+use lib.ListN.{take, drop, length-take, length-drop}
 use Rattle.link_log.proofs.Laws.{isGood, good-of-read}
 use borrow.Author.Needs.{needs}
 use Rattle.link_log.proofs.good_at.Statement.{statement}

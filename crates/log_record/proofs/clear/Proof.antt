@@ -9,8 +9,6 @@ use Rattle.log_record.proofs.Laws.{filled}
 use borrow.Author.Needs.{needs}
 use Rattle.log_record.proofs.clear.Statement.{statement}
 use Rattle.log_record.proofs.clear.Tie as tie
-use Rattle.log_record.proofs.clear.Reads as reads
-use Rattle.log_record.proofs.clear.Lts as lts
 
 abbrev Inv-loop : tie.InvT-loop
 Inv-loop bytes₀ i₀ bytes i = (i ≤ 96) × (length bytes ≡ 96) × (bytes ≡ replicate i 0 ++ drop i bytes₀)

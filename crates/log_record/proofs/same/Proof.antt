@@ -8,8 +8,6 @@ use Rattle.log_record.proofs.Laws.{same-step, same-stop, same-end}
 use borrow.Author.Needs.{needs}
 use Rattle.log_record.proofs.same.Statement.{statement}
 use Rattle.log_record.proofs.same.Tie as tie
-use Rattle.log_record.proofs.same.Reads as reads
-use Rattle.log_record.proofs.same.Lts as lts
 
 abbrev Inv-loop : tie.InvT-loop
 Inv-loop a b i₀ i = (i ≤ 96) × (sameBytes a b ≡ sameBytes (drop i a) (drop i b))
