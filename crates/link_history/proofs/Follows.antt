@@ -1,7 +1,7 @@
 -- From a link made fresh over any rooms of the right size, after any calls, refused ones included: all that the ledger and its rooms hold follows
 -- from the served calls alone.
 -- Assumes nothing.
-use mathlib.Core.Path.{_≡_, refl, sym, ap, _∙_}
+use mathlib.Core.Path.{_≡_, refl, ap, _∙_}
 use mathlib.Core.Bool.{Bool, true, false, cond}
 use mathlib.Core.List.{List, [], _∷_}
 use Prim.Native.Nat.{ℕ, suc, _+_, _^_, _<_}

@@ -3,6 +3,7 @@ pub mod Follows
 pub mod Shows
 pub mod Unchanged
 pub mod Monitor
-pub mod Link
+pub mod Watched
 pub mod Refused
+pub mod Link
 pub mod Sentences

@@ -1,119 +1,60 @@
--- A link made fresh, after any calls, refused ones included: what its monitor shows, and which call is refused, follow from the served calls; and so
--- the served calls follow from those that were made.
+-- THE THEOREM OF CONDITION 3, of a link made fresh over any rooms of the right size, after any calls, refused ones included.
 -- Assumes nothing.
-use mathlib.Core.Path.{_≡_, refl, sym, ap, _∙_, subst}
-use mathlib.Core.Bool.{Bool, true, false, _&&_}
+use mathlib.Core.Path.{_≡_, refl, sym, ap, _∙_}
 use mathlib.Core.List.{List, [], _∷_}
-use Prim.Native.Nat.{ℕ, zero, suc, _^_, _<_}
+use Prim.Native.Nat.{ℕ, zero, suc, _+_}
 use native.Mathlib.Omega.{arith}
-use lib.Dec.{ltb}
 use lib.ListN.{length}
-use Rattle.scope.specs.Limits.{capacity, mostCalls}
-use Rattle.calls.specs.declared.SentProbe.{SentProbe}
-use Rattle.calls.specs.declared.Reply.{Reply}
-use Rattle.calls.specs.declared.ReplyObservation.{ReplyObservation}
+use Rattle.scope.specs.Refusals.{wrongRoom, queueFull}
 use Rattle.calls.specs.declared.Call.{Call}
-use Rattle.calls.specs.declared.Call.the-variants.{Sent, Accept, Observe, Advance, Idle}
-use Rattle.probe_queue.specs.declared.Probe.{Probe}
-use Rattle.monitor_model.specs.Plain.{Plain, refusal, sentRefusal}
-use Rattle.monitor_model.proofs.Following.{same-refusal, same-sent-refusal}
-use Rattle.monitor.specs.Refusals as monitor
-use Rattle.ranges.specs.Ranges.{inRange}
 use Rattle.history.specs.Ledger.{copiesOf}
-use Rattle.ledger_state.specs.declared.Counts.{Counts}
-use Rattle.ledger_state.specs.Refusal.{firstRefusal, countsFit, sized, ringsFit, roomForCall}
-use Rattle.ledger_steps.specs.declared.AcceptAnswer.{AcceptAnswer}
-use Rattle.ledger_steps.specs.Refusals.{earlier, awaitsKey, refusalOfSent, refusalOfAccept, refusalOfObserve}
-use Rattle.ledger_steps.specs.Sent.{SentOutcome, sentOn}
-use Rattle.ledger_steps.specs.Accept.{AcceptOutcome, acceptOn}
-use Rattle.ledger_steps.specs.Observe.{ObserveOutcome, observeOn}
-use Rattle.ledger_steps.specs.Calls.{AcceptResult, number, acceptNumber, sentBy, acceptBy, observeBy, sentTo, acceptTo, observeTo}
-use Rattle.reply_history.specs.Fits.{KeyFits}
-use Rattle.link_steps.specs.declared.Watch.{Watch}
-use Rattle.link_steps.specs.declared.Watch.the-variants.{Absent, Present}
-use Rattle.link_steps.specs.Steps.{Standing, watchRefusesSent, watchRefuses, watchSent, watchReply, wasUnique, sentLeaves, acceptResult, refuses, after, played, keptIf, served}
-use Rattle.link_history.specs.Fresh.{Watching, alone, watching, Making, MakingFits, freshLink, wordsIn, standOf, Fits, AllFits}
-use Rattle.link_history.specs.Shows.{callsIn, countsFrom, awaitsFrom, acceptedFrom, LedgerShows}
-use Rattle.link_history.specs.Monitor.{monitorFrom, WatchShows}
-use Rattle.link_history.specs.Refused.{roomFrom, ledgerRefuses, monitorRefusesSent, monitorRefuses, refusesFrom, servedFrom}
-use Rattle.link_history.proofs.Calls.{served-fit}
-use Rattle.link_history.proofs.Follows.{Follow, copies-fit, calls-fit, link-follows}
-use Rattle.link_history.proofs.Shows.{both-hold, keys-sized, slots-sized, probes-sized, offsets-sized, links-sized, rings-fit, counts-are, awaits-is, accepted-is, link-shows}
-use Rattle.link_history.proofs.Unchanged.{refused-changes-nothing}
-use Rattle.link_history.proofs.Monitor.{WatchFollows, watch-fresh, watch-sent, watch-accept, watch-observe, watch-advance, watch-idle, watch-shown, watch-serves-sent, watch-serves}
-
--- ---- the monitor, by one call of the link that is served
-
-module _ (v : Watching) (copies : ℕ) (h : List Call) (k : Standing) (shows : LedgerShows copies h k) (f : WatchFollows v h (k .link .watch) (k .queue)) where
-  -- what a call leaves of it
-  abbrev Left : Call → Standing → Type 0
-  Left c x = WatchFollows v (c ∷ h) (x .link .watch) (x .queue)
-
-  sent-left : (s : SentProbe) → refuses k (Sent s) ≡ 0 → Left (Sent s) (after k (Sent s))
-  unfolding refuses after sentTo refusalOfSent
-  sent-left s = go (refusalOfSent other (k .link .ledger) (length (k .rooms .probes)) (length (k .rooms .links))) refl
-    where
-      other : ℕ
-      other = watchRefusesSent (k .link .watch) (length (k .queue)) s
-
-      o : SentOutcome
-      o = sentOn (k .link .ledger) (k .rooms .probes) (k .rooms .links) s
-
-      go : (n : ℕ) → refusalOfSent other (k .link .ledger) (length (k .rooms .probes)) (length (k .rooms .links)) ≡ n
-          → number (sentBy n o (k .rooms .probes) (k .rooms .links) .answer) ≡ 0 → Left (Sent s) (sentLeaves k s (sentBy n o (k .rooms .probes) (k .rooms .links)))
-      go zero e z = watch-sent h v (k .link .watch) (k .queue) s (watch-serves-sent _ (k .link .watch) (length (k .queue)) s e) f
-      go (suc n) e z = absurd (omega (arith, z))
-
-  -- the monitor serves what the link serves
-  accept-other : (a : Reply) → refuses k (Accept a) ≡ 0 → watchRefuses (k .link .watch) (length (k .queue)) ≡ 0
-  unfolding refuses acceptTo refusalOfAccept
-  accept-other a = go (refusalOfAccept other (k .link .ledger) (length (k .rooms .keys)) (length (k .rooms .slots)) (length (k .rooms .probes)) (length (k .rooms .links))) refl
-    where
-      other : ℕ
-      other = watchRefuses (k .link .watch) (length (k .queue))
-
-      o : AcceptOutcome
-      o = acceptOn (k .link .ledger) (k .rooms .keys) (k .rooms .slots) (k .rooms .probes) (k .rooms .links) a
-
-      go : (n : ℕ) → refusalOfAccept other (k .link .ledger) (length (k .rooms .keys)) (length (k .rooms .slots)) (length (k .rooms .probes)) (length (k .rooms .links)) ≡ n
-          → acceptNumber (acceptBy n o (k .rooms .keys) (k .rooms .slots) (k .rooms .probes) (k .rooms .links) .answer) ≡ 0 → other ≡ 0
-      go zero e z = watch-serves _ (k .link .watch) (length (k .queue)) e
-      go (suc n) e z = absurd (omega (arith, z))
-
-  accept-left : (a : Reply) → KeyFits (a .key) → refuses k (Accept a) ≡ 0 → Left (Accept a) (after k (Accept a))
-  unfolding after
-  accept-left a fits e =
-      subst (λ (x : AcceptAnswer). WatchFollows v (Accept a ∷ h) (watchReply (wasUnique x) (k .link .watch) (k .queue) a .watch) (watchReply (wasUnique x) (k .link .watch) (k .queue) a .queue))
-      (sym (shows .accepted a fits e))
-      (watch-accept h v (k .link .watch) (k .queue) a (accept-other a e) f)
-
-  pub watch-left : (c : Call) → Fits c → refuses k c ≡ 0 → Left c (after k c)
-  unfolding refuses after
-  watch-left (Sent s) fits e = sent-left s e
-  watch-left (Accept a) fits e = accept-left a (fits .0) e
-  watch-left (Observe o) fits e = watch-observe h v (k .link .watch) (k .queue) o f
-  watch-left (Advance t) fits e = watch-advance h v (k .link .watch) (k .queue) t e f
-  watch-left Idle fits e = watch-idle h v (k .link .watch) (k .queue) e f
-
--- ---- any calls
+use Rattle.link_steps.specs.Steps.{Standing, refuses, played, keptIf, served, oneIf, turnedAway}
+use Rattle.link_history.specs.Fresh.{Making, MakingFits, freshLink, wordsIn, AllFits}
+use Rattle.link_history.specs.Link.{refusesFrom, servedFrom, QueueFull, LinkShows}
+use Rattle.link_history.proofs.Follows.{link-follows}
+use Rattle.link_history.proofs.Shows.{ledger-follows}
+use Rattle.link_history.proofs.Watched.{watch-follows, watch-shows}
+use Rattle.link_history.proofs.Refused.{refuses-is, from-five, three-full}
 
 module _ (m : Making) (ok : MakingFits m) where
   abbrev k₀ : Standing
   k₀ = freshLink m
 
-  pub watch-follows : (cs : List Call) → AllFits cs → WatchFollows (m .monitor) (served k₀ cs) (played k₀ cs .link .watch) (played k₀ cs .queue)
-  unfolding played served AllFits
-  watch-follows [] w = watch-fresh (m .monitor) (m .queue) (ok .queue-fits)
-  watch-follows (c ∷ cs) w = go (refuses k c) refl (watch-follows cs (w .1))
-    where
-      k : Standing
-      k = played k₀ cs
+  -- the refusal of each call to come
+  pub refusals-follow : (cs : List Call) → AllFits cs → (c : Call) → refuses (played k₀ cs) c ≡ refusesFrom (copiesOf (m .copies)) (m .monitor) (served k₀ cs) c
+  refusals-follow cs w c = refuses-is (m .monitor) (wordsIn m) (copiesOf (m .copies)) (served k₀ cs) (played k₀ cs) (link-follows m ok cs w) (watch-follows m ok cs w) c
 
-      go : (n : ℕ) → refuses k c ≡ n → WatchFollows (m .monitor) (served k₀ cs) (k .link .watch) (k .queue)
-          → WatchFollows (m .monitor) (keptIf n c (served k₀ cs)) (after k c .link .watch) (after k c .queue)
-      go zero e f = watch-left (m .monitor) (copiesOf (m .copies)) (served k₀ cs) k (link-shows m ok cs (w .1)) f c (w .0) e
-      go (suc n) e f = rw (refused-changes-nothing k c n e) f
+  -- THE THEOREM. Whatever the rooms held, whatever was called and whatever was refused, each call given what the last one left: what the code's states
+  -- and rooms show is what the served calls call for, by the plain definitions of crate history and of monitor_model.
+  pub link-shows : (cs : List Call) → AllFits cs → LinkShows (copiesOf (m .copies)) (m .monitor) (served k₀ cs) (played k₀ cs)
+  link-shows cs w = record {
+    ledger = ledger-follows m ok cs w;
+    monitor = watch-shows m ok cs w;
+    refusals = refusals-follow cs w;
+  }
 
-  -- WHATEVER ITS ROOM HELD, WHATEVER WAS CALLED AND WHATEVER WAS REFUSED: what the monitor shows follows from the served calls.
-  pub watch-shows : (cs : List Call) → AllFits cs → WatchShows (m .monitor) (served k₀ cs) (played k₀ cs .link .watch) (played k₀ cs .queue)
-  watch-shows cs w = watch-shown (m .monitor) (served k₀ cs) (played k₀ cs .link .watch) (played k₀ cs .queue) (watch-follows cs w)
+  -- THE SERVED CALLS FOLLOW FROM THOSE THAT WERE MADE.
+  pub served-is : (cs : List Call) → AllFits cs → served k₀ cs ≡ servedFrom (copiesOf (m .copies)) (m .monitor) cs
+  unfolding served servedFrom AllFits
+  served-is [] w = refl
+  served-is (c ∷ cs) w =
+      ap (λ (n : ℕ). keptIf n c (served k₀ cs)) (refusals-follow cs (w .1) c)
+      ∙ ap (λ (h : List Call). keptIf (refusesFrom (copiesOf (m .copies)) (m .monitor) h c) c h) (served-is cs (w .1))
+
+  -- over rooms of the right size refusal 5 never happens
+  pub never-misplaced : (cs : List Call) → AllFits cs → (c : Call) → refuses (played k₀ cs) c ≡ wrongRoom → ⊥
+  never-misplaced cs w c e = from-five (copiesOf (m .copies)) (m .monitor) (served k₀ cs) c (sym (refusals-follow cs w c) ∙ e)
+
+  -- refusal 3 happens only where 4,096 probes are queued
+  pub three-only-full : (cs : List Call) → AllFits cs → (c : Call) → refuses (played k₀ cs) c ≡ queueFull → QueueFull (m .monitor) (served k₀ cs)
+  three-only-full cs w c e = three-full (copiesOf (m .copies)) (m .monitor) (served k₀ cs) c (sym (refusals-follow cs w c) ∙ e)
+
+-- each call that was made was served or turned away
+pub turned-away-adds-up : (k : Standing) (cs : List Call) → length (served k cs) + turnedAway k cs ≡ length cs
+unfolding served turnedAway
+turned-away-adds-up k [] = refl
+turned-away-adds-up k (c ∷ cs) = go (refuses (played k cs) c) (turned-away-adds-up k cs)
+  where
+    go : (n : ℕ) → length (served k cs) + turnedAway k cs ≡ length cs → length (keptIf n c (served k cs)) + oneIf n (turnedAway k cs) ≡ suc (length cs)
+    go zero e = omega (arith, e)
+    go (suc n) e = omega (arith, e)

@@ -22,10 +22,10 @@ use Rattle.monitor.specs.Refusals.{misplaced, passing, counted, crowded, refusa
 use Rattle.monitor.specs.Operations as monitor
 use Rattle.monitor.specs.Operations.{sentIf, replyIf, advanceIf, idleOn}
 use Rattle.monitor.specs.Answers.{answered, sentTo, replyTo, advanceTo, idleTo}
-use Rattle.monitor_model.specs.Plain.{Marks, Plain, sent, reply, advance, idle}
+use Rattle.monitor_model.specs.Plain.{Marks, Plain, sent, reply, advance, idle, deadline}
 use Rattle.monitor_model.specs.Playing.{sending, replying, advancing, idling, playPlain, playRing, keep}
 use Rattle.monitor_model.proofs.Standing.{seen, Kept, Next}
-use Rattle.monitor_model.proofs.Following.{same-refusal, same-sent-refusal, agrees}
+use Rattle.monitor_model.proofs.Following.{same-refusal, same-sent-refusal, same-deadline, agrees}
 use Rattle.monitor_model.proofs.Model.{begins}
 use Rattle.ledger_checks.proofs.Order.{earlier-none}
 use Rattle.history.specs.Given.{packetOf}
@@ -203,11 +203,14 @@ watch-shown alone h Absent queue f = tt
 watch-shown alone h (Present m) queue f = f
 watch-shown (watching threshold timeout) h Absent queue f = f
 watch-shown (watching threshold timeout) h (Present m) queue f = record {
-  summary = sym (ap (λ (r : Plain). r .summary) (f .1 .0));
-  timeout = sym (ap (λ (r : Plain). r .timeout) (f .1 .0));
-  transmitting = sym (ap (λ (r : Plain). r .transmitting) (f .1 .0));
-  probes = sym (ap (λ (r : Plain). r .probes) (f .1 .0));
-  received = λ s. f .1 .1 .received s ∙ sym (ap (λ (r : Plain). r .received s) (f .1 .0));
+  state = record {
+    summary = sym (ap (λ (r : Plain). r .summary) (f .1 .0));
+    timeout = sym (ap (λ (r : Plain). r .timeout) (f .1 .0));
+    transmitting = sym (ap (λ (r : Plain). r .transmitting) (f .1 .0));
+    probes = sym (ap (λ (r : Plain). r .probes) (f .1 .0));
+    received = λ s. f .1 .1 .received s ∙ sym (ap (λ (r : Plain). r .received s) (f .1 .0));
+  };
+  deadline-is = same-deadline (record { monitor = m; room = queue }) (f .0) (f .1 .1) ∙ ap (λ (r : Plain). deadline (r .probes)) (sym (f .1 .0));
 }
 
 -- ---- a call of the link that is served is served by the monitor too

@@ -1,8 +1,8 @@
--- Which call is refused, and with which number, follows from the served calls: and so the served calls follow from those that were made.
+-- Which call is refused, and with which number, follows from the served calls; and which refusals a link made fresh can meet.
 -- Assumes nothing.
 use mathlib.Core.Path.{_≡_, refl, sym, ap, _∙_}
 use mathlib.Core.Bool.{Bool, true, false, _&&_}
-use mathlib.Core.List.{List, [], _∷_}
+use mathlib.Core.List.{List}
 use Prim.Native.Nat.{ℕ, zero, suc, _+_, _^_}
 use native.Mathlib.Omega.{arith}
 use lib.Dec.{ltb, leb}
@@ -21,7 +21,6 @@ use Rattle.monitor.specs.Refusals as monitor
 use Rattle.monitor_model.specs.Plain.{Plain, refusal, sentRefusal}
 use Rattle.monitor_model.proofs.Following.{same-refusal, same-sent-refusal}
 use Rattle.ranges.specs.Ranges.{inRange}
-use Rattle.history.specs.Ledger.{copiesOf}
 use Rattle.ledger_state.specs.declared.Counts.{Counts}
 use Rattle.ledger_state.specs.declared.Ledger.{Ledger}
 use Rattle.ledger_state.specs.Refusal.{firstRefusal, countsFit, roomForCall}
@@ -32,15 +31,14 @@ use Rattle.ledger_steps.specs.Observe.{ObserveOutcome}
 use Rattle.ledger_steps.specs.Calls.{number, acceptNumber, sentBy, acceptBy, observeBy, sentTo, acceptTo, observeTo}
 use Rattle.link_steps.specs.declared.Watch.{Watch}
 use Rattle.link_steps.specs.declared.Watch.the-variants.{Absent, Present}
-use Rattle.link_steps.specs.Steps.{Standing, watchRefusesSent, watchRefuses, refuses, played, keptIf, served}
-use Rattle.link_history.specs.Fresh.{Watching, alone, watching, Making, MakingFits, freshLink, wordsIn, standOf, AllFits}
-use Rattle.link_history.specs.Shows.{callsIn, countsFrom, awaitsFrom}
+use Rattle.link_steps.specs.Steps.{Standing, watchRefusesSent, watchRefuses, refuses}
+use Rattle.link_history.specs.Fresh.{Watching, alone, watching, standOf}
+use Rattle.link_history.specs.Shows.{callsIn, awaitsFrom}
 use Rattle.link_history.specs.Monitor.{monitorFrom}
-use Rattle.link_history.specs.Refused.{roomFrom, ledgerRefuses, monitorRefusesSent, monitorRefuses, refusesFrom, servedFrom, QueueFull}
-use Rattle.link_history.proofs.Follows.{Follow, link-follows}
+use Rattle.link_history.specs.Link.{roomFrom, ledgerRefuses, monitorRefusesSent, monitorRefuses, refusesFrom, QueueFull}
+use Rattle.link_history.proofs.Follows.{Follow}
 use Rattle.link_history.proofs.Shows.{both-hold, keys-sized, slots-sized, probes-sized, offsets-sized, links-sized, rings-fit, counts-are, awaits-is}
 use Rattle.link_history.proofs.Monitor.{WatchFollows}
-use Rattle.link_history.proofs.Link.{watch-follows}
 
 -- ---- the number of an answer is the refusal's
 
@@ -184,7 +182,7 @@ counted-three true e = omega (arith, e)
 counted-three false e = omega (arith, e)
 
 module _ (copies : ℕ) (v : Watching) (h : List Call) where
-  from-five : (c : Call) → refusesFrom copies v h c ≡ wrongRoom → ⊥
+  pub from-five : (c : Call) → refusesFrom copies v h c ≡ wrongRoom → ⊥
   from-five = by v
     where
       by : (x : Watching) (c : Call) → refusesFrom copies x h c ≡ wrongRoom → ⊥
@@ -201,7 +199,7 @@ module _ (copies : ℕ) (v : Watching) (h : List Call) where
       by (watching threshold timeout) (Advance t) e = counted-five (monitor.counted (monitorFrom threshold timeout h .summary)) e
       by (watching threshold timeout) Idle e = counted-five (monitor.counted (monitorFrom threshold timeout h .summary)) e
 
-  three-full : (c : Call) → refusesFrom copies v h c ≡ queueFull → QueueFull v h
+  pub three-full : (c : Call) → refusesFrom copies v h c ≡ queueFull → QueueFull v h
   three-full = by v
     where
       second : (a b : Bool) → (a && b) ≡ true → b ≡ true
@@ -223,29 +221,3 @@ module _ (copies : ℕ) (v : Watching) (h : List Call) where
       by (watching threshold timeout) (Observe o) e = absurd (observe-three (inRange o) (roomFrom copies h) (awaitsFrom h (o .key)) e)
       by (watching threshold timeout) (Advance t) e = absurd (counted-three (monitor.counted (monitorFrom threshold timeout h .summary)) e)
       by (watching threshold timeout) Idle e = absurd (counted-three (monitor.counted (monitorFrom threshold timeout h .summary)) e)
-
--- ---- from fresh, after any calls
-
-module _ (m : Making) (ok : MakingFits m) where
-  abbrev k₀ : Standing
-  k₀ = freshLink m
-
-  -- WHICH CALL IS REFUSED, AND WITH WHICH NUMBER, FOLLOWS FROM THE SERVED CALLS.
-  pub refusals-follow : (cs : List Call) → AllFits cs → (c : Call) → refuses (played k₀ cs) c ≡ refusesFrom (copiesOf (m .copies)) (m .monitor) (served k₀ cs) c
-  refusals-follow cs w c = refuses-is (m .monitor) (wordsIn m) (copiesOf (m .copies)) (served k₀ cs) (played k₀ cs) (link-follows m ok cs w) (watch-follows m ok cs w) c
-
-  -- THE SERVED CALLS FOLLOW FROM THOSE THAT WERE MADE.
-  pub served-is : (cs : List Call) → AllFits cs → served k₀ cs ≡ servedFrom (copiesOf (m .copies)) (m .monitor) cs
-  unfolding served servedFrom AllFits
-  served-is [] w = refl
-  served-is (c ∷ cs) w =
-      ap (λ (n : ℕ). keptIf n c (served k₀ cs)) (refusals-follow cs (w .1) c)
-      ∙ ap (λ (h : List Call). keptIf (refusesFrom (copiesOf (m .copies)) (m .monitor) h c) c h) (served-is cs (w .1))
-
-  -- over rooms of the right size refusal 5 never happens
-  pub never-misplaced : (cs : List Call) → AllFits cs → (c : Call) → refuses (played k₀ cs) c ≡ wrongRoom → ⊥
-  never-misplaced cs w c e = from-five (copiesOf (m .copies)) (m .monitor) (served k₀ cs) c (sym (refusals-follow cs w c) ∙ e)
-
-  -- refusal 3 happens only where 4,096 probes are queued
-  pub three-only-full : (cs : List Call) → AllFits cs → (c : Call) → refuses (played k₀ cs) c ≡ queueFull → QueueFull (m .monitor) (served k₀ cs)
-  three-only-full cs w c e = three-full (copiesOf (m .copies)) (m .monitor) (served k₀ cs) c (sym (refusals-follow cs w c) ∙ e)

@@ -4,14 +4,12 @@
 use mathlib.Core.Path.{_≡_, refl, sym, ap, _∙_}
 use mathlib.Core.Bool.{Bool, true, false, cond}
 use mathlib.Core.Logic.{_↔_}
-use mathlib.Core.List.{List, [], List·Memᴰ}
-use mathlib.Core.Option.{Option, none, some}
-use Prim.Native.Nat.{ℕ, suc, _+_, _≤_}
+use mathlib.Core.List.{List, List·Memᴰ}
+use Prim.Native.Nat.{ℕ, _+_, _≤_}
 use native.Mathlib.Omega.{arith}
 use lib.Dec.{eqb}
 use lib.ListN.{length}
 use Rattle.scope.specs.Limits.{capacity}
-use Rattle.calls.specs.declared.ReplyKey.{ReplyKey}
 use Rattle.calls.specs.declared.Reply.{Reply}
 use Rattle.calls.specs.declared.Call.{Call}
 use Rattle.calls.specs.declared.Call.the-variants.{Accept}
@@ -41,9 +39,9 @@ use Rattle.observe_history.specs.FollowUps.{slotHeld}
 use Rattle.observe_history.proofs.DirectShown.{reverse-shows}
 use Rattle.link_steps.specs.Steps.{Standing, acceptResult, refuses, after, played, served}
 use Rattle.link_history.specs.Fresh.{Making, MakingFits, freshLink, wordsIn, standOf, AllFits}
-use Rattle.link_history.specs.Shows.{acceptedFrom, LedgerShows}
+use Rattle.link_history.specs.Shows.{LedgerShows}
 use Rattle.link_history.proofs.Follows.{Follow, link-follows}
-use Rattle.link_history.proofs.Shows.{link-shows}
+use Rattle.link_history.proofs.Shows.{ledger-follows}
 
 -- a test of the answer
 abbrev saysDuplicate : AcceptAnswer → Bool
@@ -61,7 +59,7 @@ module _ (m : Making) (ok : MakingFits m) (cs : List Call) (w : AllFits cs) wher
   h = served (freshLink m) cs
 
   abbrev shows : LedgerShows (copiesOf (m .copies)) h k
-  shows = link-shows m ok cs w
+  shows = ledger-follows m ok cs w
 
   -- what `snapshot` shows
   abbrev shown : Snapshot
@@ -150,6 +148,12 @@ module _ (m : Making) (ok : MakingFits m) (cs : List Call) (w : AllFits cs) wher
   unfolding rowsOf
   slots-count-few r =
       let size : length (rowsOf capacity table) ≡ table .ring .len = length-contents capacity (rowAt (table .keys) (table .slots)) (table .ring .head) (table .ring .len) in
-      omega (arith, slot-count (cond (eqb (countOf (wordsOf (rowsOf capacity table) r)) 0) noSlot (wordsOf (rowsOf capacity table) r)),
-      taken-at-most (wordsOf (rowsOf capacity table) r) (eqb (countOf (wordsOf (rowsOf capacity table) r)) 0),
-      follow .observes .follow-ups .slots .counted r, observed-at-most (rowsOf capacity table) r, size, follow .replies .keys-sound .ring-fits .len-in)
+      omega (
+        arith,
+        slot-count (cond (eqb (countOf (wordsOf (rowsOf capacity table) r)) 0) noSlot (wordsOf (rowsOf capacity table) r)),
+        taken-at-most (wordsOf (rowsOf capacity table) r) (eqb (countOf (wordsOf (rowsOf capacity table) r)) 0),
+        follow .observes .follow-ups .slots .counted r,
+        observed-at-most (rowsOf capacity table) r,
+        size,
+        follow .replies .keys-sound .ring-fits .len-in,
+      )

@@ -1,6 +1,6 @@
 -- From a link made fresh, after any calls, refused ones included: what the code's state and rooms show is what the served calls call for.
 -- Assumes nothing.
-use mathlib.Core.Path.{_≡_, refl, sym, ap, _∙_, subst}
+use mathlib.Core.Path.{_≡_, sym, ap, _∙_, subst}
 use mathlib.Core.Bool.{Bool, true, _&&_}
 use mathlib.Core.List.{List}
 use Prim.Native.Nat.{ℕ, zero, suc, _^_, _<_}
@@ -174,9 +174,8 @@ module _ (words : List ℕ) (copies : ℕ) (h : List Call) (k : Standing) (f : F
       accepted = accepted-is;
     }
 
--- THE THEOREM. Whatever the rooms held, whatever was called and whatever was refused, each call given what the last one left: what the code's state
--- and rooms show is what the served calls call for, by the plain definitions of crate history.
-pub link-shows : (m : Making) → MakingFits m → (cs : List Call) → AllFits cs → LedgerShows (copiesOf (m .copies)) (served (freshLink m) cs) (played (freshLink m) cs)
-link-shows m ok cs w =
+-- Whatever the rooms held, whatever was called and whatever was refused: what the ledger shows is what the served calls call for.
+pub ledger-follows : (m : Making) → MakingFits m → (cs : List Call) → AllFits cs → LedgerShows (copiesOf (m .copies)) (served (freshLink m) cs) (played (freshLink m) cs)
+ledger-follows m ok cs w =
     ledger-shows (wordsIn m) (copiesOf (m .copies)) (served (freshLink m) cs) (played (freshLink m) cs) (link-follows m ok cs w)
     (copies-fit (m .copies) (ok .copies-in)) (calls-fit (served (freshLink m) cs) (served-fit (freshLink m) cs w))

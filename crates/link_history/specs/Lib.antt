@@ -1,4 +1,4 @@
 pub mod Fresh
 pub mod Shows
 pub mod Monitor
-pub mod Refused
+pub mod Link

@@ -1,6 +1,7 @@
 -- Which calls are refused, from the plain list h of those served before: so the served calls themselves follow from the calls that were made.
 -- Refusal 5 does not appear: a link made over rooms of the right size never meets it.
 -- Assumes nothing.
+use mathlib.Core.Path.{_≡_}
 use mathlib.Core.Bool.{Bool, true, _&&_}
 use mathlib.Core.List.{List, [], _∷_}
 use Prim.Native.Nat.{ℕ, _≤_}
@@ -13,10 +14,10 @@ use Rattle.ranges.specs.Ranges.{inRange}
 use Rattle.monitor_model.specs.Plain.{refusal, sentRefusal}
 use Rattle.ledger_state.specs.Refusal.{firstRefusal, countsFit}
 use Rattle.ledger_steps.specs.Refusals.{earlier}
-use Rattle.link_steps.specs.Steps.{keptIf}
+use Rattle.link_steps.specs.Steps.{Standing, refuses, keptIf}
 use Rattle.link_history.specs.Fresh.{Watching, alone, watching}
-use Rattle.link_history.specs.Shows.{countsFrom, callsIn, awaitsFrom}
-use Rattle.link_history.specs.Monitor.{monitorFrom}
+use Rattle.link_history.specs.Shows.{countsFrom, callsIn, awaitsFrom, LedgerShows}
+use Rattle.link_history.specs.Monitor.{monitorFrom, WatchShows}
 
 -- 4 does not hold: fewer than 4,294,967,295 calls were served, and every count and sum is below its bound
 abbrev pub roomFrom : (copies : ℕ) → List Call → Bool
@@ -52,3 +53,11 @@ servedFrom copies v (c ∷ cs) = keptIf (refusesFrom copies v (servedFrom copies
 abbrev pub QueueFull : Watching → List Call → Type 0
 QueueFull alone h = ⊥
 QueueFull (watching threshold timeout) h = capacity ≤ length (monitorFrom threshold timeout h .probes)
+
+-- ---- the whole
+
+-- WHAT A LINK SHOWS FOLLOWS FROM ITS SERVED CALLS h: the ledger's counts and answers, the monitor, and the refusal of each call to come.
+pub record LinkShows (copies : ℕ) (v : Watching) (h : List Call) (k : Standing) : Type 0 where
+  pub ledger : LedgerShows copies h k
+  pub monitor : WatchShows v h (k .link .watch) (k .queue)
+  pub refusals : (c : Call) → refuses k c ≡ refusesFrom copies v h c
