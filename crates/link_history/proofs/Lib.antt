@@ -7,3 +7,4 @@ pub mod Watched
 pub mod Refused
 pub mod Link
 pub mod Sentences
+pub mod Examples

@@ -1,6 +1,6 @@
 -- THE THEOREM OF CONDITION 3, of a link made fresh over any rooms of the right size, after any calls, refused ones included.
 -- Assumes nothing.
-use mathlib.Core.Path.{_≡_, refl, sym, ap, _∙_}
+use mathlib.Core.Path.{_≡_, refl, sym, ap, _∙_, subst}
 use mathlib.Core.List.{List, [], _∷_}
 use Prim.Native.Nat.{ℕ, zero, suc, _+_}
 use native.Mathlib.Omega.{arith}
@@ -40,6 +40,10 @@ module _ (m : Making) (ok : MakingFits m) where
   served-is (c ∷ cs) w =
       ap (λ (n : ℕ). keptIf n c (served k₀ cs)) (refusals-follow cs (w .1) c)
       ∙ ap (λ (h : List Call). keptIf (refusesFrom (copiesOf (m .copies)) (m .monitor) h c) c h) (served-is cs (w .1))
+
+  -- so all that a link shows is a plain function of the calls that were made
+  pub made-calls-show : (cs : List Call) → AllFits cs → LinkShows (copiesOf (m .copies)) (m .monitor) (servedFrom (copiesOf (m .copies)) (m .monitor) cs) (played k₀ cs)
+  made-calls-show cs w = subst (λ (h : List Call). LinkShows (copiesOf (m .copies)) (m .monitor) h (played k₀ cs)) (served-is cs w) (link-shows cs w)
 
   -- over rooms of the right size refusal 5 never happens
   pub never-misplaced : (cs : List Call) → AllFits cs → (c : Call) → refuses (played k₀ cs) c ≡ wrongRoom → ⊥

@@ -4,11 +4,11 @@
 use mathlib.Core.Path.{_≡_, refl, sym, ap, _∙_}
 use mathlib.Core.Bool.{Bool, true, false, cond}
 use mathlib.Core.Logic.{_↔_}
-use mathlib.Core.List.{List, List·Memᴰ}
+use mathlib.Core.List.{List, [], List·Memᴰ}
 use Prim.Native.Nat.{ℕ, _+_, _≤_}
 use native.Mathlib.Omega.{arith}
 use lib.Dec.{eqb}
-use lib.ListN.{length}
+use lib.ListN.{length, getD}
 use Rattle.scope.specs.Limits.{capacity}
 use Rattle.calls.specs.declared.Reply.{Reply}
 use Rattle.calls.specs.declared.Call.{Call}
@@ -16,8 +16,8 @@ use Rattle.calls.specs.declared.Call.the-variants.{Accept}
 use Rattle.chains.specs.Hash.{numberHash}
 use Rattle.chains.proofs.Contents.{length-contents}
 use Rattle.chains.proofs.Tests.{true-not-false}
-use Rattle.key_ring.specs.Rows.{noSlot, countOf, wordsOf}
-use Rattle.key_ring.specs.Table.{Table, rowAt, rowsOf}
+use Rattle.key_ring.specs.Rows.{noSlot, countOf, isObserved, wordsOf}
+use Rattle.key_ring.specs.Table.{Table, newestSlot, rowAt, rowsOf}
 use Rattle.key_ring.proofs.Meaning.{slot-count}
 use Rattle.key_ring.proofs.Holders.{observed-at-most}
 use Rattle.history.specs.Given.{packetOf}
@@ -157,3 +157,8 @@ module _ (m : Making) (ok : MakingFits m) (cs : List Call) (w : AllFits cs) wher
         size,
         follow .replies .keys-sound .ring-fits .len-in,
       )
+
+  -- ---- the awaiting key has a row of its own for a slot, and it is free: "needs a new slot and none is free" never holds
+
+  pub own-row-is-free : k .link .ledger .tables .awaits ≡ true → isObserved (getD (k .rooms .slots) (newestSlot capacity (k .link .ledger .tables .keys)) []) ≡ false
+  own-row-is-free e = follow .observes .follow-ups .slots .unobserved e
