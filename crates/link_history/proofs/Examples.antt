@@ -19,7 +19,6 @@ use Rattle.calls.specs.declared.ReplyObservation.{ReplyObservation}
 use Rattle.calls.specs.declared.Call.{Call}
 use Rattle.calls.specs.declared.Call.the-variants.{Sent, Accept, Observe}
 use Rattle.ranges.specs.Ranges.{inRange}
-use Rattle.clock_quality.specs.Samples as samples
 use Rattle.replies.specs.declared.Reflector.the-variants.{Number}
 use Rattle.direct.specs.Shown.{noSpans}
 use Rattle.monitor.specs.declared.State.the-variants.{Active}
@@ -29,8 +28,8 @@ use Rattle.ledger_steps.specs.Refusals.{earlier}
 use Rattle.history.specs.Counting.{has}
 use Rattle.history.specs.Ledger.{rememberings, without, distinct, replies, accepted, hasKey, awaiting, lastAccepted, held, replyClass, ready, afterReply, events, count, highestReflector, probesEvicted}
 use Rattle.history.specs.DirectLoss.{window, spans, anchor, latestTransmit}
-use Rattle.history.specs.FollowUps.{slotAt, measured, roundTrips}
-use Rattle.history.specs.Figures.{total, least, greatest, delays, estimates, roundTripFigures}
+use Rattle.history.specs.FollowUps.{roundTrips}
+use Rattle.history.specs.Figures.{total, least, greatest, roundTripFigures}
 use Rattle.link_history.specs.Fresh.{watching}
 use Rattle.link_history.specs.Shows.{snapshotFrom}
 use Rattle.link_history.specs.Monitor.{monitorFrom}
@@ -63,8 +62,8 @@ report =
     ∷ Sent (record { sequence = 7; ordinal = 1; packet = packetHeld }) ∷ []
 
 -- records 4 turned away 0
-report-served : servedFrom 1 (watching 2 1000) report ≡ report
-unfolding servedFrom earlier monitorFrom enters same insert remove count events afterReply replyClass ready lastAccepted held hasKey has accepted rememberings distinct without replies awaiting highestReflector probesEvicted window slotAt measured delays estimates roundTrips least greatest total inRange samples.count
+report-served : servedFrom (watching 2 1000) report ≡ report
+unfolding servedFrom earlier monitorFrom enters same insert remove count events afterReply replyClass ready lastAccepted held hasKey has accepted rememberings distinct without awaiting inRange
 report-served = refl
 
 -- requested 1; unique 1 duplicate 1 unknown 0; answered 1 additional 0 late 0; reordered 0 independent 0

@@ -4,6 +4,9 @@ pub mod Shows
 pub mod Unchanged
 pub mod Monitor
 pub mod Watched
+pub mod Few
+pub mod Sums
+pub mod Bounds
 pub mod Refused
 pub mod Link
 pub mod Sentences

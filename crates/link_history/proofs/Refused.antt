@@ -3,7 +3,7 @@
 use mathlib.Core.Path.{_≡_, refl, sym, ap, _∙_}
 use mathlib.Core.Bool.{Bool, true, false, _&&_}
 use mathlib.Core.List.{List}
-use Prim.Native.Nat.{ℕ, zero, suc, _+_, _^_}
+use Prim.Native.Nat.{ℕ, zero, suc, _+_, _^_, _<_}
 use native.Mathlib.Omega.{arith}
 use lib.Dec.{ltb, leb}
 use lib.ListN.{length}
@@ -21,6 +21,7 @@ use Rattle.monitor.specs.Refusals as monitor
 use Rattle.monitor_model.specs.Plain.{Plain, refusal, sentRefusal}
 use Rattle.monitor_model.proofs.Following.{same-refusal, same-sent-refusal}
 use Rattle.ranges.specs.Ranges.{inRange}
+use Rattle.history.specs.Ledger.{events}
 use Rattle.ledger_state.specs.declared.Counts.{Counts}
 use Rattle.ledger_state.specs.declared.Ledger.{Ledger}
 use Rattle.ledger_state.specs.Refusal.{firstRefusal, countsFit, roomForCall}
@@ -38,6 +39,8 @@ use Rattle.link_history.specs.Monitor.{monitorFrom}
 use Rattle.link_history.specs.Link.{roomFrom, ledgerRefuses, monitorRefusesSent, monitorRefuses, refusesFrom, QueueFull}
 use Rattle.link_history.proofs.Follows.{Follow}
 use Rattle.link_history.proofs.Shows.{both-hold, keys-sized, slots-sized, probes-sized, offsets-sized, links-sized, rings-fit, counts-are, awaits-is}
+use Rattle.link_history.proofs.Sums.{EventsIn}
+use Rattle.link_history.proofs.Bounds.{calls-decide}
 use Rattle.link_history.proofs.Monitor.{WatchFollows}
 
 -- ---- the number of an answer is the refusal's
@@ -89,24 +92,27 @@ module _ (v : Watching) (h : List Call) where
 
 -- ---- the calls
 
-module _ (v : Watching) (words : List ℕ) (copies : ℕ) (h : List Call) (k : Standing) (f : Follow words copies h (standOf k)) (g : WatchFollows v h (k .link .watch) (k .queue)) where
+module _ (v : Watching) (words : List ℕ) (copies : ℕ) (copies-in : copies < 2 ^ 16) (h : List Call) (fit : EventsIn (events capacity h)) (k : Standing)
+    (f : Follow words copies h (standOf k)) (g : WatchFollows v h (k .link .watch) (k .queue)) where
   abbrev l : Ledger
   l = k .link .ledger
 
-  room-is : roomForCall l ≡ roomFrom copies h
-  room-is = ap (λ (n : ℕ). ltb n mostCalls && countsFit (l .counts)) (f .calls-are) ∙ ap (λ (c : Counts). ltb (callsIn h) mostCalls && countsFit c) (counts-are words copies h k f)
+  room-is : roomForCall l ≡ roomFrom h
+  room-is =
+      ap (λ (n : ℕ). ltb n mostCalls && countsFit (l .counts)) (f .calls-are) ∙ ap (λ (c : Counts). ltb (callsIn h) mostCalls && countsFit c) (counts-are words copies h k f)
+      ∙ calls-decide copies copies-in h fit
 
   -- rooms and rings in place
-  by-room : (placed : Bool) → placed ≡ true → firstRefusal placed true true (roomForCall l) true true ≡ ledgerRefuses copies h
+  by-room : (placed : Bool) → placed ≡ true → firstRefusal placed true true (roomForCall l) true true ≡ ledgerRefuses h
   by-room placed e = ap (λ (b : Bool). firstRefusal b true true (roomForCall l) true true) e ∙ ap (λ (b : Bool). firstRefusal true true true b true true) room-is
 
-  sent-refusal : (n : ℕ) → refusalOfSent n l (length (k .rooms .probes)) (length (k .rooms .links)) ≡ earlier (ledgerRefuses copies h) n
+  sent-refusal : (n : ℕ) → refusalOfSent n l (length (k .rooms .probes)) (length (k .rooms .links)) ≡ earlier (ledgerRefuses h) n
   unfolding refusalOfSent
   sent-refusal n =
       ap (λ (r : ℕ). earlier r n)
       (by-room _ (both-hold _ _ (both-hold _ _ (probes-sized words copies h k f) (links-sized words copies h k f)) (rings-fit words copies h k f)))
 
-  accept-refusal : (n : ℕ) → refusalOfAccept n l (length (k .rooms .keys)) (length (k .rooms .slots)) (length (k .rooms .probes)) (length (k .rooms .links)) ≡ earlier (ledgerRefuses copies h) n
+  accept-refusal : (n : ℕ) → refusalOfAccept n l (length (k .rooms .keys)) (length (k .rooms .slots)) (length (k .rooms .probes)) (length (k .rooms .links)) ≡ earlier (ledgerRefuses h) n
   unfolding refusalOfAccept
   accept-refusal n =
       ap (λ (r : ℕ). earlier r n)
@@ -114,23 +120,23 @@ module _ (v : Watching) (words : List ℕ) (copies : ℕ) (h : List Call) (k : S
       (links-sized words copies h k f)) (rings-fit words copies h k f)))
 
   observe-refusal : (o : ReplyObservation) → refusalOfObserve l (k .rooms .keys) (length (k .rooms .slots)) (length (k .rooms .offsets)) (length (k .rooms .links)) o
-      ≡ firstRefusal true (inRange o) true (roomFrom copies h) (awaitsFrom h (o .key)) true
+      ≡ firstRefusal true (inRange o) true (roomFrom h) (awaitsFrom h (o .key)) true
   unfolding refusalOfObserve
   observe-refusal o =
       ap (λ (b : Bool). firstRefusal b (inRange o) true (roomForCall l) (awaitsKey l (k .rooms .keys) (o .key)) true)
       (both-hold _ _ (both-hold _ _ (both-hold _ _ (both-hold _ _ (keys-sized words copies h k f) (slots-sized words copies h k f)) (offsets-sized words copies h k f))
       (links-sized words copies h k f)) (rings-fit words copies h k f))
       ∙ ap (λ (b : Bool). firstRefusal true (inRange o) true b (awaitsKey l (k .rooms .keys) (o .key)) true) room-is
-      ∙ ap (λ (b : Bool). firstRefusal true (inRange o) true (roomFrom copies h) b true) (awaits-is words copies h k f (o .key))
+      ∙ ap (λ (b : Bool). firstRefusal true (inRange o) true (roomFrom h) b true) (awaits-is words copies h k f (o .key))
 
-  pub refuses-is : (c : Call) → refuses k c ≡ refusesFrom copies v h c
+  pub refuses-is : (c : Call) → refuses k c ≡ refusesFrom v h c
   unfolding refuses sentTo acceptTo observeTo
   refuses-is (Sent s) =
       sent-number _ _ (k .rooms .probes) (k .rooms .links) ∙ sent-refusal (watchRefusesSent (k .link .watch) (length (k .queue)) s)
-      ∙ ap (earlier (ledgerRefuses copies h)) (sent-other v h (k .link .watch) (k .queue) s g)
+      ∙ ap (earlier (ledgerRefuses h)) (sent-other v h (k .link .watch) (k .queue) s g)
   refuses-is (Accept a) =
       accept-number _ _ (k .rooms .keys) (k .rooms .slots) (k .rooms .probes) (k .rooms .links) ∙ accept-refusal (watchRefuses (k .link .watch) (length (k .queue)))
-      ∙ ap (earlier (ledgerRefuses copies h)) (other v h (k .link .watch) (k .queue) g)
+      ∙ ap (earlier (ledgerRefuses h)) (other v h (k .link .watch) (k .queue) g)
   refuses-is (Observe o) = observe-number _ _ (k .rooms .slots) (k .rooms .offsets) (k .rooms .links) ∙ observe-refusal o
   refuses-is (Advance t) = other v h (k .link .watch) (k .queue) g
   refuses-is Idle = idle-other v h (k .link .watch) (k .queue) g
@@ -181,43 +187,43 @@ counted-three : (q : Bool) → choose q countsFull 0 ≡ queueFull → ⊥
 counted-three true e = omega (arith, e)
 counted-three false e = omega (arith, e)
 
-module _ (copies : ℕ) (v : Watching) (h : List Call) where
-  pub from-five : (c : Call) → refusesFrom copies v h c ≡ wrongRoom → ⊥
+module _ (v : Watching) (h : List Call) where
+  pub from-five : (c : Call) → refusesFrom v h c ≡ wrongRoom → ⊥
   from-five = by v
     where
-      by : (x : Watching) (c : Call) → refusesFrom copies x h c ≡ wrongRoom → ⊥
-      by alone (Sent s) e = no-five (roomFrom copies h) false false false e
-      by alone (Accept a) e = no-five (roomFrom copies h) false false false e
+      by : (x : Watching) (c : Call) → refusesFrom x h c ≡ wrongRoom → ⊥
+      by alone (Sent s) e = no-five (roomFrom h) false false false e
+      by alone (Accept a) e = no-five (roomFrom h) false false false e
       by alone (Advance t) e = counted-five false e
       by alone Idle e = counted-five false e
-      by alone (Observe o) e = observe-five (inRange o) (roomFrom copies h) (awaitsFrom h (o .key)) e
+      by alone (Observe o) e = observe-five (inRange o) (roomFrom h) (awaitsFrom h (o .key)) e
       by (watching threshold timeout) (Sent s) e =
-          no-five (roomFrom copies h) (leb (2 ^ 64) (s .packet .time + monitorFrom threshold timeout h .timeout)) (monitor.counted (monitorFrom threshold timeout h .summary))
+          no-five (roomFrom h) (leb (2 ^ 64) (s .packet .time + monitorFrom threshold timeout h .timeout)) (monitor.counted (monitorFrom threshold timeout h .summary))
           (ltb 0 (monitorFrom threshold timeout h .timeout) && leb capacity (length (monitorFrom threshold timeout h .probes))) e
-      by (watching threshold timeout) (Accept a) e = no-five (roomFrom copies h) false (monitor.counted (monitorFrom threshold timeout h .summary)) false e
-      by (watching threshold timeout) (Observe o) e = observe-five (inRange o) (roomFrom copies h) (awaitsFrom h (o .key)) e
+      by (watching threshold timeout) (Accept a) e = no-five (roomFrom h) false (monitor.counted (monitorFrom threshold timeout h .summary)) false e
+      by (watching threshold timeout) (Observe o) e = observe-five (inRange o) (roomFrom h) (awaitsFrom h (o .key)) e
       by (watching threshold timeout) (Advance t) e = counted-five (monitor.counted (monitorFrom threshold timeout h .summary)) e
       by (watching threshold timeout) Idle e = counted-five (monitor.counted (monitorFrom threshold timeout h .summary)) e
 
-  pub three-full : (c : Call) → refusesFrom copies v h c ≡ queueFull → QueueFull v h
+  pub three-full : (c : Call) → refusesFrom v h c ≡ queueFull → QueueFull v h
   three-full = by v
     where
       second : (a b : Bool) → (a && b) ≡ true → b ≡ true
       second true b e = e
       second false b e = absurd (true-not-false e refl)
 
-      by : (x : Watching) (c : Call) → refusesFrom copies x h c ≡ queueFull → QueueFull x h
-      by alone (Sent s) e = absurd (true-not-false (only-three (roomFrom copies h) false false false e) refl)
-      by alone (Accept a) e = absurd (true-not-false (only-three (roomFrom copies h) false false false e) refl)
-      by alone (Observe o) e = absurd (observe-three (inRange o) (roomFrom copies h) (awaitsFrom h (o .key)) e)
+      by : (x : Watching) (c : Call) → refusesFrom x h c ≡ queueFull → QueueFull x h
+      by alone (Sent s) e = absurd (true-not-false (only-three (roomFrom h) false false false e) refl)
+      by alone (Accept a) e = absurd (true-not-false (only-three (roomFrom h) false false false e) refl)
+      by alone (Observe o) e = absurd (observe-three (inRange o) (roomFrom h) (awaitsFrom h (o .key)) e)
       by alone (Advance t) e = absurd (counted-three false e)
       by alone Idle e = absurd (counted-three false e)
       by (watching threshold timeout) (Sent s) e =
           leb-true capacity (length (monitorFrom threshold timeout h .probes))
           (second (ltb 0 (monitorFrom threshold timeout h .timeout)) (leb capacity (length (monitorFrom threshold timeout h .probes)))
-          (only-three (roomFrom copies h) (leb (2 ^ 64) (s .packet .time + monitorFrom threshold timeout h .timeout)) (monitor.counted (monitorFrom threshold timeout h .summary))
+          (only-three (roomFrom h) (leb (2 ^ 64) (s .packet .time + monitorFrom threshold timeout h .timeout)) (monitor.counted (monitorFrom threshold timeout h .summary))
           (ltb 0 (monitorFrom threshold timeout h .timeout) && leb capacity (length (monitorFrom threshold timeout h .probes))) e))
-      by (watching threshold timeout) (Accept a) e = absurd (true-not-false (only-three (roomFrom copies h) false (monitor.counted (monitorFrom threshold timeout h .summary)) false e) refl)
-      by (watching threshold timeout) (Observe o) e = absurd (observe-three (inRange o) (roomFrom copies h) (awaitsFrom h (o .key)) e)
+      by (watching threshold timeout) (Accept a) e = absurd (true-not-false (only-three (roomFrom h) false (monitor.counted (monitorFrom threshold timeout h .summary)) false e) refl)
+      by (watching threshold timeout) (Observe o) e = absurd (observe-three (inRange o) (roomFrom h) (awaitsFrom h (o .key)) e)
       by (watching threshold timeout) (Advance t) e = absurd (counted-three (monitor.counted (monitorFrom threshold timeout h .summary)) e)
       by (watching threshold timeout) Idle e = absurd (counted-three (monitor.counted (monitorFrom threshold timeout h .summary)) e)

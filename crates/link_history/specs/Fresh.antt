@@ -44,12 +44,14 @@ pub record MakingFits (m : Making) : Type 0 where
   pub rooms-fit : RoomsFit capacity (m .rooms)
   pub queue-fits : QueueFits (m .monitor) (m .queue)
 
--- ---- the fresh link: what the calls `fresh` of the ledger and of the monitor hand back
+-- ---- the fresh link: what `fresh` of crate ledger_state and `new` of crate monitor hand back
 
+-- the monitor, or none
 abbrev pub freshWatch : Watching → Watch
 freshWatch alone = Absent
 freshWatch (watching threshold timeout) = Present (fresh threshold timeout)
 
+-- the ledger and the monitor, with the rooms as they are
 abbrev pub freshLink : Making → Standing
 freshLink m = record { link = record { ledger = freshLedger (m .copies) (m .secret); watch = freshWatch (m .monitor) }; rooms = m .rooms; queue = m .queue }
 
@@ -63,6 +65,7 @@ standOf k = record { ledger = k .link .ledger; rooms = k .rooms }
 
 -- ---- calls whose numbers fit their types
 
+-- the estimates of an observation
 abbrev pub EstimatesFit : Call → Type 0
 EstimatesFit (Sent s) = Unit
 EstimatesFit (Accept a) = Unit
@@ -70,9 +73,11 @@ EstimatesFit (Observe o) = QualityFits (o .quality)
 EstimatesFit (Advance t) = Unit
 EstimatesFit Idle = Unit
 
+-- a call
 abbrev pub Fits : Call → Type 0
 Fits c = CallFits c × EstimatesFit c
 
+-- all of them
 unfoldable pub AllFits : List Call → Type 0
 AllFits [] = Unit
 AllFits (c ∷ cs) = Fits c × AllFits cs

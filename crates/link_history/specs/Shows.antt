@@ -77,6 +77,7 @@ isCounted (Observe o) es = true
 isCounted (Advance t) es = false
 isCounted Idle es = false
 
+-- how many of those were served
 abbrev pub callsIn : List Call → ℕ
 callsIn h = count capacity isCounted h
 
