@@ -171,6 +171,86 @@ impl Ledger {
     pub fn awaiting(&self) -> Option<(u32, u32, u64)> {
         self.awaiting.map(|k| (k.sender, k.reflector, k.t3))
     }
+    /// Every u64 count but those of the two sums.
+    pub fn counts(&self) -> [u64; 27] {
+        let s = &self.inner.summary;
+        let d = &self.inner.direct.summary;
+        let f = &s.follow_up;
+        let q = &f.clock_quality;
+        [
+            s.requested_replies,
+            s.unique_replies,
+            s.duplicate_replies,
+            s.unknown_replies,
+            s.answered_probes,
+            s.additional_replies,
+            s.late_replies,
+            self.inner.satisfied,
+            s.reordered_replies,
+            s.independent_sequence_observations,
+            s.probes_evicted,
+            s.replies_evicted,
+            d.observations,
+            d.unavailable,
+            d.discontinuities,
+            d.reordered,
+            f.observations,
+            f.matched,
+            f.repeated,
+            f.unmatched,
+            f.ambiguous,
+            f.unavailable,
+            q.samples,
+            q.both_synchronized,
+            q.unsynchronized,
+            q.invalid_estimate,
+            q.unknown,
+        ]
+    }
+    /// Loads a count, by its number, or the high word of a sum with its sign.
+    pub fn load(&mut self, which: u64, value: u64) {
+        let s = &mut self.inner.summary;
+        let d = &mut self.inner.direct.summary;
+        let f = &mut s.follow_up;
+        let q = &mut f.clock_quality;
+        let sum = (i128::from(value) << 64) + 1;
+        match which {
+            1 => s.requested_replies = value,
+            2 => s.unique_replies = value,
+            3 => s.duplicate_replies = value,
+            4 => s.unknown_replies = value,
+            5 => s.answered_probes = value,
+            6 => s.additional_replies = value,
+            7 => s.late_replies = value,
+            8 => self.inner.satisfied = value,
+            9 => s.reordered_replies = value,
+            10 => s.independent_sequence_observations = value,
+            11 => s.probes_evicted = value,
+            12 => s.replies_evicted = value,
+            13 => d.observations = value,
+            14 => d.unavailable = value,
+            15 => d.discontinuities = value,
+            16 => d.reordered = value,
+            17 => f.observations = value,
+            18 => f.matched = value,
+            19 => f.repeated = value,
+            20 => f.unmatched = value,
+            21 => f.ambiguous = value,
+            22 => f.unavailable = value,
+            23 => q.samples = value,
+            24 => q.both_synchronized = value,
+            25 => q.unsynchronized = value,
+            26 => q.invalid_estimate = value,
+            27 => q.unknown = value,
+            28 => self.inner.rtt.count = value,
+            29 => self.inner.rtt.sum = sum,
+            30 => self.inner.rtt.sum = -sum,
+            31 => self.inner.follow_delay.count = value,
+            32 => self.inner.follow_delay.sum = sum,
+            33 => self.inner.follow_delay.sum = -sum,
+            _ => panic!("no count {which}"),
+        }
+    }
     pub fn snapshot(&self) -> MeasurementSummary {
         self.inner.snapshot()
     }
@@ -271,5 +351,70 @@ fn format_of(ptp: bool) -> ClockFormat {
         ClockFormat::PTP
     } else {
         ClockFormat::NTP
+    }
+}
+
+/// A ledger of the original for bench/: a call is told plain words, and nothing stands between them and the original.
+pub struct Timed {
+    inner: Measurements,
+    base: Instant,
+}
+
+impl Timed {
+    pub fn new(copies: u16) -> Self {
+        Self {
+            inner: Measurements::new(copies),
+            base: Instant::now(),
+        }
+    }
+    #[inline(never)]
+    pub fn sent(&mut self, sequence: u32, ordinal: u32, tag: u64) {
+        let packet = PendingPacket::new(self.base, tag);
+        self.inner.sent(sequence, packet, ordinal);
+    }
+    /// Whether the reply is unique.
+    #[inline(never)]
+    pub fn accept(&mut self, sender: u32, reflector: u32, t3: u64) -> bool {
+        let key = ReplyKey {
+            sender,
+            reflector,
+            t3,
+        };
+        self.inner.accept(key, None).is_some()
+    }
+    /// The words of bench/ledger/observe.rt.txt.
+    #[inline(never)]
+    pub fn observe(&mut self, w: &[u64; 12]) {
+        let wires = w[11];
+        self.inner.observe(ReplyObservation {
+            key: ReplyKey {
+                sender: w[0] as u32,
+                reflector: (w[0] >> 32) as u32,
+                t3: w[1],
+            },
+            rtt_ns: w[2],
+            t4_ns: Some(i128::from(w[3] as i64)),
+            format: ClockFormat::PTP,
+            reference: w[4] as i64,
+            offset: 0,
+            ordinal: Some(w[5] as u32),
+            dm: Some(DirectMeasurementTlv {
+                sender_tx_count: w[6] as u32,
+                reflector_rx_count: (w[6] >> 32) as u32,
+                reflector_tx_count: w[7] as u32,
+            }),
+            follow: Some(FollowUpTelemetryTlv {
+                sequence_number: w[8] as u32,
+                follow_up_timestamp: w[9],
+                timestamp_mode: TimestampMethod::HardwareAssist,
+            }),
+            quality: Some((
+                ErrorEstimate::from_wire(wires as u16),
+                ErrorEstimate::from_wire((wires >> 16) as u16),
+            )),
+        });
+    }
+    pub fn snapshot(&self) -> MeasurementSummary {
+        self.inner.snapshot()
     }
 }

@@ -4,7 +4,7 @@ use crate::{cover::Cover, random::Random};
 /// One call: an operation and what it is told. A part's program reads the first `call_words` of them.
 pub type Call = [u64; 16];
 /// What a call answered and the state that it left. A part's program writes the first `answer_words` of them.
-pub type Answer = [u64; 64];
+pub type Answer = [u64; 120];
 /// Calls from fresh: the first one makes the part fresh.
 pub type Script = Vec<Call>;
 
@@ -42,7 +42,7 @@ pub fn call(operation: u64, told: &[u64]) -> Call {
 
 /// An answer of these words.
 pub fn answer(words: &[u64]) -> Answer {
-    let mut whole = [0; 64];
+    let mut whole = [0; 120];
     whole[..words.len()].copy_from_slice(words);
     whole
 }

@@ -3,6 +3,7 @@ use std::{
     io::{Read, Write},
     process::{Command, Stdio},
     thread,
+    time::{Duration, Instant},
 };
 
 use crate::{
@@ -117,19 +118,24 @@ fn fails(start: &str, part: &Part, script: &Script) -> Option<Difference> {
     compare(part, &scripts, &played.expected, &written)
 }
 
-/// Cuts a failing script down: ever smaller pieces are taken out as long as the two sides still differ. The first call,
-/// which makes the part fresh, stays.
+/// How long a failing script is cut down.
+const CUTTING: Duration = Duration::from_secs(60);
+
+/// Cuts a failing script down: ever smaller pieces are taken out as long as the two sides still differ, and as long as there is time.
+/// The first call, which makes the part fresh, stays.
 pub fn smallest(start: &str, part: &Part, script: &Script) -> Script {
+    let began = Instant::now();
+    let goes_on = |tries: u32| tries < 400 && began.elapsed() < CUTTING;
     let mut script = script.clone();
     if let Some(d) = fails(start, part, &script) {
         script.truncate(d.call + 1);
     }
     let mut piece = script.len() / 2;
     let mut tries = 0;
-    while piece > 0 && tries < 400 {
+    while piece > 0 && goes_on(tries) {
         let mut at = 1;
         let mut shorter = false;
-        while at < script.len() && tries < 400 {
+        while at < script.len() && goes_on(tries) {
             let mut cut = script.clone();
             cut.drain(at..(at + piece).min(script.len()));
             tries += 1;
@@ -158,7 +164,7 @@ pub fn report(start: &str, part: &Part, scripts: &[Script], d: &Difference) {
         return;
     };
     let script = smallest(start, part, script);
-    println!("  smallest script ({} calls):", script.len());
+    println!("  smallest script found ({} calls):", script.len());
     for call in script.iter().take(100) {
         println!("    {}", (part.show)(call));
     }

@@ -2,8 +2,10 @@
 use probe_queue::Probe;
 use probe_queue::Ring;
 use script::Call;
-use script::Digest;
-ghost use Prim.Native.Nat.{_<_, _≤_};
+use shown_queue::digest;
+use shown_queue::length;
+use shown_queue::mark_bit;
+use shown_queue::slot;
 
 // What is shown of a queue: the front's deadline, and the digests, or a probe's sequence, deadline and mark.
 pub struct Shown {
@@ -11,61 +13,6 @@ pub struct Shown {
     pub first: u64,
     pub second: u64,
     pub mark: u64,
-}
-
-// The room's record at a queue's place.
-fn slot(ring: Ring, place: usize) -> usize
-    ensures { λ r. ⌜ r < 4096 ⌝ }
-{
-    (ring.head % 4096 + place % 4096) % 4096
-}
-
-fn length(ring: Ring) -> usize
-    ensures { λ r. ⌜ r ≤ 4096 ⌝ }
-{
-    if ring.len < 4096 { ring.len } else { 4096 }
-}
-
-// A sequence is marked where any queued probe of it is.
-fn is_marked(room: [Probe; 4096], ring: Ring, sequence: u32) -> bool {
-    let len = length(ring);
-    let mut i = 0;
-    while i < len {
-        let probe = room[slot(ring, i)];
-        if probe.mark & (probe.sequence == sequence) {
-            return true;
-        }
-        i += 1;
-    }
-    false
-}
-
-// Bit 32 where any queued probe of the same sequence is marked.
-fn mark_bit(room: [Probe; 4096], ring: Ring, probe: Probe) -> u64 {
-    if is_marked(room, ring, probe.sequence) {
-        return 4294967296;
-    }
-    0
-}
-
-// The digests of each probe's sequence, mark and deadline.
-fn digest(room: [Probe; 4096], ring: Ring) -> Digest {
-    let len = length(ring);
-    let mut digest = Digest::empty();
-    let mut i = 0;
-    while i < len {
-        let probe = room[slot(ring, i)];
-        // A record that bears the mark itself needs no search.
-        let mut bit = 4294967296;
-        if !probe.mark {
-            bit = mark_bit(room, ring, probe);
-        }
-        digest = digest
-            .then(bit | probe.sequence as u64)
-            .then(probe.deadline);
-        i += 1;
-    }
-    digest
 }
 
 // The front's deadline, 0 where nothing is queued.

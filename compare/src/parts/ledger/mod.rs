@@ -5,6 +5,7 @@ mod shown;
 
 use super::{
     CAPACITY, COUNTS_FULL, COUNT_BOUND, DEADLINE_PASSES, NOT_AWAITING, OUT_OF_RANGE, QUEUE_FULL,
+    SUM_BOUND, WRONG_ROOM,
 };
 use crate::{
     cover::Cover,
@@ -14,7 +15,7 @@ use crate::{
 use reached::{reached_by_step, LINES};
 use shown::WORDS;
 
-/// Copies, 0 or 1 for a monitor, its threshold, its timeout.
+/// Copies, 0 or 1 for a monitor, its threshold, its timeout, four words of the port's hash.
 pub const FRESH: u64 = 0;
 /// Sequence, time, tag, ordinal.
 pub const SENT: u64 = 1;
@@ -25,8 +26,13 @@ pub const OBSERVE: u64 = 3;
 /// Now.
 pub const ADVANCE: u64 = 4;
 pub const IDLE: u64 = 5;
-/// Calls served so far: a state as a host could hand it over.
+/// A count, by its number, and its value: a state as a host could hand it over. 0 is the number of calls served so far.
 pub const LOAD: u64 = 6;
+/// Which ring of the port's state is out of bounds in this call alone, and above 8 bits what it is replaced by: head and length of
+/// the keys, head and length of the probes, the number of seen offsets.
+pub const SPOIL: usize = 12;
+/// Which room is lent to the port in another size, and above 3 bits how many rows it has.
+pub const ROOM: usize = 14;
 /// A call whose last word is 1 answers with the digests of the rooms too.
 pub const DIGEST: usize = 15;
 
@@ -42,6 +48,15 @@ pub const UNKNOWN_MODE: u64 = 128;
 /// Where the lookup shows nothing, word 13 goes to the port as a converted T3 all the same. It must not matter.
 pub const ANYWAY: u64 = 256;
 
+/// The rooms, by their numbers.
+pub const KEYS: u64 = 1;
+pub const SLOTS: u64 = 2;
+pub const PROBES: u64 = 3;
+pub const OFFSETS: u64 = 4;
+pub const LINKS: u64 = 5;
+/// The monitor's.
+pub const QUEUE: u64 = 6;
+
 /// Document 01's ranges.
 pub const TIME_LIMIT: i64 = 4_000_000_000_000_000_000;
 pub const REFERENCE_LIMIT: i64 = 4_000_000_000;
@@ -52,7 +67,7 @@ pub const PART: Part = Part {
     name: "ledger",
     program: "play_ledger",
     call_words: 16,
-    answer_words: 64,
+    answer_words: 120,
     lines: &LINES,
     fresh: || Box::new(Booked::fresh(1, None)),
     scripts: scripts::scripts,
@@ -60,6 +75,31 @@ pub const PART: Part = Part {
     show,
     answer: &WORDS,
 };
+
+/// What a call answers besides the state.
+#[derive(Default)]
+struct Reply {
+    refusal: u64,
+    class: u64,
+    time: u64,
+    tag: u64,
+    ordinal: u64,
+    looked: Looked,
+}
+
+/// What the lookup answers: a refusal, or a slot's format and reference.
+#[derive(Default)]
+struct Looked {
+    refusal: u64,
+    shown: Option<(bool, i64)>,
+}
+
+fn refused(refusal: u64) -> Reply {
+    Reply {
+        refusal,
+        ..Reply::default()
+    }
+}
 
 struct Booked {
     ledger: Ledger,
@@ -130,7 +170,7 @@ impl Original for Booked {
                 cover.reached_if(call[1] > 1, "fresh: copies above 1");
                 cover.reached_if(monitor.is_some(), "fresh: with a monitor");
                 cover.reached_if(monitor.is_none(), "fresh: without a monitor");
-                self.shown([0; 6], call)
+                self.shown(Reply::default(), call)
             }
             SENT => self.sent(call, cover),
             ACCEPT => self.accept(call, cover),
@@ -138,42 +178,81 @@ impl Original for Booked {
             ADVANCE => {
                 cover.reached_if(self.monitor.is_some(), "monitor: advance");
                 self.ledger.advance(call[1]);
-                self.shown([0; 6], call)
+                self.shown(Reply::default(), call)
             }
             IDLE => {
                 cover.reached_if(self.monitor.is_some(), "monitor: idle");
                 self.ledger.idle();
-                self.shown([0; 6], call)
+                self.shown(Reply::default(), call)
             }
             _ => {
-                self.calls = call[1];
-                self.shown([0; 6], call)
+                match call[1] {
+                    0 => self.calls = call[2],
+                    count => self.ledger.load(count, call[2]),
+                }
+                self.shown(Reply::default(), call)
             }
         }
     }
 }
 
 impl Booked {
-    /// Counts and sums stay far below their bounds in scripts from fresh; the number of calls is loaded.
+    /// Whether a room that the call is lent has another size, or a ring of the state that it is handed is out of bounds.
+    fn wrong_room(&self, call: &Call, rooms: &[u64]) -> bool {
+        call[SPOIL] != 0 || rooms.contains(&(call[ROOM] % 8))
+    }
+
+    /// Whether the monitor that the call drives is lent a queue of another size.
+    fn wrong_queue(&self, call: &Call) -> bool {
+        self.monitor.is_some() && call[ROOM] % 8 == QUEUE
+    }
+
+    /// The refusal of a call that only reads.
+    fn refused_reading(&self, call: &Call, rooms: &[u64]) -> u64 {
+        if self.wrong_room(call, rooms) {
+            WRONG_ROOM
+        } else {
+            0
+        }
+    }
+
+    /// Whether the calls, a count or a sum is at its bound.
     fn full(&self) -> bool {
-        assert!(self.ledger.snapshot().requested_replies < COUNT_BOUND);
+        let counts = self.ledger.counts();
+        let sums = self.ledger.sums();
         self.calls >= MOST_CALLS
+            || counts.iter().any(|c| *c >= COUNT_BOUND)
+            || sums
+                .iter()
+                .any(|s| s.0 >= COUNT_BOUND || s.1.unsigned_abs() >= SUM_BOUND)
+    }
+
+    fn sent_refusal(&self, call: &Call) -> (u64, &'static str) {
+        let timeout = self.monitor.map(|m| m.1);
+        if self.wrong_room(call, &[PROBES, LINKS]) {
+            return (WRONG_ROOM, "sent: refused 5");
+        }
+        if self.wrong_queue(call) {
+            return (WRONG_ROOM, "sent: refused 5 for the queue");
+        }
+        if timeout.is_some_and(|t| call[2].checked_add(t).is_none()) {
+            return (DEADLINE_PASSES, "sent: refused 6");
+        }
+        if self.full() {
+            return (COUNTS_FULL, "sent: refused 4");
+        }
+        if timeout.is_some_and(|t| t > 0) && self.ledger.queued() == CAPACITY {
+            return (QUEUE_FULL, "sent: refused 3");
+        }
+        (0, "")
     }
 
     fn sent(&mut self, call: &Call, cover: &mut Cover) -> Answer {
         let (sequence, time) = (call[1] as u32, call[2]);
-        let timeout = self.monitor.map(|m| m.1);
-        if timeout.is_some_and(|t| time.checked_add(t).is_none()) {
-            cover.reached("sent: refused 6");
-            return self.shown([DEADLINE_PASSES, 0, 0, 0, 0, 0], call);
-        }
-        if self.full() {
-            cover.reached("sent: refused 4");
-            return self.shown([COUNTS_FULL, 0, 0, 0, 0, 0], call);
-        }
-        if timeout.is_some_and(|t| t > 0) && self.ledger.queued() == CAPACITY {
-            cover.reached("sent: refused 3");
-            return self.shown([QUEUE_FULL, 0, 0, 0, 0, 0], call);
+        let (refusal, line) = self.sent_refusal(call);
+        if refusal != 0 {
+            cover.reached(line);
+            return self.shown(refused(refusal), call);
         }
         let held = self.ledger.holds(sequence);
         let evicted = self.ledger.snapshot().probes_evicted;
@@ -183,13 +262,17 @@ impl Booked {
         cover.reached_if(held, "sent: a held sequence again");
         cover.reached_if(!held, "sent: a new sequence");
         cover.reached_if(evicts, "sent: evicts a probe");
-        self.shown([0; 6], call)
+        self.shown(Reply::default(), call)
     }
 
     fn accept(&mut self, call: &Call, cover: &mut Cover) -> Answer {
+        if self.wrong_room(call, &[KEYS, SLOTS, PROBES, LINKS]) || self.wrong_queue(call) {
+            cover.reached("accept: refused 5");
+            return self.shown(refused(WRONG_ROOM), call);
+        }
         if self.full() {
             cover.reached("accept: refused 4");
-            return self.shown([COUNTS_FULL, 0, 0, 0, 0, 0], call);
+            return self.shown(refused(COUNTS_FULL), call);
         }
         let key = key(call);
         let pending = (call[3] != 0).then_some((call[4], call[5]));
@@ -207,7 +290,11 @@ impl Booked {
             let duplicate = after.duplicate_replies > before.duplicate_replies;
             cover.reached_if(duplicate, "accept: duplicate");
             cover.reached_if(!duplicate, "accept: unknown");
-            return self.shown([0, u64::from(duplicate), 0, 0, 0, 0], call);
+            let reply = Reply {
+                class: u64::from(duplicate),
+                ..Reply::default()
+            };
+            return self.shown(reply, call);
         };
         let after = self.ledger.snapshot();
         self.unobserved.insert(key);
@@ -233,27 +320,29 @@ impl Booked {
         if let Some(old) = evicted {
             self.reached_by_eviction(old, slot.map(|s| s.0), cover);
         }
-        let ordinal = (u64::from(ordinal.is_some()), ordinal.map_or(0, u64::from));
-        self.shown([0, 2, time, tag, ordinal.0, ordinal.1], call)
+        let reply = Reply {
+            class: 2,
+            time,
+            tag,
+            ordinal: shown::flagged(ordinal),
+            ..Reply::default()
+        };
+        self.shown(reply, call)
     }
 
     fn observe(&mut self, call: &mut Call, cover: &mut Cover) -> Answer {
         let told = told(call);
-        let shown = told.follow.and_then(|f| self.ledger.lookup(told.key, f));
+        let looked = self.look_up(&told, call, cover);
+        let shown = looked.shown;
         let converted = self.convert(&told, shown, call);
-        let looked = [
-            0,
-            u64::from(shown.is_some()),
-            shown.map_or(0, |s| u64::from(s.0)),
-            shown.map_or(0, |s| s.1 as u64),
-            0,
-            0,
-        ];
         let refusal = self.observe_refusal(&told, converted, call, cover);
+        let reply = Reply {
+            refusal,
+            looked,
+            ..Reply::default()
+        };
         if refusal != 0 {
-            let mut head = looked;
-            head[0] = refusal;
-            return self.shown(head, call);
+            return self.shown(reply, call);
         }
         self.reached_by_direct(&told, cover);
         let before = self.ledger.snapshot();
@@ -289,7 +378,20 @@ impl Booked {
         }
         let anew = slot.is_none() && self.freed.contains(&told.key.1);
         cover.reached_if(anew, "slot: made anew for a freed number");
-        self.shown(looked, call)
+        self.shown(reply, call)
+    }
+
+    /// The host asks before it converts.
+    fn look_up(&self, told: &Told, call: &Call, cover: &mut Cover) -> Looked {
+        let Some(follow) = told.follow else {
+            return Looked::default();
+        };
+        let refusal = self.refused_reading(call, &[KEYS, SLOTS, LINKS]);
+        cover.reached_if(refusal != 0, "lookup: refused 5");
+        let shown = (refusal == 0)
+            .then(|| self.ledger.lookup(told.key, follow))
+            .flatten();
+        Looked { refusal, shown }
     }
 
     /// The host's work between lookup and observe: the time that time.rs gives is filled into the call.
@@ -316,6 +418,10 @@ impl Booked {
         call: &Call,
         cover: &mut Cover,
     ) -> u64 {
+        if self.wrong_room(call, &[KEYS, SLOTS, OFFSETS, LINKS]) {
+            cover.reached("observe: refused 5");
+            return WRONG_ROOM;
+        }
         let beyond = |t: i64| t.unsigned_abs() > TIME_LIMIT.unsigned_abs();
         let scales = [call[11] >> 8 & 0xff, call[11] >> 40 & 0xff];
         let range = [

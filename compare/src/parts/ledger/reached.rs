@@ -5,7 +5,7 @@ use crate::{
     sender::measurements::{MeasurementSummary, Told},
 };
 
-pub const LINES: [&str; 74] = [
+pub const LINES: [&str; 79] = [
     "fresh: copies 0 counts as 1",
     "fresh: copies above 1",
     "fresh: with a monitor",
@@ -13,6 +13,8 @@ pub const LINES: [&str; 74] = [
     "sent: a new sequence",
     "sent: a held sequence again",
     "sent: evicts a probe",
+    "sent: refused 5",
+    "sent: refused 5 for the queue",
     "sent: refused 6",
     "sent: refused 4",
     "sent: refused 3",
@@ -39,7 +41,10 @@ pub const LINES: [&str; 74] = [
     "accept: evicts a key without a slot",
     "accept: takes the place of a key that awaits",
     "accept: no ordinal",
+    "accept: refused 5",
     "accept: refused 4",
+    "lookup: refused 5",
+    "observe: refused 5",
     "observe: refused 1 for T4",
     "observe: refused 1 for T3",
     "observe: refused 1 for the reference",

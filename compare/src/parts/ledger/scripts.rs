@@ -1,7 +1,8 @@
 //! Scripts for the ledger.
 use super::{
-    super::CAPACITY, halves, ACCEPT, ADVANCE, ANYWAY, COUNTERS, DIGEST, FOLLOW, FRESH, IDLE, LOAD,
-    MOST_CALLS, OBSERVE, OFFSET_LIMIT, ORDINAL, PTP, QUALITY, REFERENCE_LIMIT, SENT, T4,
+    super::{CAPACITY, COUNT_BOUND, SUM_BOUND},
+    halves, ACCEPT, ADVANCE, ANYWAY, COUNTERS, DIGEST, FOLLOW, FRESH, IDLE, LOAD, MOST_CALLS,
+    OBSERVE, OFFSET_LIMIT, ORDINAL, PTP, QUALITY, REFERENCE_LIMIT, ROOM, SENT, SPOIL, T4,
     TIME_LIMIT, UNKNOWN_MODE,
 };
 use crate::{
@@ -19,6 +20,8 @@ struct Draw<'a> {
     recent: Vec<(u32, u32, u64)>,
     now: u64,
     sent: u32,
+    /// How many calls in a thousand are first played in a way that refusal 5 is for.
+    spoilt: u64,
 }
 
 impl<'a> Draw<'a> {
@@ -31,9 +34,17 @@ impl<'a> Draw<'a> {
             recent: Vec::new(),
             now: 1_000,
             sent: 0,
+            spoilt: 20,
         }
     }
-    fn push(&mut self, mut call: Call) {
+    fn push(&mut self, call: Call) {
+        if call[0] & 0xff <= OBSERVE && self.random.chance(self.spoilt) {
+            let spoilt = spoilt(self.random, call);
+            self.keep(spoilt);
+        }
+        self.keep(call);
+    }
+    fn keep(&mut self, mut call: Call) {
         call[DIGEST] = u64::from(self.digests || self.script.len() % 500 == 0);
         self.script.push(call);
     }
@@ -61,6 +72,31 @@ impl<'a> Draw<'a> {
         ];
         self.push(call(ACCEPT, &told));
     }
+}
+
+/// A call with a room of another size, or on a state with a ring out of bounds. Not every call is lent every room.
+fn spoilt(random: &mut Random, mut call: Call) -> Call {
+    if random.chance(500) {
+        call[ROOM] = 1 + random.below(6) + 8 * random.of(&[4_095, 4_097, 0, 1]);
+        return call;
+    }
+    let beyond = random.of(&[4_097, 4_098, 65_536, 1 << 32, (1 << 40) + 5]);
+    call[SPOIL] = match random.below(6) {
+        0 => 1 | 4_096 << 8,
+        1 => 3 | 4_096 << 8,
+        field => field | beyond << 8,
+    };
+    call
+}
+
+/// A ledger made fresh, with the words of the port's hash: drawn ones, or ones that make all keys hash alike.
+fn fresh(random: &mut Random, copies: u64, monitor: [u64; 3]) -> Call {
+    let mut told = vec![copies, monitor[0], monitor[1], monitor[2]];
+    let alike = random.chance(250);
+    for _ in 0..4 {
+        told.push(if alike { 0 } else { random.word() });
+    }
+    call(FRESH, &told)
 }
 
 /// An observe, before its words are laid out.
@@ -143,18 +179,21 @@ pub fn scripts(random: &mut Random, long: bool) -> Vec<Script> {
     for _ in 0..rounds {
         all.push(typical(random, 600, true));
         all.push(dense(random, 600));
-        all.push(limits(random));
+        all.push(limits(random, 120));
     }
-    all.push(past_every_ring(random, if long { 9_000 } else { 4_700 }));
+    all.push(bounds(random));
+    let turns = if long { 9_000 } else { 4_700 };
+    all.push(past_every_ring(random, turns, 4_400, 1));
+    all.push(past_every_ring(random, turns, 60, 0));
     all.push(full_queue(random));
     all
 }
 
 pub fn sample(random: &mut Random) -> Vec<Script> {
     vec![
-        typical(random, 150, true),
-        dense(random, 200),
-        limits(random),
+        typical(random, 80, true),
+        dense(random, 80),
+        limits(random, 30),
     ]
 }
 
@@ -166,7 +205,7 @@ fn typical(random: &mut Random, calls: usize, digests: bool) -> Script {
     let stateless = random.chance(300);
     let ptp = random.chance(400);
     let loss = random.of(&[10, 100, 500]);
-    let fresh = call(FRESH, &[copies, monitor, threshold, 1_000_000_000]);
+    let fresh = fresh(random, copies, [monitor, threshold, 1_000_000_000]);
     let mut draw = Draw::new(random, fresh, digests);
     let (mut reflector, mut received) = (77u32, 500u32);
     let mut previous = 0u32;
@@ -199,6 +238,12 @@ fn typical(random: &mut Random, calls: usize, digests: bool) -> Script {
                 (previous, timestamp(draw.random, seconds, ptp), unknown)
             });
             let whole = draw.random.below(2_000_000_000) as i64;
+            // Some replies come late: their number was passed over, or was seen.
+            let back = if draw.random.chance(60) {
+                draw.random.below(4) as u32
+            } else {
+                0
+            };
             let drawn = Drawn {
                 key: draw.last,
                 rtt: draw.random.below(50_000_000),
@@ -210,7 +255,7 @@ fn typical(random: &mut Random, calls: usize, digests: bool) -> Script {
                 counters: draw
                     .random
                     .chance(700)
-                    .then_some((answered, received, reflector)),
+                    .then_some((answered, received, reflector - back)),
                 follow,
                 quality: draw
                     .random
@@ -235,7 +280,8 @@ fn dense(random: &mut Random, calls: usize) -> Script {
     let monitor = random.below(2);
     let timeout = random.of(&[0, 3, 1]);
     let many = random.of(&[2, 4, 8]);
-    let fresh = call(FRESH, &[copies, monitor, random.below(3), timeout]);
+    let threshold = random.below(3);
+    let fresh = fresh(random, copies, [monitor, threshold, timeout]);
     let mut draw = Draw::new(random, fresh, true);
     while draw.script.len() < calls {
         draw.now = draw.random.below(12);
@@ -333,13 +379,14 @@ fn small(draw: &mut Draw, many: u64) -> Drawn {
 }
 
 /// Every value on its bound, one short of it and one past it.
-fn limits(random: &mut Random) -> Script {
+fn limits(random: &mut Random, turns: u32) -> Script {
     let timeout = random.of(&[0, 1, 1 << 63, u64::MAX]);
     let monitor = random.below(2);
     let copies = random.of(&[0, 1, 2, 65_535]);
-    let fresh = call(FRESH, &[copies, monitor, random.of(&[0, 65_535]), timeout]);
+    let threshold = random.of(&[0, 65_535]);
+    let fresh = fresh(random, copies, [monitor, threshold, timeout]);
     let mut draw = Draw::new(random, fresh, true);
-    for i in 0..120u32 {
+    for i in 0..turns {
         let last = u64::MAX - timeout;
         draw.now = draw
             .random
@@ -350,9 +397,9 @@ fn limits(random: &mut Random) -> Script {
             let calls = draw
                 .random
                 .of(&[MOST_CALLS - 2, MOST_CALLS - 1, MOST_CALLS]);
-            draw.push(call(LOAD, &[calls]));
+            draw.push(call(LOAD, &[0, calls]));
         } else if draw.random.chance(100) {
-            draw.push(call(LOAD, &[5]));
+            draw.push(call(LOAD, &[0, 5]));
         }
         let reflector = draw.random.of(&[i, u32::MAX - i, 1 << 31, 0]);
         let t3 = draw.random.edge();
@@ -432,12 +479,55 @@ fn limits(random: &mut Random) -> Script {
     draw.script
 }
 
+/// Every count and sum one short of its bound, at it and past it, each under all three calls.
+fn bounds(random: &mut Random) -> Script {
+    let monitor = random.below(2);
+    let fresh = fresh(random, 3, [monitor, 2, 5]);
+    let mut draw = Draw::new(random, fresh, true);
+    let mut i = 0;
+    for which in 0..=33 {
+        let sum = matches!(which, 29 | 30 | 32 | 33);
+        let bound = match which {
+            0 => MOST_CALLS,
+            _ if sum => (SUM_BOUND >> 64) as u64,
+            _ => COUNT_BOUND,
+        };
+        let past = if sum { i64::MAX as u64 } else { u64::MAX };
+        for value in [bound - 1, bound, past, draw.random.below(1_000)] {
+            draw.push(call(LOAD, &[which, value]));
+            i += 1;
+            three_calls(&mut draw, i);
+            three_calls(&mut draw, i);
+        }
+    }
+    draw.script
+}
+
+/// A probe, a reply to it or to one of the last few, and its observation.
+fn three_calls(draw: &mut Draw, i: u32) {
+    let back = draw.random.below(3) as u32;
+    draw.sent(i, i);
+    let pending = draw.random.chance(500);
+    let sender = if draw.random.chance(100) {
+        i + 500
+    } else {
+        i.saturating_sub(back)
+    };
+    let reflector = i.wrapping_add(draw.random.of(&[0, 0, 1, u32::MAX - 3]));
+    let t3 = draw.random.below(3);
+    draw.accept((sender, reflector, t3), pending);
+    let drawn = small(draw, u64::from(i) + 2);
+    draw.push(drawn.call());
+}
+
 /// Past the end of every ring: probes, keys and offsets are evicted, slots are freed and made anew, the history of
-/// offsets is exceeded, and held probes are sent again.
-fn past_every_ring(random: &mut Random, turns: u32) -> Script {
-    let fresh = call(FRESH, &[2, 1, 3, 1_000_000]);
+/// offsets is exceeded, and held probes are sent again. There are `numbers` reflector numbers: more than the ring has keys, so
+/// that one comes back when its slot is free, or few, so that slots have counts far above 1.
+fn past_every_ring(random: &mut Random, turns: u32, numbers: u32, monitor: u64) -> Script {
+    let copies = random.of(&[1, 2]);
+    let fresh = fresh(random, copies, [monitor, 3, 1_000_000]);
     let mut draw = Draw::new(random, fresh, false);
-    let numbers = 4_400;
+    draw.spoilt = 3;
     for i in 0..turns {
         draw.now += 1_000;
         draw.sent = i;
@@ -446,7 +536,7 @@ fn past_every_ring(random: &mut Random, turns: u32) -> Script {
             let again = i.saturating_sub(draw.random.below(4_090) as u32);
             draw.sent(again, i);
         }
-        // A reflector number comes back after 4,400 turns, when its slot is free, or at once, so that slots have counts of 1, 2 and more.
+        // Some numbers come a second time while the first is still held.
         let reflector = if draw.random.chance(120) {
             i / 2
         } else {
@@ -457,33 +547,19 @@ fn past_every_ring(random: &mut Random, turns: u32) -> Script {
         let pending = unheld || draw.random.chance(500);
         draw.accept((sender, reflector, u64::from(i)), pending);
         if draw.random.chance(30) {
+            let again = draw.recent[draw.random.below(draw.recent.len() as u64) as usize];
+            let last = draw.last;
+            draw.accept(again, pending);
+            draw.last = last;
+        }
+        if draw.random.chance(30) {
             let now = draw.now;
             draw.push(call(ADVANCE, &[now]));
         }
         if draw.random.chance(60) {
             continue;
         }
-        let r = &mut draw.random;
-        let drawn = Drawn {
-            key: draw.last,
-            rtt: r.below(1 << 40),
-            t4: Some(i64::from(i) * 1_000),
-            ptp: true,
-            reference: i64::from(i),
-            offset: 0,
-            ordinal: Some(i),
-            counters: Some((i, i + 7, i + 9)),
-            follow: r.chance(500).then(|| {
-                let back = r.below(4_200) as u32;
-                (
-                    i.saturating_sub(back) % numbers,
-                    u64::from(i) << 32 | 5,
-                    false,
-                )
-            }),
-            quality: None,
-            anyway: None,
-        };
+        let drawn = long_observe(&mut draw, i, numbers);
         draw.push(drawn.call());
     }
     draw.digests = true;
@@ -493,10 +569,38 @@ fn past_every_ring(random: &mut Random, turns: u32) -> Script {
     draw.script
 }
 
+/// An observe in a long run: each reply has counters, and half of them a follow-up for one of the last 4,200 replies.
+fn long_observe(draw: &mut Draw, i: u32, numbers: u32) -> Drawn {
+    let r = &mut draw.random;
+    // Offsets leave gaps, which late replies fill.
+    let late = if r.chance(100) && i > 5 { 5 } else { 0 };
+    Drawn {
+        key: draw.last,
+        rtt: r.below(1 << 40),
+        t4: Some(i64::from(i) * 1_000),
+        ptp: true,
+        reference: i64::from(i),
+        offset: 0,
+        ordinal: Some(i),
+        counters: Some((i, i + 7, 2 * i + 9 - late)),
+        follow: r.chance(500).then(|| {
+            let back = r.below(4_200) as u32;
+            (
+                i.saturating_sub(back) % numbers,
+                u64::from(i) << 32 | 5,
+                false,
+            )
+        }),
+        quality: r.chance(300).then(|| (estimate(r), estimate(r))),
+        anyway: None,
+    }
+}
+
 /// The monitor's queue full, with the ledger's own calls.
 fn full_queue(random: &mut Random) -> Script {
-    let fresh = call(FRESH, &[1, 1, 2, 1_000_000_000]);
+    let fresh = fresh(random, 1, [1, 2, 1_000_000_000]);
     let mut draw = Draw::new(random, fresh, false);
+    draw.spoilt = 0;
     for i in 0..CAPACITY as u32 + 3 {
         draw.now += 1;
         draw.sent(i % 4_000, i);

@@ -1,9 +1,9 @@
--- `play_monitor::queue::digest` is safe and ends: a place is at most 4,096, and the measure is how many are left. Assumes nothing.
+-- `shown_queue::digest` is safe and ends: a place is at most 4,096, and the measure is how many are left. Assumes nothing.
 use borrow.Author.Needs.{needs}
 use native.Mathlib.Omega.{arith}
 use Prim.Native.Nat.{_≤_, _-_}
-use Rattle.play_monitor.proofs.queue.digest.Statement.{statement}
-use Rattle.play_monitor.proofs.queue.digest.Tie as tie
+use Rattle.shown_queue.proofs.digest.Statement.{statement}
+use Rattle.shown_queue.proofs.digest.Tie as tie
 
 abbrev Inv-loop : tie.InvT-loop
 Inv-loop ring room len digest₀ i₀ digest i = (i ≤ len) × (len ≤ 4096)

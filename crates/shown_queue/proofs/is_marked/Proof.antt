@@ -1,9 +1,9 @@
--- `play_monitor::queue::is_marked` is safe and ends: a place is at most 4,096, and the measure is how many are left. Assumes nothing.
+-- `shown_queue::is_marked` is safe and ends: a place is at most 4,096, and the measure is how many are left. Assumes nothing.
 use Prim.Native.Nat.{_≤_, _-_}
 use borrow.Author.Needs.{needs}
 use native.Mathlib.Omega.{arith}
-use Rattle.play_monitor.proofs.queue.is_marked.Statement.{statement}
-use Rattle.play_monitor.proofs.queue.is_marked.Tie as tie
+use Rattle.shown_queue.proofs.is_marked.Statement.{statement}
+use Rattle.shown_queue.proofs.is_marked.Tie as tie
 
 abbrev Inv-loop : tie.InvT-loop
 Inv-loop ring sequence room len i₀ i = (i ≤ len) × (len ≤ 4096)
