@@ -18,12 +18,12 @@ pub mod configuration {
 pub mod error_estimate;
 pub mod sender;
 pub mod stats;
-#[path = "../target/texts/time.rs"]
 pub mod time;
 pub mod tlv;
 
 use std::{
     env, fs,
+    io::{self, Read},
     process::exit,
     time::{Duration, Instant},
 };
@@ -35,7 +35,7 @@ use random::Random;
 /// The seed of the fixed list that the repository keeps.
 const SAMPLE_SEED: u64 = 20_261_027;
 
-const USAGE: &str = "usage: compare play START SEED SECONDS PART..   compare sample CRATES PART..   compare round CRATES SEED PART..   compare reach SEED PART..   compare parts";
+const USAGE: &str = "usage: compare play START SEED SECONDS PART..   compare sample CRATES PART..   compare round CRATES SEED PART..   compare reach SEED PART..   compare logs START SEED SECONDS LEAST   compare report < LOG   compare parts";
 
 fn main() {
     let args: Vec<String> = env::args().collect();
@@ -46,10 +46,16 @@ fn main() {
         Some("reach") if args.len() > 3 => {
             let seed = args[2].parse().expect(USAGE);
             chosen(&args[3..]).for_each(|part| reach(part, seed));
+            if args[3..].iter().any(|name| name == "logs") {
+                parts::logs::reach(seed);
+            }
         }
         Some("sample") if args.len() > 3 => {
             let made = |part: &Part| (part.sample)(&mut Random::new(SAMPLE_SEED));
             chosen(&args[3..]).for_each(|part| keep(part, made(part), &args[2]));
+            if args[3..].iter().any(|name| name == "logs") {
+                parts::logs::keep(&mut Random::new(SAMPLE_SEED), &args[2]);
+            }
         }
         Some("round") if args.len() > 4 => {
             let seed = args[3].parse().expect(USAGE);
@@ -61,6 +67,20 @@ fn main() {
             let seconds = args[4].parse().expect(USAGE);
             if !play(&args[2], seed, seconds, &args[5..]) {
                 exit(1);
+            }
+        }
+        Some("logs") if args.len() == 6 => {
+            let number = |i: usize| args[i].parse().expect(USAGE);
+            if !parts::logs::play(&args[2], number(3), number(4), number(5)) {
+                exit(1);
+            }
+        }
+        Some("report") => {
+            let mut log = Vec::new();
+            io::stdin().read_to_end(&mut log).expect("a log");
+            match parts::logs::example(&log) {
+                Some(text) => print!("{text}"),
+                None => exit(1),
             }
         }
         _ => {
