@@ -35,7 +35,7 @@ use random::Random;
 /// The seed of the fixed list that the repository keeps.
 const SAMPLE_SEED: u64 = 20_261_027;
 
-const USAGE: &str = "usage: compare play START SEED SECONDS PART..   compare sample CRATES PART..   compare round CRATES SEED PART..   compare reach SEED PART..   compare logs START SEED SECONDS LEAST   compare report < LOG   compare parts";
+const USAGE: &str = "usage: compare play START SEED SECONDS PART..   compare sample CRATES PART..   compare round CRATES SEED PART..   compare reach SEED PART..   compare logs START SEED SECONDS LEAST   compare report < LOG   compare list < LOG   compare parts";
 
 fn main() {
     let args: Vec<String> = env::args().collect();
@@ -75,10 +75,15 @@ fn main() {
                 exit(1);
             }
         }
-        Some("report") => {
+        Some(asked @ ("report" | "list")) => {
             let mut log = Vec::new();
             io::stdin().read_to_end(&mut log).expect("a log");
-            match parts::logs::example(&log) {
+            let text = if asked == "report" {
+                parts::logs::example(&log)
+            } else {
+                parts::logs::list(&log)
+            };
+            match text {
                 Some(text) => print!("{text}"),
                 None => exit(1),
             }

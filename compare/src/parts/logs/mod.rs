@@ -23,6 +23,8 @@ use original::{Conversion, LINES};
 const PLAYER: &str = "play_logs";
 /// The program itself: one log in, its report out.
 const PROGRAM: &str = "linkreport";
+/// Makes a log from its list.
+const MAKER: &str = "tools/make-log";
 const FAILING: &str = "compare/target/failing";
 
 /// Plays rounds until the time is over and at least `least` logs were played. 0 seconds: one short round.
@@ -34,6 +36,8 @@ pub fn play(start: &str, seed: u64, seconds: u64, least: u64) -> bool {
         kinds: BTreeMap::new(),
         total: 0,
         alone: 0,
+        lists: 0,
+        python: Command::new("python3").arg("--version").output().is_ok(),
         failed: false,
     };
     let mut round = 0;
@@ -76,6 +80,9 @@ struct Played<'a> {
     total: u64,
     /// How many of them were played by `linkreport` itself too.
     alone: u64,
+    /// How many were made again by `tools/make-log`.
+    lists: u64,
+    python: bool,
     failed: bool,
 }
 
@@ -92,6 +99,12 @@ impl Played<'_> {
             let same = reports.get(i).is_some_and(|r| r == text.as_bytes());
             let alone = (self.total as usize + i) % every == 0;
             self.alone += u64::from(alone);
+            if alone && !self.made_again(&made.bytes) {
+                println!("DIFFERENCE in logs: {MAKER} makes another log from the list of log {i}");
+                fs::write(format!("{FAILING}.log"), &made.bytes).expect(FAILING);
+                self.failed = true;
+                return;
+            }
             if !same || (alone && play_one(self.start, &made.bytes) != text.as_bytes()) {
                 println!("DIFFERENCE in logs: {kind}, log {i} of {}", logs.len());
                 self.failed = true;
@@ -108,6 +121,16 @@ impl Played<'_> {
         }
     }
 
+    /// Whether the tool makes a good log again from its list. Where there is no python3, no list is counted.
+    fn made_again(&mut self, bytes: &[u8]) -> bool {
+        let list = record::list(bytes).filter(|_| self.python);
+        let Some(list) = list else {
+            return true;
+        };
+        self.lists += 1;
+        run(MAKER, &[], list.as_bytes()) == bytes
+    }
+
     fn print(&self, rounds: u64, seed: u64) -> bool {
         if self.failed {
             return false;
@@ -122,21 +145,21 @@ impl Played<'_> {
             println!("NOT REACHED in logs: {line}");
         }
         println!(
-            "logs: {} logs, {} of them by {PROGRAM} itself, {rounds} rounds from seed {seed}",
-            self.total, self.alone
+            "logs: {} logs, {} of them by {PROGRAM} itself, {} made again from their lists, {rounds} rounds from seed {seed}",
+            self.total, self.alone, self.lists
         );
         missing.is_empty()
     }
 }
 
 /// What a program writes that is given these bytes.
-fn run(start: &str, program: &str, given: &[u8]) -> Vec<u8> {
+fn run(start: &str, program: &[&str], given: &[u8]) -> Vec<u8> {
     let mut child = Command::new(start)
-        .arg(program)
+        .args(program)
         .stdin(Stdio::piped())
         .stdout(Stdio::piped())
         .spawn()
-        .unwrap_or_else(|e| panic!("{start} {program}: {e}"));
+        .unwrap_or_else(|e| panic!("{start} {program:?}: {e}"));
     let mut stdin = child.stdin.take().unwrap();
     let mut written = Vec::new();
     thread::scope(|s| {
@@ -149,13 +172,13 @@ fn run(start: &str, program: &str, given: &[u8]) -> Vec<u8> {
     });
     let status = child.wait().unwrap();
     if !status.success() {
-        written.extend_from_slice(format!("{program}: {status}").as_bytes());
+        written.extend_from_slice(format!("{start} {program:?}: {status}").as_bytes());
     }
     written
 }
 
 fn play_one(start: &str, log: &[u8]) -> Vec<u8> {
-    run(start, PROGRAM, log)
+    run(start, &[PROGRAM], log)
 }
 
 /// What the player is given for these logs.
@@ -169,7 +192,7 @@ fn given(logs: &[Made]) -> Vec<u8> {
 }
 
 fn play_all(start: &str, logs: &[Made]) -> Vec<Vec<u8>> {
-    let written = run(start, PLAYER, &given(logs));
+    let written = run(start, &[PLAYER], &given(logs));
     let mut reports: Vec<Vec<u8>> = written.split(|b| *b == 0).map(<[u8]>::to_vec).collect();
     // What stands after the last 0 byte is no report, and nothing where all went well.
     if reports.last().is_some_and(Vec::is_empty) {
@@ -223,14 +246,7 @@ fn report_difference(start: &str, made: &Made) {
         "  smallest failing log: {FAILING}.log, {} bytes",
         small.bytes.len()
     );
-    if let Ok((settings, records)) = record::read(&small.bytes) {
-        let mut list = format!(
-            "copies {}\nthreshold {}\ntimeout {}\n",
-            settings.copies, settings.threshold, settings.timeout
-        );
-        records
-            .iter()
-            .for_each(|r| list += &(record::line(r) + "\n"));
+    if let Some(list) = record::list(&small.bytes) {
         print!("{list}");
         fs::write(format!("{FAILING}.txt"), list).expect(FAILING);
     }
@@ -243,6 +259,11 @@ fn report_difference(start: &str, made: &Made) {
         }
         None => println!("  {PROGRAM} itself prints the original's text: only {PLAYER} differs"),
     }
+}
+
+/// The list of a good log.
+pub fn list(bytes: &[u8]) -> Option<String> {
+    record::list(bytes)
 }
 
 /// The original's report of a log that was given on standard input, for the examples. None where the time that the log

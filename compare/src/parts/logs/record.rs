@@ -190,8 +190,24 @@ pub fn read(bytes: &[u8]) -> Result<(Settings, Vec<Record>), Refused> {
     Ok((settings, records))
 }
 
+/// A good log as the list from which tools/make-log makes it.
+pub fn list(bytes: &[u8]) -> Option<String> {
+    let (settings, records) = read(bytes).ok()?;
+    let mut list = format!(
+        "copies {}\nthreshold {}\ntimeout {}\n",
+        settings.copies, settings.threshold, settings.timeout
+    );
+    let first = bytes.len() - TRAILER - RECORD * records.len();
+    for part in bytes[..first].chunks(40) {
+        let digits: String = part.iter().map(|b| format!("{b:02x}")).collect();
+        list += &format!("before {digits}\n");
+    }
+    records.iter().for_each(|r| list += &(line(r) + "\n"));
+    Some(list)
+}
+
 /// A record as a line that tools/make-log reads.
-pub fn line(r: &Record) -> String {
+fn line(r: &Record) -> String {
     let n = |at, size| r.number(at, size);
     match r.kind() {
         SENT => format!(
