@@ -224,6 +224,15 @@ pub fn rows(table: &mut Table) {
                 turn!(original, Stream::New, i);
             }
         }
+        if let Stream::Held(distance) = stream {
+            // Once round, so that each sequence stands where it was sent so many calls before.
+            for _ in 0..distance {
+                i += 1;
+                j += 1;
+                turn!(ours, stream, i);
+                turn!(original, stream, j);
+            }
+        }
         table.row(
             name,
             times,

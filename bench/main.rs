@@ -13,6 +13,8 @@ pub mod configuration {
 }
 #[path = "../compare/target/texts/error_estimate.rs"]
 pub mod error_estimate;
+#[path = "../compare/target/texts/quantiles.rs"]
+mod original_quantiles;
 #[path = "../compare/src/sender/mod.rs"]
 pub mod sender;
 #[path = "../compare/src/stats/mod.rs"]

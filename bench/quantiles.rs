@@ -1,5 +1,5 @@
 // src/stats/quantiles.rs: `record` and `percentiles`, exact and as a histogram, unsigned and signed.
-use crate::stats::quantiles::Quantiles;
+use crate::original_quantiles::Quantiles;
 use crate::table::Table;
 use std::hint::black_box;
 
@@ -43,7 +43,7 @@ fn samples(n: usize) -> Vec<u64> {
 }
 
 #[inline(never)]
-fn original_record<T: crate::stats::quantiles::QuantileValue>(q: &mut Quantiles<T>, value: T) -> bool {
+fn original_record<T: crate::original_quantiles::QuantileValue>(q: &mut Quantiles<T>, value: T) -> bool {
     q.record(value)
 }
 

@@ -182,7 +182,7 @@ pub fn scripts(random: &mut Random, long: bool) -> Vec<Script> {
         all.push(limits(random, 120));
     }
     all.push(bounds(random));
-    let turns = if long { 9_000 } else { 4_700 };
+    let turns = if long { 9_000 } else { 6_000 };
     all.push(past_every_ring(random, turns, 4_400, 1));
     all.push(past_every_ring(random, turns, 60, 0));
     all.push(full_queue(random));
@@ -532,7 +532,7 @@ fn past_every_ring(random: &mut Random, turns: u32, numbers: u32, monitor: u64) 
         draw.now += 1_000;
         draw.sent = i;
         draw.sent(i, i);
-        if draw.random.chance(20) {
+        if draw.random.chance(50) {
             let again = i.saturating_sub(draw.random.below(4_090) as u32);
             draw.sent(again, i);
         }
@@ -542,8 +542,18 @@ fn past_every_ring(random: &mut Random, turns: u32, numbers: u32, monitor: u64) 
         } else {
             i % numbers
         };
+        // Some replies are to probes that were sent long before.
         let unheld = draw.random.chance(20);
-        let sender = if unheld { i + (1 << 20) } else { i };
+        let back = if draw.random.chance(200) {
+            draw.random.below(4_090) as u32
+        } else {
+            0
+        };
+        let sender = if unheld {
+            i + (1 << 20)
+        } else {
+            i.saturating_sub(back)
+        };
         let pending = unheld || draw.random.chance(500);
         draw.accept((sender, reflector, u64::from(i)), pending);
         if draw.random.chance(30) {
