@@ -678,34 +678,41 @@ fn trailers(random: &mut Random) -> Vec<Made> {
     all
 }
 
-/// The lengths around each bound, for each of three ways to come to a length.
+/// The lengths around each bound. A log whose last record is bad shows that all before it were read, and is not played.
 fn lengths(random: &mut Random, long: bool) -> Vec<Made> {
     let mut draw = dense_calls(random, MOST_RECORDS);
     draw.records.truncate(MOST_RECORDS);
     let (records, settings) = (draw.records, draw.settings);
-    let short = |k: &usize| long || *k < 4 || *k > MOST_RECORDS - 2 || *k % 97 == 0;
-    let bounds = (0..=MOST_RECORDS).filter(short);
-    let around = bounds.flat_map(|k| {
-        let at = TRAILER + RECORD * k;
-        [at - 1, at, at + 1]
-    });
-    let mut sizes: Vec<usize> = (0..=30).chain(around).collect();
-    sizes.extend([MOST_BYTES - 1, MOST_BYTES, MOST_BYTES + 1, MOST_BYTES + 2]);
-    sizes.extend([MOST_BYTES + 96, MOST_BYTES + 400]);
-    let whole = log(&any(random, 600), &records, settings);
+    let ends = |k: usize| k < 4 || k > MOST_RECORDS - 2;
     let mut all = Vec::new();
-    for size in sizes {
+    for k in (0..=MOST_RECORDS).filter(|k| long || ends(*k) || k % 97 == 0) {
+        let good = log(&[], &records[..k], settings);
+        all.push(brought(good[1..].to_vec()));
+        if ends(k) || k % 40 == 0 {
+            all.push(brought(log(b"S", &records[..k], settings)));
+            all.push(brought(good));
+        }
+        if k > 0 {
+            let mut spoiled = records[..k].to_vec();
+            spoiled[k - 1].0[95] ^= 1;
+            all.push(brought(log(b"S", &spoiled, settings)));
+            all.push(brought(log(&[], &spoiled, settings)));
+        }
+    }
+    let whole = log(&any(random, 600), &records, settings);
+    let most = [MOST_BYTES - 1, MOST_BYTES, MOST_BYTES + 1, MOST_BYTES + 2];
+    for size in (0..=30)
+        .chain(most)
+        .chain([MOST_BYTES + 96, MOST_BYTES + 400])
+    {
         // As many records as fit, with other bytes before them; the end of a longer log; its beginning.
-        let count = (size.saturating_sub(TRAILER) / RECORD).min(MOST_RECORDS);
-        let rest = size.saturating_sub(TRAILER + RECORD * count);
         if size >= TRAILER {
-            let before = vec![0x53; rest];
+            let count = ((size - TRAILER) / RECORD).min(MOST_RECORDS);
+            let before = vec![0x53; size - TRAILER - RECORD * count];
             all.push(brought(log(&before, &records[..count], settings)));
         }
         all.push(brought(whole[whole.len() - size..].to_vec()));
-        if size < 1_000 || size > MOST_BYTES - 100 {
-            all.push(brought(whole[..size].to_vec()));
-        }
+        all.push(brought(whole[..size].to_vec()));
     }
     all
 }
