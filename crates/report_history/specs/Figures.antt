@@ -1,0 +1,80 @@
+-- The report of a log from the plain list of its served calls: each number by the definitions of crate history, and none from the code's state.
+-- Assumes nothing.
+use mathlib.Core.List.{List, [], _∷_}
+use Prim.Native.Nat.{ℕ, zero, suc, _-_}
+use lib.ListN.{length}
+use Rattle.scope.specs.Limits.{capacity}
+use Rattle.calls.specs.declared.Call.{Call}
+use Rattle.probe_queue.specs.declared.Probe.{Probe}
+use Rattle.history.specs.Ledger.{copiesOf, replyCounts, thousandths}
+use Rattle.history.specs.DirectLoss.{directCounts}
+use Rattle.history.specs.FollowUps.{followCounts}
+use Rattle.history.specs.Figures.{roundTripFigures}
+use Rattle.observe_history.specs.Direct.{countsOf, summaryFrom}
+use Rattle.observe_history.specs.RoundTrips.{delaysFrom}
+use Rattle.observe_history.specs.FollowUps.{countsFrom}
+use Rattle.ledger_steps.specs.Rooms.{Rooms}
+use Rattle.link_history.specs.Fresh.{Watching, alone, watching, Making}
+use Rattle.link_history.specs.Shows.{lostOf}
+use Rattle.link_history.specs.Monitor.{monitorFrom}
+use Rattle.link_history.specs.Link.{servedFrom}
+use Rattle.link_log.specs.declared.Settings.{Settings}
+use Rattle.link_log.specs.declared.Played.{Played}
+use Rattle.link_log.specs.declared.Played.the-variants as read
+use Rattle.link_log.specs.Logs.{callAt}
+use Rattle.report.specs.declared.figures.Session.{Session}
+use Rattle.report.specs.declared.figures.Session.the-variants as session
+use Rattle.report.specs.declared.figures.Figures.{Figures}
+use Rattle.link_figures.specs.Figures.{sessionBy, followupOf, directOf, missingOf, roundTripOf}
+
+-- ---- the calls of a log
+
+abbrev pub callThen : Played → List Call → List Call
+callThen read.Nothing cs = cs
+callThen (read.Call c) cs = c ∷ cs
+
+-- those of its first n records, newest first
+unfoldable pub logCalls : List ℕ → ℕ → List Call
+logCalls log zero = []
+logCalls log (suc n) = callThen (callAt log n) (logCalls log n)
+
+-- ---- the link that its settings ask for
+
+-- "threshold (u16; 0 means no monitor)"
+abbrev pub watchingBy : ℕ → ℕ → Watching
+watchingBy zero timeout = alone
+watchingBy (suc n) timeout = watching (suc n) timeout
+
+abbrev pub makingBy : Settings → List ℕ → List Probe → Rooms → Making
+makingBy s secret queue rooms = record { copies = s .copies; secret = secret; monitor = watchingBy (s .threshold) (s .timeout); rooms = rooms; queue = queue }
+
+-- ---- the figures, from the served calls h
+
+abbrev pub sessionFrom : Watching → List Call → Session
+sessionFrom alone h = session.None
+sessionFrom (watching threshold timeout) h = sessionBy (monitorFrom threshold timeout h .summary .state) (monitorFrom threshold timeout h .summary .«consecutive_losses»)
+
+unfoldable pub figuresFrom : (copies : ℕ) → Watching → List Call → (records turned : ℕ) → Figures
+figuresFrom copies v h records turned =
+    let c = replyCounts capacity copies h in
+    record {
+      played = record { records = records; «turned_away» = turned };
+      loss = record { requested = c .requested; unobserved = lostOf c; thousandths = thousandths (c .requested) (lostOf c) };
+      replies = record { unique = c .unique; duplicate = c .duplicate; unknown = c .unknown };
+      probes = record { answered = c .answered; additional = c .additional; late = c .late };
+      order = record { reordered = c .reordered; independent = c .independent };
+      followup = followupOf (countsFrom (followCounts capacity copies h));
+      direct = directOf (countsOf (directCounts capacity h));
+      missing = missingOf (summaryFrom capacity h);
+      session = sessionFrom v h;
+      rtt = roundTripOf (delaysFrom (roundTripFigures capacity h));
+    }
+
+-- ---- the report of a log
+
+abbrev pub reportBy : (copies : ℕ) → Watching → List Call → ℕ → Figures
+reportBy copies v cs records = figuresFrom copies v (servedFrom v cs) records (length cs - length (servedFrom v cs))
+
+-- of all of its calls those that are served, and how many are not
+abbrev pub reportFrom : List ℕ → Settings → Figures
+reportFrom log s = reportBy (copiesOf (s .copies)) (watchingBy (s .threshold) (s .timeout)) (logCalls log (s .count)) (s .count)
