@@ -1,1 +1,3 @@
 pub mod Theorem
+pub mod Bytes
+pub mod Whole

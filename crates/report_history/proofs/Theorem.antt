@@ -1,7 +1,7 @@
 -- EACH NUMBER OF A LOG'S REPORT IS WHAT ITS SERVED CALLS CALL FOR. Assumes nothing.
-use mathlib.Core.Path.{_≡_, refl, sym, ap, _∙_}
+use mathlib.Core.Path.{_≡_, refl, ap, _∙_}
 use mathlib.Core.Bool.{Bool, true}
-use mathlib.Core.List.{List, [], _∷_}
+use mathlib.Core.List.{List}
 use Prim.Native.Nat.{ℕ, zero, suc, _+_, _-_}
 use native.Mathlib.Omega.{arith}
 use lib.ListN.{length}
@@ -26,11 +26,10 @@ use Rattle.link_log.specs.declared.Played.{Played}
 use Rattle.link_log.specs.declared.Played.the-variants as read
 use Rattle.link_log.specs.Logs.{callAt, logOf}
 use Rattle.link_tally.specs.Tally.{Tallied, recorded, tallied}
-use Rattle.report.specs.declared.figures.Figures.{Figures}
 use Rattle.report.specs.Lines.{textOf}
 use Rattle.report.specs.Report.{written, wrong}
 use Rattle.link_figures.specs.Figures.{sessionBy, sessionOf, followupOf, directOf, missingOf, roundTripOf, figuresOf}
-use Rattle.link_report.specs.LogReport.{watchBy, startBy, endOf, playedText, Reported, reported, reportBy as reportOfCase, fits, pickReported, reportOfLog}
+use Rattle.link_report.specs.LogReport.{watchBy, startBy, endOf, playedText, reported, reportBy as reportOfCase, fits, pickReported, reportOfLog}
 use Rattle.report_history.specs.Figures.{callThen, logCalls, watchingBy, makingBy, sessionFrom, figuresFrom, reportFrom}
 
 -- ---- the tally of a log's records is what its calls leave

@@ -1,0 +1,173 @@
+-- The numbers of a call that is read from a log fit their types. Assumes nothing.
+use mathlib.Core.Path.{_≡_, ap, subst}
+use mathlib.Core.Bool.{Bool, true, false, cond}
+use mathlib.Core.List.{List, [], _∷_}
+use Prim.Native.Nat.{ℕ, zero, suc, _+_, _*_, _^_, _<_}
+use native.Mathlib.Omega.{arith}
+use lib.Dec.{eqb, ltb, lit<}
+use lib.ListN.{length, getD, take, drop}
+use Rattle.big_endian.specs.Numbers.{numberAt}
+use Rattle.calls.specs.declared.Call.{Call}
+use Rattle.calls.specs.declared.Call.the-variants as call
+use Rattle.reply_history.specs.Fits.{KeyFits, OrdinalFits, CountersFit, FollowFits}
+use Rattle.observe_history.specs.FollowUps.{QualityFits}
+use Rattle.calls.specs.declared.Time.{Time}
+use Rattle.record_parts.specs.Parts.{flag, timeBy, ordinalBy, countersBy, followBy, estimatesBy}
+use Rattle.log_record.specs.Records.{keyAt, sentAt, acceptAt, observeAt, callOf, answer, badRecord, readNumber, readOf}
+use Rattle.link_log.specs.declared.Settings.{Settings}
+use Rattle.link_log.specs.declared.Log.{Log}
+use Rattle.link_log.specs.declared.Log.the-variants as log'
+use Rattle.link_log.specs.declared.Played.{Played}
+use Rattle.link_log.specs.declared.Played.the-variants as read
+use Rattle.link_log.specs.Logs.{trailerAt, countOf, settingsOf, mostBytes, trailerGood, recordAt, playedBy, callAt, logOf, numberBy, recordsNumber, firstOf, badTrailer}
+use Rattle.link_history.specs.Fresh.{Fits, AllFits}
+use Rattle.report_history.specs.Bytes.{BytesIn}
+use Rattle.report_history.specs.Figures.{callThen, logCalls}
+
+-- ---- bytes of a part of the log
+
+bytes-drop : (n : ℕ) (bs : List ℕ) → BytesIn bs → BytesIn (drop n bs)
+bytes-drop zero bs h = h
+bytes-drop (suc n) [] h = h
+bytes-drop (suc n) (b ∷ bs) h = bytes-drop n bs (λ i. h (suc i))
+
+bytes-take : (n : ℕ) (bs : List ℕ) → BytesIn bs → BytesIn (take n bs)
+bytes-take zero bs h i = lit< tt
+bytes-take (suc n) [] h i = lit< tt
+bytes-take (suc n) (b ∷ bs) h zero = h 0
+bytes-take (suc n) (b ∷ bs) h (suc i) = bytes-take n bs (λ j. h (suc j)) i
+
+-- ---- numbers of two, four and eight bytes
+
+join-two : (a b : ℕ) → a < 256 → b < 256 → a * 256 + b < 65536
+join-two a b l m = omega arith
+
+join-four : (a b : ℕ) → a < 65536 → b < 65536 → a * 65536 + b < 4294967296
+join-four a b l m = omega arith
+
+join-eight : (a b : ℕ) → a < 4294967296 → b < 4294967296 → a * 4294967296 + b < 18446744073709551616
+join-eight a b l m = omega arith
+
+module _ (bs : List ℕ) (h : BytesIn bs) where
+  pub two-bytes : (at : ℕ) → numberAt 1 bs at < 2 ^ 16
+  two-bytes at = join-two (getD bs at 0) (getD bs (at + 1) 0) (h at) (h (at + 1))
+
+  pub four-bytes : (at : ℕ) → numberAt 2 bs at < 2 ^ 32
+  four-bytes at = join-four (numberAt 1 bs at) (numberAt 1 bs (at + 2)) (two-bytes at) (two-bytes (at + 2))
+
+  pub eight-bytes : (at : ℕ) → numberAt 3 bs at < 2 ^ 64
+  eight-bytes at = join-eight (numberAt 2 bs at) (numberAt 2 bs (at + 4)) (four-bytes at) (four-bytes (at + 4))
+
+-- ---- the parts of a call
+
+ordinal-fits : (b : Bool) (n : ℕ) → n < 2 ^ 32 → OrdinalFits (ordinalBy b n)
+ordinal-fits true n l = l
+ordinal-fits false n l = tt
+
+counters-fit : (b : Bool) (s r t : ℕ) → s < 2 ^ 32 → r < 2 ^ 32 → t < 2 ^ 32 → CountersFit (countersBy b s r t)
+counters-fit true s r t ls lr lt = record { sender-in = ls; received-in = lr; transmitted-in = lt }
+counters-fit false s r t ls lr lt = tt
+
+follow-fits : (b : Bool) (s t : ℕ) (u : Bool) (z : Time) → s < 2 ^ 32 → t < 2 ^ 64 → FollowFits (followBy b s t u z)
+follow-fits true s t u z ls lt = record { sequence-in = ls; timestamp-in = lt }
+follow-fits false s t u z ls lt = tt
+
+quality-fits : (b : Bool) (s r : ℕ) → QualityFits (estimatesBy b s r)
+quality-fits true s r = (omega arith, omega arith)
+quality-fits false s r = tt
+
+module _ (r : List ℕ) (h : BytesIn r) where
+  key-fits : KeyFits (keyAt r)
+  key-fits = record { sender-in = four-bytes r h 4; reflector-in = four-bytes r h 8; t3-in = eight-bytes r h 12 }
+
+  sent-fits : Fits (call.Sent (sentAt r))
+  sent-fits = (record { sequence-in = four-bytes r h 4; ordinal-in = four-bytes r h 8 }, tt)
+
+  observe-fits : (flags : ℕ) → Fits (call.Observe (observeAt flags r))
+  observe-fits flags = (
+    record {
+      key-fits = key-fits;
+      rtt-in = eight-bytes r h 20;
+      ordinal-fits = ordinal-fits (flag 2 flags) (numberAt 2 r 48) (four-bytes r h 48);
+      counters-fit = counters-fit (flag 4 flags) (numberAt 2 r 52) (numberAt 2 r 56) (numberAt 2 r 60) (four-bytes r h 52) (four-bytes r h 56) (four-bytes r h 60);
+      follow-fits = follow-fits (flag 8 flags) (numberAt 2 r 64) (numberAt 3 r 68) (flag 128 flags) (timeBy (flag 16 flags) (numberAt 3 r 76)) (four-bytes r h 64) (eight-bytes r h 68);
+    },
+    quality-fits (flag 32 flags) (numberAt 1 r 84) (numberAt 1 r 86),
+  )
+
+  by-kind : (flags : ℕ) (a b c d : Bool) → Fits (cond a (call.Sent (sentAt r)) (cond b (call.Accept (acceptAt flags r)) (cond c (call.Observe (observeAt flags r)) (cond d (call.Advance (numberAt 3 r 4)) call.Idle))))
+  by-kind flags true b c d = sent-fits
+  by-kind flags false true c d = (key-fits, tt)
+  by-kind flags false false true d = observe-fits flags
+  by-kind flags false false false true = (eight-bytes r h 4, tt)
+  by-kind flags false false false false = (tt, tt)
+
+  pub call-fits : Fits (callOf r)
+  unfolding callOf
+  call-fits = by-kind (numberAt 0 r 1) (eqb (numberAt 0 r 0) 0) (eqb (numberAt 0 r 0) 1) (eqb (numberAt 0 r 0) 2) (eqb (numberAt 0 r 0) 3)
+
+-- ---- the calls of a log
+
+abbrev PlayedFits : Played → Type 0
+PlayedFits read.Nothing = Unit
+PlayedFits (read.Call c) = Fits c
+
+answer-fits : (n : ℕ) (c : Call) → Fits c → PlayedFits (playedBy (answer n c))
+answer-fits zero c f = f
+answer-fits (suc n) c f = tt
+
+read-fits : (r : List ℕ) → BytesIn r → PlayedFits (playedBy (readOf r))
+unfolding readOf
+read-fits r h = answer-fits (readNumber r) (callOf r) (call-fits r h)
+
+picked-fits : (a b c : Bool) (p : Played) → PlayedFits p → PlayedFits (cond a read.Nothing (cond b (cond c p read.Nothing) read.Nothing))
+picked-fits true b c p f = tt
+picked-fits false true true p f = f
+picked-fits false true false p f = tt
+picked-fits false false c p f = tt
+
+played-fits : (log : List ℕ) → BytesIn log → (i : ℕ) → PlayedFits (callAt log i)
+unfolding callAt
+played-fits log h i =
+    picked-fits (ltb mostBytes (length log)) (trailerGood log) (ltb i (countOf log)) (playedBy (readOf (recordAt log (settingsOf log .start) i)))
+    (read-fits (recordAt log (settingsOf log .start) i) (bytes-take 96 (drop (settingsOf log .start + 96 * i) log) (bytes-drop (settingsOf log .start + 96 * i) log h)))
+
+then-fits : (p : Played) (cs : List Call) → PlayedFits p → AllFits cs → AllFits (callThen p cs)
+unfolding AllFits
+then-fits read.Nothing cs f w = w
+then-fits (read.Call c) cs f w = (f, w)
+
+pub log-fits : (log : List ℕ) → BytesIn log → (n : ℕ) → AllFits (logCalls log n)
+unfolding AllFits logCalls
+log-fits log h zero = tt
+log-fits log h (suc n) = then-fits (callAt log n) (logCalls log n) (played-fits log h n) (log-fits log h n)
+
+-- ---- the settings of a good log
+
+abbrev NotGood : Log → Type 0
+NotGood (log'.Good s) = ⊥
+NotGood log'.TooLong = Unit
+NotGood log'.BadTrailer = Unit
+NotGood (log'.BadRecord n) = Unit
+
+abbrev settingsIn : Settings → Log → Settings
+settingsIn d (log'.Good s) = s
+settingsIn d log'.TooLong = d
+settingsIn d log'.BadTrailer = d
+settingsIn d (log'.BadRecord n) = d
+
+good-is : (a b c : Bool) (first : ℕ) (t s : Settings) → cond a (log'.Good t) (cond b (log'.BadRecord first) (cond c log'.BadTrailer log'.TooLong)) ≡ log'.Good s → t ≡ s
+good-is true b c first t s e = ap (settingsIn t) e
+good-is false true c first t s e = absurd (subst NotGood e tt)
+good-is false false true first t s e = absurd (subst NotGood e tt)
+good-is false false false first t s e = absurd (subst NotGood e tt)
+
+pub good-settings : (log : List ℕ) (s : Settings) → logOf log ≡ log'.Good s → settingsOf log ≡ s
+unfolding logOf
+good-settings log s e =
+    let n = numberBy (ltb mostBytes (length log)) (trailerGood log) (recordsNumber (firstOf log) (settingsOf log .count)) in
+    good-is (eqb n 0) (eqb n badRecord) (eqb n badTrailer) (firstOf log) (settingsOf log) s e
+
+pub copies-in : (log : List ℕ) → BytesIn log → settingsOf log .copies < 2 ^ 16
+unfolding settingsOf
+copies-in log h = two-bytes log h (trailerAt log + 8)
