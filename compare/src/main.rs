@@ -35,7 +35,7 @@ use random::Random;
 /// The seed of the fixed list that the repository keeps.
 const SAMPLE_SEED: u64 = 20_261_027;
 
-const USAGE: &str = "usage: compare play START SEED SECONDS PART..   compare sample CRATES PART..   compare round CRATES SEED PART..   compare reach SEED PART..   compare logs START SEED SECONDS LEAST   compare report < LOG   compare list < LOG   compare parts";
+const USAGE: &str = "usage: compare play START SEED SECONDS PART..   compare sample CRATES PART..   compare round CRATES SEED PART..   compare reach SEED PART..   compare logs START SEED SECONDS LEAST   compare shipped START FOLDER   compare files START FOLDER   compare report < LOG   compare list < LOG   compare parts";
 
 fn main() {
     let args: Vec<String> = env::args().collect();
@@ -72,6 +72,16 @@ fn main() {
         Some("logs") if args.len() == 6 => {
             let number = |i: usize| args[i].parse().expect(USAGE);
             if !parts::logs::play(&args[2], number(3), number(4), number(5)) {
+                exit(1);
+            }
+        }
+        Some("shipped") if args.len() == 4 => {
+            if !parts::logs::shipped(&args[2], &args[3], 20_000) {
+                exit(1);
+            }
+        }
+        Some("files") if args.len() == 4 => {
+            if !parts::logs::files(&args[2], &args[3]) {
                 exit(1);
             }
         }

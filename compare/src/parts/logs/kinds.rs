@@ -9,6 +9,7 @@ use super::{
     },
 };
 use crate::random::Random;
+use std::ops::Range;
 
 /// A log and whose conversion the original uses when it plays it.
 #[derive(Clone)]
@@ -17,11 +18,18 @@ pub struct Made {
     pub conversion: Conversion,
 }
 
-fn brought(bytes: Vec<u8>) -> Made {
-    Made {
-        bytes,
-        conversion: Conversion::Brought,
+impl Made {
+    /// A log on which the original uses the times that it brings.
+    pub fn brought(bytes: Vec<u8>) -> Self {
+        Self {
+            bytes,
+            conversion: Conversion::Brought,
+        }
     }
+}
+
+fn brought(bytes: Vec<u8>) -> Made {
+    Made::brought(bytes)
 }
 
 /// How many logs of a drawn kind stand in one round.
@@ -73,7 +81,8 @@ pub fn round(random: &mut Random, long: bool, each: &mut dyn FnMut(&'static str,
         vec![random.below(255) as u8 + 1]
     };
     for part in values.chunks(16) {
-        each("every single byte changed", changes(&small, part));
+        let all = changes(&small, 0..small.len(), part);
+        each("every single byte changed", all);
     }
 }
 
@@ -543,12 +552,12 @@ fn bits(small: &[u8], step: usize) -> Vec<Made> {
         .collect()
 }
 
-/// Each byte of a log changed by each of these values.
-fn changes(small: &[u8], values: &[u8]) -> Vec<Made> {
-    let places = (0..small.len()).flat_map(|at| values.iter().map(move |v| (at, *v)));
+/// Each of these bytes of a log changed by each of these values.
+pub fn changes(log: &[u8], places: Range<usize>, values: &[u8]) -> Vec<Made> {
+    let places = places.flat_map(|at| values.iter().map(move |v| (at, *v)));
     places
         .map(|(at, value)| {
-            let mut bytes = small.to_vec();
+            let mut bytes = log.to_vec();
             bytes[at] ^= value;
             brought(bytes)
         })

@@ -5,6 +5,7 @@
 mod kinds;
 mod original;
 mod record;
+mod shipped;
 
 use std::{
     collections::BTreeMap,
@@ -18,6 +19,7 @@ use std::{
 use crate::{cover::Cover, random::Random};
 use kinds::Made;
 use original::{Conversion, LINES};
+pub use shipped::{files, play as shipped};
 
 /// Logs in, reports out: each log's length in eight bytes, lowest first, and its bytes; each report ends in a 0 byte.
 const PLAYER: &str = "play_logs";
@@ -30,16 +32,7 @@ const FAILING: &str = "compare/target/failing";
 /// Plays rounds until the time is over and at least `least` logs were played. 0 seconds: one short round.
 pub fn play(start: &str, seed: u64, seconds: u64, least: u64) -> bool {
     let began = Instant::now();
-    let mut played = Played {
-        start,
-        cover: Cover::new(&LINES),
-        kinds: BTreeMap::new(),
-        total: 0,
-        alone: 0,
-        lists: 0,
-        python: Command::new("python3").arg("--version").output().is_ok(),
-        failed: false,
-    };
+    let mut played = Played::new(start);
     let mut round = 0;
     let every = if seconds > 0 { 500 } else { 40 };
     loop {
@@ -86,8 +79,22 @@ struct Played<'a> {
     failed: bool,
 }
 
-impl Played<'_> {
-    fn batch(&mut self, kind: &'static str, logs: &[Made], every: usize) {
+impl<'a> Played<'a> {
+    fn new(start: &'a str) -> Self {
+        Self {
+            start,
+            cover: Cover::new(&LINES),
+            kinds: BTreeMap::new(),
+            total: 0,
+            alone: 0,
+            lists: 0,
+            python: Command::new("python3").arg("--version").output().is_ok(),
+            failed: false,
+        }
+    }
+
+    /// Plays these logs on both sides, and one of `every` by the program itself. Answers the original's texts.
+    fn batch(&mut self, kind: &'static str, logs: &[Made], every: usize) -> Vec<String> {
         let expected: Vec<String> = logs
             .iter()
             .map(|made| original::report(&made.bytes, made.conversion, &mut self.cover))
@@ -103,12 +110,13 @@ impl Played<'_> {
                 println!("DIFFERENCE in logs: {MAKER} makes another log from the list of log {i}");
                 fs::write(format!("{FAILING}.log"), &made.bytes).expect(FAILING);
                 self.failed = true;
-                return;
+                return expected;
             }
             if !same || (alone && play_one(self.start, &made.bytes) != text.as_bytes()) {
                 println!("DIFFERENCE in logs: {kind}, log {i} of {}", logs.len());
                 self.failed = true;
-                return report_difference(self.start, made);
+                report_difference(self.start, made);
+                return expected;
             }
         }
         if reports.len() != logs.len() {
@@ -119,6 +127,7 @@ impl Played<'_> {
             );
             self.failed = true;
         }
+        expected
     }
 
     /// Whether the tool makes a good log again from its list. Where there is no python3, no list is counted.
