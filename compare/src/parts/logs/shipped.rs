@@ -13,6 +13,7 @@ const PLACES: usize = 32;
 #[derive(Default)]
 pub struct Ends {
     pub good: u64,
+    pub too_long: u64,
     pub bad_trailer: u64,
     pub bad_record: u64,
 }
@@ -20,6 +21,7 @@ pub struct Ends {
 impl Ends {
     pub fn count(&mut self, text: &str) {
         match text {
+            _ if text.starts_with("refused 9") => self.too_long += 1,
             _ if text.starts_with("refused 7") => self.bad_trailer += 1,
             _ if text.starts_with("refused 8") => self.bad_record += 1,
             _ => self.good += 1,
@@ -88,8 +90,8 @@ pub fn files(start: &str, folder: &str) -> bool {
         texts.iter().for_each(|text| ends.count(text));
     }
     println!(
-        "files: {} logs of {folder}: {} good, {} refused 7, {} refused 8",
-        played.total, ends.good, ends.bad_trailer, ends.bad_record
+        "files: {} logs of {folder}: {} good, {} refused 9, {} refused 7, {} refused 8",
+        played.total, ends.good, ends.too_long, ends.bad_trailer, ends.bad_record
     );
     played.total > 0
 }
