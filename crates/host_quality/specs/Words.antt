@@ -1,0 +1,102 @@
+-- A clock quality in eleven words: five counts, then whether there is a largest error and its bits, then two words of the sender's last estimate
+-- and two of the reflector's. What is absent is 0; any words say a clock quality. That nothing is lost is shown in proofs/Back.antt.
+use mathlib.Core.Path.{_≡_}
+use mathlib.Core.Bool.{Bool, true, false, cond}
+use mathlib.Core.List.{List, [], _∷_}
+use Prim.Native.Nat.{ℕ, _+_, _*_, _/_, _%_}
+use lib.Dec.{eqb}
+use lib.Ieee.{binary64, ofBits, toBits}
+use lib.ListN.{getD}
+use Rattle.estimate.specs.declared.ErrorMs.{ErrorMs}
+use Rattle.estimate.specs.declared.ErrorMs.the-variants.{Known, Invalid}
+use Rattle.estimate.specs.Make.{isPtp, formatOf}
+use Rattle.clock_quality.specs.declared.ClockEstimate.{ClockEstimate}
+use Rattle.clock_quality.specs.declared.LastEstimate.{LastEstimate}
+use Rattle.clock_quality.specs.declared.LastEstimate.the-variants as last
+use Rattle.clock_quality.specs.declared.LargestError.{LargestError}
+use Rattle.clock_quality.specs.declared.LargestError.the-variants as largest
+use Rattle.clock_quality.specs.declared.ClockQuality.{ClockQuality}
+use Rattle.clock_quality.specs.Quality.{isKnown}
+use Rattle.host_numbers.specs.Numbers.{flagWord, isSet}
+
+-- ---- an error in ms: its bits
+
+abbrev pub errorBits : ErrorMs → ℕ
+errorBits (Known x) = toBits binary64 x
+errorBits Invalid = 0
+
+abbrev pub errorOf : Bool → ℕ → ErrorMs
+errorOf true bits = Known (ofBits binary64 bits)
+errorOf false bits = Invalid
+
+-- ---- an estimate: bit 0 set, 1 synchronized, 2 PTP, 3 error known; 8 to 15 the scale, 16 to 23 the multiplier; and a word of the error's bits
+
+unfoldable pub estimateWord : ClockEstimate → ℕ
+estimateWord e = 1 + flagWord (e .synchronized) * 2 + flagWord (isPtp (e .format)) * 4 + flagWord (isKnown (e .error)) * 8 + e .scale * 256 + e .multiplier * 65536
+
+unfoldable pub estimateOf : ℕ → ℕ → ClockEstimate
+estimateOf word bits = record {
+  synchronized = eqb (word / 2 % 2) 1;
+  format = formatOf (eqb (word / 4 % 2) 1);
+  scale = word / 256 % 256;
+  multiplier = word / 65536 % 256;
+  error = errorOf (eqb (word / 8 % 2) 1) bits;
+}
+
+-- the last estimate, if there was one
+abbrev pub lastWord : LastEstimate → ℕ
+lastWord last.Absent = 0
+lastWord (last.Seen e) = estimateWord e
+
+abbrev pub lastBits : LastEstimate → ℕ
+lastBits last.Absent = 0
+lastBits (last.Seen e) = errorBits (e .error)
+
+abbrev pub lastOf : ℕ → ℕ → LastEstimate
+lastOf word bits = cond (isSet word) (last.Seen (estimateOf word bits)) last.Absent
+
+-- ---- the largest combined error, if there is one
+
+abbrev pub largestWord : LargestError → ℕ
+largestWord largest.Absent = 0
+largestWord (largest.Ms x) = 1
+
+abbrev pub largestBits : LargestError → ℕ
+largestBits largest.Absent = 0
+largestBits (largest.Ms x) = toBits binary64 x
+
+abbrev pub largestOf : ℕ → ℕ → LargestError
+largestOf known bits = cond (isSet known) (largest.Ms (ofBits binary64 bits)) largest.Absent
+
+-- ---- the whole: what the eleven words from a place on say, and the words of a clock quality
+
+unfoldable pub qualityAt : ℕ → List ℕ → ClockQuality
+qualityAt at w = record {
+  samples = getD w at 0;
+  both = getD w (at + 1) 0;
+  unsynchronized = getD w (at + 2) 0;
+  invalid = getD w (at + 3) 0;
+  unknown = getD w (at + 4) 0;
+  largest = largestOf (getD w (at + 5) 0) (getD w (at + 6) 0);
+  sender = lastOf (getD w (at + 7) 0) (getD w (at + 8) 0);
+  reflector = lastOf (getD w (at + 9) 0) (getD w (at + 10) 0);
+}
+
+unfoldable pub qualityWords : ClockQuality → List ℕ
+qualityWords q =
+    q .samples ∷ q .both ∷ q .unsynchronized ∷ q .invalid ∷ q .unknown ∷ largestWord (q .largest) ∷ largestBits (q .largest)
+    ∷ lastWord (q .sender) ∷ lastBits (q .sender) ∷ lastWord (q .reflector) ∷ lastBits (q .reflector) ∷ []
+
+-- ---- nothing is lost: what is written is read back, of every value that fits its type
+
+abbrev pub ErrorKept : ErrorMs → Type 0
+ErrorKept e = errorOf (isKnown e) (errorBits e) ≡ e
+
+abbrev pub LastKept : LastEstimate → Type 0
+LastKept l = lastOf (lastWord l) (lastBits l) ≡ l
+
+abbrev pub LargestKept : LargestError → Type 0
+LargestKept l = largestOf (largestWord l) (largestBits l) ≡ l
+
+abbrev pub QualityKept : ClockQuality → Type 0
+QualityKept q = qualityAt 0 (qualityWords q) ≡ q
