@@ -1,0 +1,83 @@
+// What a host calls to write a log (document 01, 'Log and program'): the 96 bytes of each call's record, and the 24 bytes of the trailer.
+ghost use mathlib.Core.Path.{_≡_};
+ghost use Rattle.log_record.specs.Records.{wrote, writtenTo};
+ghost use Rattle.link_log.specs.Logs.{wrote as wroteTrailer, trailerTo};
+ghost use Rattle.host_log_write.specs.Told.{sentTold, acceptTold, advanceTold, idleTold};
+use calls::Call;
+use calls::PendingPacket;
+use calls::Reply;
+use calls::ReplyKey;
+use calls::SentProbe;
+
+// The record of a `sent`, over 96 lent bytes; 5 for another number of bytes.
+#[no_mangle]
+pub extern "C" fn ambrulicciu_log_write_sent(
+    bytes: &mut [u8],
+    sequence: u32,
+    ordinal: u32,
+    time: u64,
+    tag: u64,
+) -> u8
+    ensures { λ r. ⌜ wrote r (now (bytes .exit)) ≡ writtenTo (now (bytes .entry)) (sentTold sequence ordinal time tag) ⌝ }
+{
+    let packet = PendingPacket { time, tag };
+    let probe = SentProbe {
+        sequence,
+        ordinal,
+        packet,
+    };
+    log_record::write(bytes, Call::Sent(probe))
+}
+
+// The record of an `accept`. Where `pending` is 0 there is no pending packet, and time and tag are not looked at.
+#[no_mangle]
+pub extern "C" fn ambrulicciu_log_write_accept(
+    bytes: &mut [u8],
+    sender: u32,
+    reflector: u32,
+    t3: u64,
+    pending: u32,
+    time: u64,
+    tag: u64,
+) -> u8
+    ensures { λ r. ⌜ wrote r (now (bytes .exit)) ≡ writtenTo (now (bytes .entry)) (acceptTold sender reflector t3 pending time tag) ⌝ }
+{
+    let key = ReplyKey {
+        sender,
+        reflector,
+        t3,
+    };
+    let held = record_parts::pending_by(pending != 0, time, tag);
+    let reply = Reply { key, pending: held };
+    log_record::write(bytes, Call::Accept(reply))
+}
+
+// The record of the monitor's `advance`.
+#[no_mangle]
+pub extern "C" fn ambrulicciu_log_write_advance(bytes: &mut [u8], time: u64) -> u8
+    ensures { λ r. ⌜ wrote r (now (bytes .exit)) ≡ writtenTo (now (bytes .entry)) (advanceTold time) ⌝ }
+{
+    log_record::write(bytes, Call::Advance(time))
+}
+
+// The record of the monitor's `idle`.
+#[no_mangle]
+pub extern "C" fn ambrulicciu_log_write_idle(bytes: &mut [u8]) -> u8
+    ensures { λ r. ⌜ wrote r (now (bytes .exit)) ≡ writtenTo (now (bytes .entry)) idleTold ⌝ }
+{
+    log_record::write(bytes, Call::Idle)
+}
+
+// The trailer of a log of `count` records, over 24 lent bytes; 5 for another number of bytes, and 9 for more records than 65,536 bytes hold.
+#[no_mangle]
+pub extern "C" fn ambrulicciu_log_write_trailer(
+    bytes: &mut [u8],
+    count: u32,
+    copies: u16,
+    threshold: u16,
+    timeout: u64,
+) -> u8
+    ensures { λ r. ⌜ wroteTrailer r (now (bytes .exit)) ≡ trailerTo (now (bytes .entry)) count copies threshold timeout ⌝ }
+{
+    link_log::trailer::write(bytes, count, copies, threshold, timeout)
+}
