@@ -14,7 +14,7 @@ use Rattle.scope.specs.Limits.{capacity}
 use Rattle.probe_queue.specs.declared.Probe.{Probe}
 use Rattle.probe_queue.specs.declared.Ring.{Ring}
 use Rattle.probe_queue.specs.declared.Rule.the-variants.{Below, Until, Unmarked}
-use Rattle.probe_queue.specs.Queue.{choose, Held, queued, leading, passes, after, popped}
+use Rattle.probe_queue.specs.Queue.{choose, Held, queued, leading, isMarked, passes, after, popped}
 use Rattle.monitor.specs.declared.Monitor.{Monitor}
 use Rattle.monitor.specs.Refusals.{served, refusalOf}
 use Rattle.monitor.specs.States.{hears}
@@ -79,7 +79,7 @@ other-unmarked false k e = refl
 -- a record of another sequence is not a marked one of this
 until-unmarked : (s : ℕ) (p : Probe) → passes (Until s) p ≡ true → passes (Unmarked s) p ≡ true
 unfolding passes
-until-unmarked s p e = other-unmarked (eqb (p .sequence) s) (p .mark) e
+until-unmarked s p e = other-unmarked (eqb (p .sequence) s) (isMarked p) e
 
 taken-le : (t : Bool) (first marked len : ℕ) → ltb marked len ≡ t → first ≤ marked → choose t (first + 1) 0 ≤ len
 taken-le true first marked len e l = add-one-le (lt-of-le-of-lt l (ltb-true marked len e))

@@ -26,7 +26,7 @@ set-past (y ∷ xs) zero x l = absurd (not-suc-le-zero l)
 set-past (y ∷ xs) (suc n) x l = ap (λ (zs : List Probe). y ∷ zs) (set-past xs n x (le-of-suc-le-suc l))
 
 abbrev marked : ℕ → ℕ → Probe
-marked sequence deadline = record { sequence = sequence; deadline = deadline; mark = true }
+marked sequence deadline = record { sequence = sequence; deadline = deadline; mark = 1 }
 
 module _ (go : Bool) (m : Monitor) (ys : List Probe) (s t : ℕ) where
   abbrev S : Bool

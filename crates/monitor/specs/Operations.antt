@@ -67,7 +67,7 @@ abbrev pub queues : Monitor → List Probe → ℕ → ℕ → Stand
 queues m room sequence time =
     record {
       monitor = record { summary = m .summary; timeout = m .timeout; transmitting = true; ring = record { head = m .ring .head; len = m .ring .len + 1 }; run = runs m sequence; latest = sequence };
-      room = set room (place (m .ring) (m .ring .len)) (record { sequence = sequence; deadline = time + m .timeout; mark = true });
+      room = set room (place (m .ring) (m .ring .len)) (record { sequence = sequence; deadline = time + m .timeout; mark = 1 });
     }
 
 -- `sent` starts transmitting

@@ -44,7 +44,7 @@ backOf go m room time = choose (queueing go m room time) (place (m .ring) (m .ri
 
 -- the probe that is stored
 unfoldable pub probeOf : Monitor → ℕ → ℕ → Probe
-probeOf m sequence time = record { sequence = sequence; deadline = choose (passing m time) 0 (time + m .timeout); mark = true }
+probeOf m sequence time = record { sequence = sequence; deadline = choose (passing m time) 0 (time + m .timeout); mark = 1 }
 
 -- the monitor after `sent`
 unfoldable pub queuedBy : Bool → Monitor → ℕ → ℕ → ℕ → Monitor

@@ -148,13 +148,13 @@ impl Monitor {
             return Probe {
                 sequence: sequence,
                 deadline: 0,
-                mark: true,
+                mark: 1,
             };
         }
         Probe {
             sequence: sequence,
             deadline: time + self.timeout,
-            mark: true,
+            mark: 1,
         }
     }
 

@@ -10,7 +10,7 @@ use lib.Dec.{T, eqb, ltb, leb·suc-suc}
 use borrow.Author.Tests.{eqb-true, ne-eqb, ltb-false, lt-ltb}
 use Rattle.probe_queue.specs.declared.Probe.{Probe}
 use Rattle.probe_queue.specs.declared.Rule.the-variants.{Below, Until, Unmarked}
-use Rattle.probe_queue.specs.Queue.{choose, leading, passes, unmark}
+use Rattle.probe_queue.specs.Queue.{choose, leading, isMarked, passes, unmark}
 use Rattle.monitor_model.specs.Plain.{Marks, insert, remove}
 use Rattle.monitor_model.specs.Playing.{marked}
 use Rattle.monitor_model.proofs.Rings.{unmarksAll, unmark-sequence}
@@ -41,10 +41,10 @@ removes-is (p ∷ ps) marks s = removes-is ps (remove (p .sequence) marks) s ∙
 
 -- one record and one unmarked sequence: `a` its being of that sequence, `b` that sequence's being s, `c` its being of s
 one-unmarked : (a b c k m : Bool) (x : Probe) → (a ≡ true → c ≡ b) → (b ≡ true → c ≡ a)
-    → choose c (choose (choose a (record { sequence = x .sequence; deadline = x .deadline; mark = false }) x .mark) true (choose b false m)) (choose b false m) ≡ choose b false (choose c (choose (x .mark) true m) m)
+    → choose c (choose (isMarked (choose a (record { sequence = x .sequence; deadline = x .deadline; mark = 0 }) x)) true (choose b false m)) (choose b false m) ≡ choose b false (choose c (choose (isMarked x) true m) m)
 one-unmarked true true c k m x i j = subst (λ (t : Bool). choose t (choose false true false) false ≡ false) (sym (i refl)) refl
-one-unmarked true false c k m x i j = subst (λ (t : Bool). choose t (choose false true m) m ≡ choose t (choose (x .mark) true m) m) (sym (i refl)) refl
-one-unmarked false true c k m x i j = subst (λ (t : Bool). choose t (choose (x .mark) true false) false ≡ false) (sym (j refl)) refl
+one-unmarked true false c k m x i j = subst (λ (t : Bool). choose t (choose false true m) m ≡ choose t (choose (isMarked x) true m) m) (sym (i refl)) refl
+one-unmarked false true c k m x i j = subst (λ (t : Bool). choose t (choose (isMarked x) true false) false ≡ false) (sym (j refl)) refl
 one-unmarked false false c k m x i j = refl
 
 marked-unmark : (q s : ℕ) (xs : List Probe) → marked s (map (unmark q) xs) ≡ choose (eqb q s) false (marked s xs)
@@ -55,8 +55,8 @@ marked-unmark q s [] = none (eqb q s)
     none true = refl
     none false = refl
 marked-unmark q s (x ∷ xs) =
-    ap (λ (n : ℕ). choose (eqb n s) (choose (unmark q x .mark) true (marked s (map (unmark q) xs))) (marked s (map (unmark q) xs))) (unmark-sequence q x)
-    ∙ ap (λ (m : Bool). choose (eqb (x .sequence) s) (choose (unmark q x .mark) true m) m) (marked-unmark q s xs)
+    ap (λ (n : ℕ). choose (eqb n s) (choose (isMarked (unmark q x)) true (marked s (map (unmark q) xs))) (marked s (map (unmark q) xs))) (unmark-sequence q x)
+    ∙ ap (λ (m : Bool). choose (eqb (x .sequence) s) (choose (isMarked (unmark q x)) true m) m) (marked-unmark q s xs)
     ∙ one-unmarked (eqb (x .sequence) q) (eqb q s) (eqb (x .sequence) s) true (marked s xs) x
     (λ e. ap (λ (n : ℕ). eqb n s) (eqb-true (x .sequence) q e)) (λ e. ap (eqb (x .sequence)) (sym (eqb-true q s e)))
 
@@ -75,13 +75,13 @@ append-one false a k m n e i = i e
 -- of a sequence that is not among the first records, the marks are those of the others
 pub marked-append : (ps xs : List Probe) (s : ℕ) → among s ps ≡ false → marked s (ps ++ xs) ≡ marked s xs
 marked-append [] xs s e = refl
-marked-append (p ∷ ps) xs s e = append-one (eqb (p .sequence) s) (among s ps) (p .mark) (marked s (ps ++ xs)) (marked s xs) e (λ h. marked-append ps xs s h)
+marked-append (p ∷ ps) xs s e = append-one (eqb (p .sequence) s) (among s ps) (isMarked p) (marked s (ps ++ xs)) (marked s xs) e (λ h. marked-append ps xs s h)
 
 -- above a sequence no record of it is marked
 pub above-unmarked : (n s : ℕ) (xs : List Probe) → Above n (seqs xs) → s ≤ n → marked s xs ≡ false
 above-unmarked n s [] a l = refl
 above-unmarked n s (x ∷ xs) a l =
-    ap (λ (t : Bool). choose t (choose (x .mark) true (marked s xs)) (marked s xs)) (ne-eqb (x .sequence) s (λ e. omega (arith, e, l, a .0))) ∙ above-unmarked n s xs (a .1) l
+    ap (λ (t : Bool). choose t (choose (isMarked x) true (marked s xs)) (marked s xs)) (ne-eqb (x .sequence) s (λ e. omega (arith, e, l, a .0))) ∙ above-unmarked n s xs (a .1) l
 
 seqs-append : (ps xs : List Probe) → seqs (ps ++ xs) ≡ seqs ps ++ seqs xs
 seqs-append [] xs = refl
@@ -125,12 +125,12 @@ snoc-one true true m false = refl
 snoc-one true false m v = refl
 snoc-one false k m v = refl
 
-marked-snoc : (xs : List Probe) (v : Probe) (s : ℕ) → v .mark ≡ true → marked s (xs ++ v ∷ []) ≡ choose (eqb (v .sequence) s) true (marked s xs)
+marked-snoc : (xs : List Probe) (v : Probe) (s : ℕ) → isMarked v ≡ true → marked s (xs ++ v ∷ []) ≡ choose (eqb (v .sequence) s) true (marked s xs)
 marked-snoc [] v s e = ap (λ (k : Bool). choose (eqb (v .sequence) s) (choose k true false) false) e
 marked-snoc (x ∷ xs) v s e =
-    ap (λ (m : Bool). choose (eqb (x .sequence) s) (choose (x .mark) true m) m) (marked-snoc xs v s e) ∙ snoc-one (eqb (x .sequence) s) (x .mark) (marked s xs) (eqb (v .sequence) s)
+    ap (λ (m : Bool). choose (eqb (x .sequence) s) (choose (isMarked x) true m) m) (marked-snoc xs v s e) ∙ snoc-one (eqb (x .sequence) s) (isMarked x) (marked s xs) (eqb (v .sequence) s)
 
-pub inserts : (xs : List Probe) (v : Probe) (marks : Marks) → v .mark ≡ true → ((s : ℕ) → marked s xs ≡ marks s) → (s : ℕ) → marked s (xs ++ v ∷ []) ≡ insert (v .sequence) marks s
+pub inserts : (xs : List Probe) (v : Probe) (marks : Marks) → isMarked v ≡ true → ((s : ℕ) → marked s xs ≡ marks s) → (s : ℕ) → marked s (xs ++ v ∷ []) ≡ insert (v .sequence) marks s
 unfolding insert
 inserts xs v marks e same s = marked-snoc xs v s e ∙ ap (λ (m : Bool). choose (eqb (v .sequence) s) true m) (same s)
 
@@ -144,7 +144,7 @@ found-one false k m n len e = leb·suc-suc (suc n) len ∙ e
 pub finds : (s : ℕ) (xs : List Probe) → ltb (leading (passes (Unmarked s)) xs) (length xs) ≡ marked s xs
 unfolding passes
 finds s [] = refl
-finds s (x ∷ xs) = found-one (eqb (x .sequence) s) (x .mark) (marked s xs) (leading (passes (Unmarked s)) xs) (length xs) (finds s xs)
+finds s (x ∷ xs) = found-one (eqb (x .sequence) s) (isMarked x) (marked s xs) (leading (passes (Unmarked s)) xs) (length xs) (finds s xs)
 
 first-one : (c k m : Bool) (n len : ℕ) → choose c (choose k true m) m ≡ true → (m ≡ true → n < len) → choose (not c) (suc n) 0 < suc len
 first-one true k m n len e i = suc-le-suc zero-le
@@ -157,11 +157,11 @@ first-within s [] e = absurd (impossible e)
   where
     impossible : false ≡ true → ⊥
     impossible z = subst (λ (t : Bool). T (not t)) z tt
-first-within s (x ∷ xs) e = first-one (eqb (x .sequence) s) (x .mark) (marked s xs) (leading (passes (Until s)) xs) (length xs) e (λ h. first-within s xs h)
+first-within s (x ∷ xs) e = first-one (eqb (x .sequence) s) (isMarked x) (marked s xs) (leading (passes (Until s)) xs) (length xs) e (λ h. first-within s xs h)
 
 early-one : (b : Bool) (x : Probe) (s j : ℕ) (xs : List Probe) → (b ≡ false → marked s xs ≡ false) → marked s (take (suc j) xs) ≡ marked s xs → marked s (take (suc (choose b (suc j) 0)) (x ∷ xs)) ≡ marked s (x ∷ xs)
-early-one true x s j xs i e = ap (λ (m : Bool). choose (eqb (x .sequence) s) (choose (x .mark) true m) m) e
-early-one false x s j xs i e = ap (λ (m : Bool). choose (eqb (x .sequence) s) (choose (x .mark) true m) m) (sym (i refl))
+early-one true x s j xs i e = ap (λ (m : Bool). choose (eqb (x .sequence) s) (choose (isMarked x) true m) m) e
+early-one false x s j xs i e = ap (λ (m : Bool). choose (eqb (x .sequence) s) (choose (isMarked x) true m) m) (sym (i refl))
 
 -- where sequences ascend, the search may stop after the first that is not below
 pub stops-early : (s : ℕ) (xs : List Probe) → Rises (seqs xs) → marked s (take (suc (leading (passes (Below s)) xs)) xs) ≡ marked s xs

@@ -73,7 +73,7 @@ pub unmark-sequence : (s : ℕ) (p : Probe) → unmark s p .sequence ≡ p .sequ
 unfolding unmark
 unmark-sequence s p = by (eqb (p .sequence) s)
   where
-    by : (t : Bool) → choose t (record { sequence = p .sequence; deadline = p .deadline; mark = false }) p .sequence ≡ p .sequence
+    by : (t : Bool) → choose t (record { sequence = p .sequence; deadline = p .deadline; mark = 0 }) p .sequence ≡ p .sequence
     by true = refl
     by false = refl
 
@@ -81,7 +81,7 @@ pub unmark-deadline : (s : ℕ) (p : Probe) → unmark s p .deadline ≡ p .dead
 unfolding unmark
 unmark-deadline s p = by (eqb (p .sequence) s)
   where
-    by : (t : Bool) → choose t (record { sequence = p .sequence; deadline = p .deadline; mark = false }) p .deadline ≡ p .deadline
+    by : (t : Bool) → choose t (record { sequence = p .sequence; deadline = p .deadline; mark = 0 }) p .deadline ≡ p .deadline
     by true = refl
     by false = refl
 

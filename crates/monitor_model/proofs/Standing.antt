@@ -47,7 +47,7 @@ unmark-probe : (q : ℕ) (p : Probe) → probeOf (unmark q p) ≡ probeOf p
 unfolding unmark
 unmark-probe q p = by (eqb (p .sequence) q)
   where
-    by : (t : Bool) → probeOf (choose t (record { sequence = p .sequence; deadline = p .deadline; mark = false }) p) ≡ probeOf p
+    by : (t : Bool) → probeOf (choose t (record { sequence = p .sequence; deadline = p .deadline; mark = 0 }) p) ≡ probeOf p
     by true = refl
     by false = refl
 
@@ -181,7 +181,7 @@ module _ (x : Stand) (marks : Marks) (kept : Kept x marks) (s t : ℕ) (ll : x .
   old = queued (x .room) (mon .ring)
 
   abbrev probe : Probe
-  probe = record { sequence = s; deadline = t + mon .timeout; mark = true }
+  probe = record { sequence = s; deadline = t + mon .timeout; mark = 1 }
 
   abbrev new : List Probe
   new = queued (set (x .room) (place (mon .ring) (mon .ring .len)) probe) (record { head = mon .ring .head; len = mon .ring .len + 1 })

@@ -5,7 +5,7 @@ use mathlib.Core.List.{List, [], _∷_, map}
 use Prim.Native.Nat.{ℕ}
 use lib.Dec.{eqb}
 use Rattle.probe_queue.specs.declared.Probe.{Probe}
-use Rattle.probe_queue.specs.Queue.{choose, queued}
+use Rattle.probe_queue.specs.Queue.{choose, queued, isMarked}
 use Rattle.monitor.specs.declared.Answer.{Answer}
 use Rattle.monitor.specs.declared.Answer.the-variants.{Served, Refused}
 use Rattle.monitor.specs.declared.Summary.{Summary}
@@ -76,7 +76,7 @@ probeOf p = record { sequence = p .sequence; deadline = p .deadline }
 
 abbrev pub marked : ℕ → List Probe → Bool
 marked s [] = false
-marked s (p ∷ ps) = choose (eqb (p .sequence) s) (choose (p .mark) true (marked s ps)) (marked s ps)
+marked s (p ∷ ps) = choose (eqb (p .sequence) s) (choose (isMarked p) true (marked s ps)) (marked s ps)
 
 -- the monitor with its room shows the plain state: its summary, its queued probes and its set of marked sequences
 pub record Shows (x : Stand) (p : Plain) : Type 0 where

@@ -12,7 +12,7 @@ use Rattle.probe_queue.specs.declared.Probe.{Probe}
 use Rattle.probe_queue.specs.Queue.{choose, nil, past, unmark, placeIf}
 
 abbrev plainly : Probe → Probe
-plainly p = record { sequence = p .sequence; deadline = p .deadline; mark = false }
+plainly p = record { sequence = p .sequence; deadline = p .deadline; mark = 0 }
 
 stored-by : (room : List Probe) (n : ℕ) (p : Probe) (t : Bool) → length room < 2 ^ 64 → p ≡ getD room n nil → set room (choose t n past) (choose t (plainly p) p) ≡ set room n (choose t (plainly p) p)
 stored-by room n p true l e = refl

@@ -18,7 +18,7 @@ choose false x y = y
 
 -- the record that is read past the end of a room
 abbrev pub nil : Probe
-nil = record { sequence = 0; deadline = 0; mark = false }
+nil = record { sequence = 0; deadline = 0; mark = 0 }
 
 -- a ring that a room of `capacity` records can hold
 abbrev pub Held : Ring → Type 0
@@ -46,16 +46,20 @@ abbrev pub leading : {X : Type 0} → (X → Bool) → List X → ℕ
 leading test [] = 0
 leading test (x ∷ xs) = choose (test x) (suc (leading test xs)) 0
 
+-- whether a record bears a mark: 0 is none, anything else is one
+abbrev pub isMarked : Probe → Bool
+isMarked p = not (eqb (p .mark) 0)
+
 -- whether a record passes a rule: due by a time; of a sequence below one; of another sequence; not a marked record of a sequence
 unfoldable pub passes : Rule → Probe → Bool
 passes (Due now) p = leb (p .deadline) now
 passes (Below s) p = ltb (p .sequence) s
 passes (Until s) p = not (eqb (p .sequence) s)
-passes (Unmarked s) p = choose (eqb (p .sequence) s) (not (p .mark)) true
+passes (Unmarked s) p = choose (eqb (p .sequence) s) (not (isMarked p)) true
 
 -- a record without its mark, where it is of the sequence
 unfoldable pub unmark : ℕ → Probe → Probe
-unmark s p = choose (eqb (p .sequence) s) (record { sequence = p .sequence; deadline = p .deadline; mark = false }) p
+unmark s p = choose (eqb (p .sequence) s) (record { sequence = p .sequence; deadline = p .deadline; mark = 0 }) p
 
 -- a place past the end of any room
 abbrev pub past : ℕ

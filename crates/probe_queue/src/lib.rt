@@ -7,11 +7,12 @@ ghost use lib.ListN.{set, getD};
 ghost use Rattle.probe_queue.specs.Queue.{nil, Held, place, after, queued, leading, passes, unmark, placeIf, unmarked as unmarkedRoom, popped};
 ghost use Rattle.scope.specs.Limits.{capacity};
 
-// `Probe`, with its sequence's mark.
+// `Probe`, with its sequence's mark: 0 is no mark, anything else is one, so that whatever a host's memory holds is a record.
+#[repr(C)]
 pub struct Probe {
     pub sequence: u32,
     pub deadline: u64,
-    pub mark: bool,
+    pub mark: u32,
 }
 
 // Which records of a room are queued: `len` of them, from `head` on, past the end from 0 on.
@@ -35,7 +36,7 @@ pub fn absent() -> Probe
     Probe {
         sequence: 0,
         deadline: 0,
-        mark: false,
+        mark: 0,
     }
 }
 
@@ -67,7 +68,7 @@ pub fn goes_on(probe: Probe, rule: Rule) -> bool
         Rule::Below(sequence) => probe.sequence < sequence,
         Rule::Until(sequence) => probe.sequence != sequence,
         Rule::Unmarked(sequence) => if probe.sequence == sequence {
-            !probe.mark
+            probe.mark == 0
         } else {
             true
         },
@@ -82,7 +83,7 @@ pub fn unmarked(probe: Probe, sequence: u32) -> Probe
         Probe {
             sequence: probe.sequence,
             deadline: probe.deadline,
-            mark: false,
+            mark: 0,
         }
     } else {
         probe

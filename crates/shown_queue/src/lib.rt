@@ -23,7 +23,7 @@ fn is_marked(room: [Probe; 4096], ring: Ring, sequence: u32) -> bool {
     let mut i = 0;
     while i < len {
         let probe = room[slot(ring, i)];
-        if probe.mark & (probe.sequence == sequence) {
+        if (probe.mark != 0) & (probe.sequence == sequence) {
             return true;
         }
         i += 1;
@@ -48,7 +48,7 @@ pub fn digest(room: [Probe; 4096], ring: Ring) -> Digest {
         let probe = room[slot(ring, i)];
         // A record that bears the mark itself needs no search.
         let mut bit = 4294967296;
-        if !probe.mark {
+        if probe.mark == 0 {
             bit = mark_bit(room, ring, probe);
         }
         digest = digest

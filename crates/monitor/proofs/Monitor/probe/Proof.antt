@@ -1,7 +1,6 @@
 -- `monitor::Monitor::probe` meets its contract: by the test.
 -- Assumes nothing.
 use mathlib.Core.Path.{ap}
-use mathlib.Core.Bool.{true}
 use native.Mathlib.Omega.{arith}
 use Prim.Native.Nat.{ℕ, _+_, _^_}
 use Rattle.probe_queue.specs.declared.Probe.{Probe}
@@ -12,7 +11,7 @@ use Rattle.monitor.proofs.Monitor.probe.Statement.{statement}
 use Rattle.monitor.proofs.Monitor.probe.Tie as tie
 
 abbrev marked : ℕ → ℕ → Probe
-marked sequence deadline = record { sequence = sequence; deadline = deadline; mark = true }
+marked sequence deadline = record { sequence = sequence; deadline = deadline; mark = 1 }
 
 sub-if1 : tie.Need-sub-if1
 sub-if1 c = omega (arith, c .struct-known .given)
