@@ -1,0 +1,73 @@
+-- What each of the monitor's calls for a host answers and leaves, on every input: the monitor's own definitions, of the monitor that the words say.
+-- A refusal changes no lent word.
+-- Assumes nothing.
+use mathlib.Core.List.{List, [], _∷_}
+use Prim.Native.Nat.{ℕ}
+use Rattle.probe_queue.specs.declared.Probe.{Probe}
+use Rattle.monitor.specs.declared.Summary.{Summary}
+use Rattle.monitor.specs.declared.Answer.{Answer}
+use Rattle.monitor.specs.declared.Deadline.{Deadline}
+use Rattle.monitor.specs.declared.Deadline.the-variants.{Absent, At, Refused}
+use Rattle.monitor.specs.Operations.{fresh}
+use Rattle.monitor.specs.Answers.{Outcome, number, deadlineNumber}
+use Rattle.monitor.specs.Answers as monitor
+use Rattle.host_monitor_words.specs.Words.{stateNumber, monitorAt, wordsOf, wordsAfter}
+
+-- the number of a call, and the words that it was lent to write
+pub record Told : Type 0 where
+  pub number : ℕ
+  pub words : List ℕ
+
+abbrev pub told : ℕ → List ℕ → Told
+told n words = record { number = n; words = words }
+
+-- the same of a call that is lent the queue too
+pub record Left : Type 0 where
+  pub number : ℕ
+  pub words : List ℕ
+  pub queue : List Probe
+
+abbrev pub left : ℕ → List ℕ → List Probe → Left
+left n words queue = record { number = n; words = words; queue = queue }
+
+-- an answer, as its number and the monitor's words
+abbrev pub ended : List ℕ → Outcome → Left
+ended words o = left (number (o .answer)) (wordsAfter words (o .answer)) (o .room)
+
+-- a fresh monitor's words, whatever the words were
+unfoldable pub freshTo : ℕ → ℕ → Told
+freshTo threshold timeout = told 0 (wordsOf (fresh threshold timeout))
+
+unfoldable pub sentTo : List ℕ → List Probe → ℕ → ℕ → Left
+sentTo words queue sequence time = ended words (monitor.sentTo (monitorAt words) queue sequence time)
+
+unfoldable pub replyTo : List ℕ → List Probe → ℕ → Left
+replyTo words queue sequence = ended words (monitor.replyTo (monitorAt words) queue sequence)
+
+unfoldable pub advanceTo : List ℕ → List Probe → ℕ → Left
+advanceTo words queue time = ended words (monitor.advanceTo (monitorAt words) queue time)
+
+abbrev pub stopped : List ℕ → Answer → Told
+stopped words a = told (number a) (wordsAfter words a)
+
+unfoldable pub idleTo : List ℕ → Told
+idleTo words = stopped words (monitor.idleTo (monitorAt words))
+
+-- the words of a deadline: 1 and the deadline, or zeros where there is none
+abbrev pub answerWords : List ℕ → Deadline → List ℕ
+answerWords words Absent = 0 ∷ 0 ∷ []
+answerWords words (At time) = 1 ∷ time ∷ []
+answerWords words (Refused n) = words
+
+abbrev pub answeredBy : List ℕ → Deadline → Told
+answeredBy answer d = told (deadlineNumber d) (answerWords answer d)
+
+unfoldable pub deadlineTo : List ℕ → List Probe → List ℕ → Told
+deadlineTo words queue answer = answeredBy answer (monitor.deadlineOf (monitorAt words) queue)
+
+-- the words of a summary: state (0 idle, 1 active, 2 failed), threshold, consecutive losses, active, failed and idle notifications
+abbrev pub shows : Summary → List ℕ
+shows s = stateNumber (s .state) ∷ s .«loss_threshold» ∷ s .«consecutive_losses» ∷ s .«active_notifications» ∷ s .«failed_notifications» ∷ s .«idle_notifications» ∷ []
+
+unfoldable pub summaryTo : List ℕ → Told
+summaryTo words = told 0 (shows (monitorAt words .summary))
