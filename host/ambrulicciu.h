@@ -1,0 +1,538 @@
+/*
+ * Ambrulicciu: the measurement core of a STAMP sender (RFC 8762, RFC 8972), as a static library. C99 and C++.
+ *
+ * It keeps the books of one link: which probes were sent, which replies came, were duplicates or unknown, what is still missing, the
+ * round trips, the direct and follow-up measurements, whether the link is active or failed. The host sends and receives packets, reads
+ * its clock, and makes a call for each event. Link with libambrulicciu.a, which `host/library` makes; it needs nothing else, not even a
+ * C library. It is for little-endian machines of 64 bits (x86-64, aarch64).
+ *
+ * WHAT IS PROMISED
+ *   Each call is proved to end, to touch no memory but what it is lent, and to do what is said here, whatever the numbers are and
+ *   whatever bytes the lent memory holds. Nothing has to be checked before a call. A call that cannot be served returns a number above
+ *   0, and then NOTHING was changed: no count, no state, no byte of any lent memory, answers included.
+ *
+ * WHAT THE HOST SEES TO
+ *   - A pointer points to as much memory as its type or its length says, aligned as C aligns that type, and is never null.
+ *   - The memory lent to one call does not overlap, except where a call only reads it.
+ *   - Each call on a link is given what the call before left: the state and all its rooms.
+ *   - There is no allocation and no global state. One link belongs to one thread at a time; different links share nothing.
+ *
+ * WHAT A LINK COSTS, in bytes
+ *       ledger      576    its state
+ *       monitor      96    the session's state, if the link is watched
+ *       keys     65,536    the last 4,096 accepted replies
+ *       slots    98,304    what was observed of each, for follow-ups
+ *       probes  131,072    the last 4,096 probes
+ *       offsets  16,384    transmit offsets seen since the anchor
+ *       links    65,536    how the tables are searched: shared by keys, probes and offsets
+ *       queue    98,304    the monitor's probes that await a reply, if the link is watched
+ *     together  475,808    (377,408 without a monitor); ambrulicciu_link below has them all
+ *   A series of quantiles: state 32, room 92,160 (signed: 149,512). A report: a buffer of 1,024. A log: at most 65,536.
+ *   A room may hold anything when a link is made fresh: it need not be cleared.
+ *
+ * A HOST IN SHORT (host/c has a whole one)
+ *       static ambrulicciu_link yard;
+ *       ambrulicciu_link_fresh(&yard, 1, secret, 3, 2000000000u);            copies 1, failed at 3 losses, timeout 2 s
+ *       ambrulicciu_link_sent(&yard, sequence, ordinal, now, tag);           after each probe
+ *       ambrulicciu_link_accept(&yard, sender, reflector, t3, &packet, &accepted);
+ *       if (accepted.class_ == AMBRULICCIU_UNIQUE)                           each unique reply is observed once
+ *           ambrulicciu_link_observe(&yard, &observation);
+ *       ambrulicciu_link_advance(&yard, now);                                on a timer: probes past their deadline are losses
+ *       ambrulicciu_snapshot(&yard.ledger, &figures);                        at any time
+ */
+#ifndef AMBRULICCIU_H
+#define AMBRULICCIU_H
+
+#include <stddef.h>
+#include <stdint.h>
+
+#ifdef __cplusplus
+extern "C" {
+#endif
+
+/* ---- refusals ----------------------------------------------------------------------------------------------------------------------
+ * What a call returns. If several hold at once, it is the first in this order. A call returns no number that is not named at it. */
+#define AMBRULICCIU_SERVED 0
+#define AMBRULICCIU_WRONG_ROOM 5      /* scope::WRONG_ROOM: a lent room of the wrong size, or a state that no call leaves */
+#define AMBRULICCIU_OUT_OF_RANGE 1    /* scope::OUT_OF_RANGE: a scale above 63; T4 or converted T3 outside +-4*10^18 ns; reference outside
+                                         +-4*10^9 s; offset outside +-86,400 s */
+#define AMBRULICCIU_DEADLINE_PASSES 6 /* scope::DEADLINE_PASSES: send time plus timeout above 2^64-1 */
+#define AMBRULICCIU_COUNTS_FULL 4     /* scope::COUNTS_FULL: 4,294,967,295 calls of sent, accept and observe were served; or a count of
+                                         the state at 2^63, a sum's magnitude at 2^126, or beyond */
+#define AMBRULICCIU_NOT_AWAITING 2    /* scope::NOT_AWAITING: observe of a reply that is not the one accepted last, or was observed */
+#define AMBRULICCIU_QUEUE_FULL 3      /* scope::QUEUE_FULL: 4,096 probes await their reply at the monitor */
+/* Of bytes that are to be a log, in this order: */
+#define AMBRULICCIU_TOO_LONG 9    /* link_log::TOO_LONG: more than 65,536 bytes */
+#define AMBRULICCIU_BAD_TRAILER 7 /* no trailer of a log at the end */
+#define AMBRULICCIU_BAD_RECORD 8  /* log_record::BAD_RECORD: a record that is none */
+
+/* ---- sizes -------------------------------------------------------------------------------------------------------------------------
+ * Any other size is refused with AMBRULICCIU_WRONG_ROOM. */
+#define AMBRULICCIU_ROWS 4096                  /* scope::CAPACITY: rows of each room of a link, and of the monitor's queue */
+#define AMBRULICCIU_QUANTILES_ROOM 11520       /* words of the room of an unsigned series */
+#define AMBRULICCIU_QUANTILES_SIGNED_ROOM 18689 /* words of the room of a signed series */
+#define AMBRULICCIU_RECORD 96                  /* bytes of a record of a log */
+#define AMBRULICCIU_TRAILER 24                 /* bytes of the trailer of a log */
+#define AMBRULICCIU_LOG 65536                  /* link_log::MOST_BYTES: most bytes of a log */
+#define AMBRULICCIU_TEXT 1024                  /* report::REPORT_ROOM: bytes of the buffer of a report */
+
+/* ---- states and rooms --------------------------------------------------------------------------------------------------------------
+ * Their words are the library's own: a host keeps them and hands them over, and reads figures by the calls below. They may be copied,
+ * written to a file and read back as bytes. Every content is allowed: a call refuses what no call leaves. */
+typedef struct { uint64_t word[72]; } ambrulicciu_ledger;
+typedef struct { uint64_t word[12]; } ambrulicciu_monitor;
+typedef struct { uint64_t word[12]; } ambrulicciu_clock_quality;
+typedef struct { uint64_t word[4]; } ambrulicciu_quantiles;
+typedef struct { uint64_t word[2]; } ambrulicciu_key;
+typedef struct { uint64_t word[3]; } ambrulicciu_slot;
+typedef struct { uint64_t word[4]; } ambrulicciu_probe;
+typedef struct { uint16_t word[8]; } ambrulicciu_chain;
+/* A probe that the monitor waits for. */
+typedef struct {
+    uint32_t sequence;
+    uint64_t deadline; /* ns */
+    uint32_t mark;     /* 0: its sequence was answered */
+} ambrulicciu_queued;
+
+/* ---- what is told and shown --------------------------------------------------------------------------------------------------------
+ * A field `.._known` or `.._seen` is 1 or 0; at 0 the fields that it speaks of are 0. Flags that the host hands over are 0 for no and
+ * anything else for yes. Times are ns unless said otherwise. */
+
+/* What became of a reply. */
+#define AMBRULICCIU_UNKNOWN 0   /* no such probe is held, and no packet was pending */
+#define AMBRULICCIU_DUPLICATE 1 /* the same sender and reflector number and T3 are among the last 4,096 accepted */
+#define AMBRULICCIU_UNIQUE 2    /* counted; it awaits its observation */
+
+typedef struct {
+    uint64_t class_;        /* AMBRULICCIU_UNKNOWN, AMBRULICCIU_DUPLICATE, AMBRULICCIU_UNIQUE; only the last has more */
+    uint64_t time;          /* the probe's send time */
+    uint64_t tag;           /* the probe's tag, untouched */
+    uint64_t ordinal_known; /* 0: the probe was not told by sent */
+    uint64_t ordinal;
+} ambrulicciu_accepted;
+
+/* What the lookup shows of the reply that a follow-up is about: how its timestamp is to be converted. */
+typedef struct {
+    uint64_t shown;    /* 0: nothing to convert */
+    uint64_t ptp;      /* 1: PTP format, 0: NTP */
+    int64_t reference; /* seconds since 1970 by which the timestamp is unfolded */
+} ambrulicciu_found;
+
+/* Which fields of an observation are there, added up. AMBRULICCIU_CONVERTED_T3 and AMBRULICCIU_UNKNOWN_MODE count only with
+ * AMBRULICCIU_FOLLOW_UP; bits above 255 are ignored. A field that is not there is not looked at. */
+#define AMBRULICCIU_T4 1
+#define AMBRULICCIU_ORDINAL 2
+#define AMBRULICCIU_COUNTERS 4
+#define AMBRULICCIU_FOLLOW_UP 8
+#define AMBRULICCIU_CONVERTED_T3 16
+#define AMBRULICCIU_ESTIMATES 32
+#define AMBRULICCIU_PTP 64           /* timestamps of this reply are PTP; otherwise NTP */
+#define AMBRULICCIU_UNKNOWN_MODE 128 /* the mode of the follow-up's timestamp is not known */
+
+/* What a unique reply brought. */
+typedef struct {
+    uint64_t t3;                  /* the key, as accepted: the reflector's timestamp, raw */
+    uint64_t round_trip;          /* ns */
+    int64_t t4;                   /* arrival, ns since 1970 */
+    int64_t reference;            /* seconds since 1970; always looked at */
+    int64_t converted_t3;         /* the follow-up's timestamp in ns since 1970, converted by the host: see ambrulicciu_lookup */
+    uint64_t follow_up_timestamp; /* the same, raw */
+    uint32_t sender;              /* the key, as accepted: the sender's number */
+    uint32_t reflector;           /* the key, as accepted: the reflector's number */
+    uint32_t ordinal;             /* of the probe, as ambrulicciu_accept answers it */
+    uint32_t s_txc;               /* counters of the Direct Measurement TLV: sender's transmit */
+    uint32_t r_rxc;               /* reflector's receive */
+    uint32_t r_txc;               /* reflector's transmit */
+    uint32_t follow_up_sequence;  /* the reflector number that the follow-up is about */
+    int32_t offset;               /* the reflector's offset from UTC, seconds; always looked at */
+    uint16_t sender_estimate;     /* error estimates, 16 bits as on the wire */
+    uint16_t reflector_estimate;
+    uint32_t flags; /* AMBRULICCIU_T4 .. AMBRULICCIU_UNKNOWN_MODE */
+    uint32_t unused[2];
+} ambrulicciu_observation;
+
+/* A series of delays, in ms. */
+typedef struct {
+    uint64_t samples;
+    uint64_t minimum_known;
+    double minimum;
+    uint64_t average_known;
+    double average;
+    uint64_t maximum_known;
+    double maximum;
+} ambrulicciu_delays;
+
+/* The three counters of one packet. */
+typedef struct {
+    uint64_t known;
+    uint64_t s_txc;
+    uint64_t r_rxc;
+    uint64_t r_txc;
+} ambrulicciu_counters;
+
+/* A number of packets. */
+typedef struct {
+    uint64_t known;
+    uint64_t packets;
+} ambrulicciu_span;
+
+/* Direct loss, since the anchor. */
+typedef struct {
+    uint64_t observations;
+    uint64_t unavailable;
+    uint64_t discontinuities;
+    uint64_t reordered;
+    uint64_t exceeded; /* 1: 4,096 offsets were seen at some time, and the anchor was given up */
+    ambrulicciu_counters anchor;
+    ambrulicciu_counters latest;
+    ambrulicciu_span sent;
+    ambrulicciu_span received;
+    ambrulicciu_span forward_missing;
+    ambrulicciu_span transmitted;
+    ambrulicciu_span replies;
+    ambrulicciu_span reverse_missing;
+} ambrulicciu_direct;
+
+/* The last error estimate of one end. */
+typedef struct {
+    uint64_t seen;
+    uint64_t synchronized;
+    uint64_t ptp;
+    uint64_t scale;
+    uint64_t multiplier;
+    uint64_t error_known; /* 0: the multiplier is 0, which is no error of zero (RFC 4656) */
+    double error;         /* ms */
+} ambrulicciu_estimate;
+
+/* Declared clock quality: samples = both + unsynchronized + invalid + unknown. */
+typedef struct {
+    uint64_t samples;
+    uint64_t both;
+    uint64_t unsynchronized;
+    uint64_t invalid;
+    uint64_t unknown;
+    ambrulicciu_estimate sender;
+    ambrulicciu_estimate reflector;
+    uint64_t largest_known;
+    double largest; /* largest sum of both ends' errors, ms */
+} ambrulicciu_quality;
+
+/* Follow-ups: observations = matched + repeated + unmatched + ambiguous + unavailable. */
+typedef struct {
+    uint64_t observations;
+    uint64_t matched;
+    uint64_t repeated;
+    uint64_t unmatched;
+    uint64_t ambiguous;
+    uint64_t unavailable;
+    ambrulicciu_delays delay;
+    ambrulicciu_quality quality;
+} ambrulicciu_follow_ups;
+
+/* Every figure of a link. */
+typedef struct {
+    uint64_t requested; /* replies asked for: copies of each probe sent */
+    uint64_t unique;    /* = answered + additional */
+    uint64_t duplicate;
+    uint64_t unknown;
+    uint64_t answered;   /* probes with a reply */
+    uint64_t additional; /* further replies of such probes */
+    uint64_t late;       /* first replies with no packet pending */
+    uint64_t satisfied;
+    uint64_t last_known;
+    uint64_t last; /* reflector number of the last unique reply */
+    uint64_t highest_known;
+    uint64_t highest; /* the highest of them, modulo 2^32 */
+    uint64_t reordered;
+    uint64_t independent; /* unique replies whose reflector number is not the sender's */
+    uint64_t probes_evicted;
+    uint64_t replies_evicted;
+    uint64_t unobserved;  /* requested less satisfied, not below 0 */
+    uint64_t thousandths; /* 1,000 * unobserved / requested, rounded down; 0 when nothing was requested */
+    ambrulicciu_delays round_trip;
+    ambrulicciu_direct direct;
+    ambrulicciu_follow_ups follow_up;
+} ambrulicciu_figures;
+
+/* The session's states. */
+#define AMBRULICCIU_IDLE 0
+#define AMBRULICCIU_ACTIVE 1
+#define AMBRULICCIU_FAILED 2
+
+typedef struct {
+    uint64_t state; /* AMBRULICCIU_IDLE, AMBRULICCIU_ACTIVE, AMBRULICCIU_FAILED */
+    uint64_t threshold;
+    uint64_t consecutive_losses;
+    uint64_t active_notifications; /* how often the state became active; a host that notifies compares it with what it saw last */
+    uint64_t failed_notifications;
+    uint64_t idle_notifications;
+} ambrulicciu_session;
+
+typedef struct {
+    uint64_t known;
+    uint64_t deadline;
+} ambrulicciu_deadline;
+
+/* ---- the ledger --------------------------------------------------------------------------------------------------------------------
+ * Refusal 5 of a ledger's call: a room that it is lent has not 4,096 rows; or, in the state, a ring's head is above 4,095, a ring's
+ * length or the number of seen offsets above 4,096. Refusal 4 is about the state before the call. */
+
+/* Makes a ledger fresh: counts 0, nothing held. `copies` replies are asked for each probe; 0 counts as 1. `secret`: random words, kept
+ * from whoever sends replies: they decide where entries are searched, never an answer. Rooms may hold anything. Refuses nothing. */
+uint8_t ambrulicciu_ledger_fresh(ambrulicciu_ledger *ledger, uint16_t copies, const uint32_t secret[8]);
+
+/* A probe was sent: adds copies to requested, and holds the probe. A sequence that is held already becomes the newest, unanswered, with
+ * the new ordinal, time and tag. Refuses 5, 4. */
+uint8_t ambrulicciu_sent(ambrulicciu_ledger *ledger, ambrulicciu_probe *probes, size_t probes_length, ambrulicciu_chain *links,
+                         size_t links_length, uint32_t sequence, uint32_t ordinal, uint64_t time, uint64_t tag);
+
+/* A reply came, with the three parts of its key. `pending` other than 0: the host still had the probe's packet, with this send time and
+ * tag. Each reply is counted as unique, duplicate or unknown, all of which are served calls. Refuses 5, 4. */
+uint8_t ambrulicciu_accept(ambrulicciu_ledger *ledger, ambrulicciu_key *keys, size_t keys_length, ambrulicciu_slot *slots,
+                           size_t slots_length, ambrulicciu_probe *probes, size_t probes_length, ambrulicciu_chain *links,
+                           size_t links_length, uint32_t sender, uint32_t reflector, uint64_t t3, uint32_t pending, uint64_t time,
+                           uint64_t tag, ambrulicciu_accepted *answer);
+
+/* Before the observe of a reply that has a follow-up: what its timestamp is converted with. `own`: the reflector number of the reply
+ * itself; `sequence`, `timestamp`: the follow-up's; `unknown`: its mode is not known. If a slot is shown, the host converts the
+ * timestamp and hands it to observe as converted_t3; otherwise there is nothing to convert. Changes only the answer. Refuses 5. */
+uint8_t ambrulicciu_lookup(const ambrulicciu_ledger *ledger, const ambrulicciu_key *keys, size_t keys_length,
+                           const ambrulicciu_slot *slots, size_t slots_length, const ambrulicciu_chain *links, size_t links_length,
+                           uint32_t own, uint32_t sequence, uint64_t timestamp, uint32_t unknown, ambrulicciu_found *answer);
+
+/* What the unique reply that was accepted last brought: round trip, counters, follow-up, estimates. Once for each. Refuses 5, 1, 4, 2. */
+uint8_t ambrulicciu_observe(ambrulicciu_ledger *ledger, const ambrulicciu_key *keys, size_t keys_length, ambrulicciu_slot *slots,
+                            size_t slots_length, uint32_t *offsets, size_t offsets_length, ambrulicciu_chain *links,
+                            size_t links_length, const ambrulicciu_observation *observation);
+
+/* Whether a held probe has a reply: 1, else 0. Changes only the answer. Refuses 5. */
+uint8_t ambrulicciu_answered(const ambrulicciu_ledger *ledger, const ambrulicciu_probe *probes, size_t probes_length,
+                             const ambrulicciu_chain *links, size_t links_length, uint32_t sequence, uint64_t *answer);
+
+/* Whether replies of a burst are still to come: 1, else 0. Changes only the answer. Refuses nothing. */
+uint8_t ambrulicciu_needs_burst_wait(const ambrulicciu_ledger *ledger, uint64_t *answer);
+
+/* Every figure. Changes only `shown`. Refuses nothing, and needs no room. */
+uint8_t ambrulicciu_snapshot(const ambrulicciu_ledger *ledger, ambrulicciu_figures *shown);
+
+/* ---- the ledger with a monitor -----------------------------------------------------------------------------------------------------
+ * One call for both: either both parts change, or none. */
+
+/* ambrulicciu_sent and ambrulicciu_monitor_sent at the same time. Refuses 5, 6, 4, 3, for either part. */
+uint8_t ambrulicciu_watched_sent(ambrulicciu_ledger *ledger, ambrulicciu_monitor *monitor, ambrulicciu_probe *probes,
+                                 size_t probes_length, ambrulicciu_chain *links, size_t links_length, ambrulicciu_queued *queue,
+                                 size_t queue_length, uint32_t sequence, uint32_t ordinal, uint64_t time, uint64_t tag);
+
+/* ambrulicciu_accept, and ambrulicciu_monitor_reply if the reply is unique. Refuses 5, 4, for either part. */
+uint8_t ambrulicciu_watched_accept(ambrulicciu_ledger *ledger, ambrulicciu_monitor *monitor, ambrulicciu_key *keys, size_t keys_length,
+                                   ambrulicciu_slot *slots, size_t slots_length, ambrulicciu_probe *probes, size_t probes_length,
+                                   ambrulicciu_chain *links, size_t links_length, ambrulicciu_queued *queue, size_t queue_length,
+                                   uint32_t sender, uint32_t reflector, uint64_t t3, uint32_t pending, uint64_t time, uint64_t tag,
+                                   ambrulicciu_accepted *answer);
+
+/* ---- the monitor -------------------------------------------------------------------------------------------------------------------
+ * Refusal 5 of a monitor's call: the queue has not 4,096 rows, or the ring in the state is out of bounds. */
+
+/* Makes a monitor fresh: idle. `threshold` losses in a row mean failed; 0 counts as 1. `timeout` in ns; 0: no probe is ever lost.
+ * The queue may hold anything. Refuses nothing. */
+uint8_t ambrulicciu_monitor_fresh(ambrulicciu_monitor *monitor, uint16_t threshold, uint64_t timeout);
+
+/* A probe was sent: its deadline is time plus timeout. Refuses 5, 6, 4, 3. */
+uint8_t ambrulicciu_monitor_sent(ambrulicciu_monitor *monitor, ambrulicciu_queued *queue, size_t queue_length, uint32_t sequence,
+                                 uint64_t time);
+
+/* A reply came: no losses in a row any more, and the state is active. Refuses 5, 4. */
+uint8_t ambrulicciu_monitor_reply(ambrulicciu_monitor *monitor, ambrulicciu_queued *queue, size_t queue_length, uint32_t sequence);
+
+/* The clock is at `time`: each probe at the front whose deadline is at or before it is a loss, and at the threshold the state is failed.
+ * Refuses 5, 4. */
+uint8_t ambrulicciu_monitor_advance(ambrulicciu_monitor *monitor, ambrulicciu_queued *queue, size_t queue_length, uint64_t time);
+
+/* The session stops: nothing is queued any more. A host calls it when it ends a session. Refuses 5, 4. */
+uint8_t ambrulicciu_monitor_idle(ambrulicciu_monitor *monitor);
+
+/* The deadline of the front probe, when advance has something to do. Changes only the answer. Refuses 5. */
+uint8_t ambrulicciu_monitor_deadline(const ambrulicciu_monitor *monitor, const ambrulicciu_queued *queue, size_t queue_length,
+                                     ambrulicciu_deadline *answer);
+
+/* State, losses in a row, notifications. Changes only `shown`. Refuses nothing. */
+uint8_t ambrulicciu_monitor_summary(const ambrulicciu_monitor *monitor, ambrulicciu_session *shown);
+
+/* ---- error estimates (RFC 8762, 4.2.1; RFC 4656, 4.1.2) ----------------------------------------------------------------------------
+ * An estimate is the 16 bits of the wire. Its error is multiplier * 2^(scale-32) seconds, exactly. */
+
+/* Makes an estimate. Refuses 1: a scale above 63. */
+uint8_t ambrulicciu_estimate_new(uint32_t synchronized, uint32_t ptp, uint8_t scale, uint8_t multiplier, uint16_t *wire);
+
+/* The estimate of a clock that is not synchronized: the smallest error that is not invalid. Refuses nothing. */
+uint8_t ambrulicciu_estimate_unsynchronized(uint32_t ptp, uint16_t *wire);
+
+/* What 16 bits say. Refuses nothing. */
+typedef struct {
+    uint64_t synchronized;
+    uint64_t ptp;
+    uint64_t scale;
+    uint64_t multiplier;
+} ambrulicciu_parts;
+uint8_t ambrulicciu_estimate_parts(uint16_t wire, ambrulicciu_parts *parts);
+
+/* The error in seconds. Refuses nothing. */
+uint8_t ambrulicciu_estimate_seconds(uint16_t wire, double *seconds);
+
+/* The error in ms: known is 1, or 0 at multiplier 0, which has no error. Refuses nothing. */
+uint8_t ambrulicciu_estimate_error(uint16_t wire, uint64_t *known, double *milliseconds);
+
+/* ---- clock quality of its own ------------------------------------------------------------------------------------------------------
+ * The ledger keeps one for matched follow-ups (figures.follow_up.quality); this is for hosts that keep another. */
+
+/* No sample yet. Refuses nothing. */
+uint8_t ambrulicciu_clock_quality_fresh(ambrulicciu_clock_quality *quality);
+
+/* One sample: the estimates of both ends; `estimated` 0: there are none. Refuses 4. */
+uint8_t ambrulicciu_clock_quality_record(ambrulicciu_clock_quality *quality, uint32_t estimated, uint16_t sender, uint16_t reflector);
+
+/* Changes only `shown`. Refuses nothing. */
+uint8_t ambrulicciu_clock_quality_summary(const ambrulicciu_clock_quality *quality, ambrulicciu_quality *shown);
+
+/* ---- quantiles ---------------------------------------------------------------------------------------------------------------------
+ * A series of u64 values, or of i64 values as their two's complement words. Up to 4,096 samples percentiles are exact; beyond, a value
+ * shown v' of v has v' at most v and 128*(v-v') at most v, and equals v below 256. */
+
+/* No sample yet; the room may hold anything. `signed_` other than 0: i64 values. Refuses nothing. */
+uint8_t ambrulicciu_quantiles_fresh(ambrulicciu_quantiles *quantiles, uint32_t signed_);
+
+/* One sample: recorded is 1; or 0, and nothing is changed but it, at a count of 2^64-1. The room has AMBRULICCIU_QUANTILES_ROOM words, or
+ * AMBRULICCIU_QUANTILES_SIGNED_ROOM. Refuses 5: a room of another size, a minimum above the maximum at a count above 0, a bucket that
+ * would pass u64. */
+uint8_t ambrulicciu_quantiles_record(ambrulicciu_quantiles *quantiles, uint64_t *room, size_t room_length, uint64_t value,
+                                     uint64_t *recorded);
+
+/* The value of each percentile, in the same order; `shown` has as many words as there are percents. present is 0 and `shown` unchanged
+ * where there is no sample. A percent that is a NaN or negative counts as 0, one above 100 as 100. Changes only `shown` and `present`.
+ * Refuses 5: a room of another size, other lengths of percents and shown, a minimum above the maximum at a count above 0, buckets that do
+ * not add up to the count, or a value in the bucket that signed series have no value for. */
+uint8_t ambrulicciu_quantiles_percentiles(const ambrulicciu_quantiles *quantiles, const uint64_t *room, size_t room_length,
+                                          const double *percents, size_t percents_length, uint64_t *shown, size_t shown_length,
+                                          uint64_t *present);
+
+/* ---- the log -----------------------------------------------------------------------------------------------------------------------
+ * A log is the list of calls on one link: a record of 96 bytes for each, then a trailer of 24 bytes. The program linkreport plays it from
+ * fresh and prints the link's report. At most 682 records. */
+
+/* Each writes one record of AMBRULICCIU_RECORD bytes, with what the call of the same name was told. Refuses 5: another number of bytes. */
+uint8_t ambrulicciu_log_write_sent(uint8_t *bytes, size_t bytes_length, uint32_t sequence, uint32_t ordinal, uint64_t time,
+                                   uint64_t tag);
+uint8_t ambrulicciu_log_write_accept(uint8_t *bytes, size_t bytes_length, uint32_t sender, uint32_t reflector, uint64_t t3,
+                                     uint32_t pending, uint64_t time, uint64_t tag);
+uint8_t ambrulicciu_log_write_observe(uint8_t *bytes, size_t bytes_length, const ambrulicciu_observation *observation);
+uint8_t ambrulicciu_log_write_advance(uint8_t *bytes, size_t bytes_length, uint64_t time);
+uint8_t ambrulicciu_log_write_idle(uint8_t *bytes, size_t bytes_length);
+
+/* Writes the trailer of a log of `count` records, AMBRULICCIU_TRAILER bytes. `threshold` 0: no monitor. Refuses 5: another number of
+ * bytes; 9: more than 682 records. */
+uint8_t ambrulicciu_log_write_trailer(uint8_t *bytes, size_t bytes_length, uint32_t count, uint16_t copies, uint16_t threshold,
+                                      uint64_t timeout);
+
+typedef struct {
+    uint64_t count; /* of records */
+    uint64_t copies;
+    uint64_t threshold; /* 0: no monitor */
+    uint64_t timeout;
+} ambrulicciu_settings;
+
+/* Whether the bytes are a log, and how its link is made. Changes only the answer. Refuses 9, 7, 8. */
+uint8_t ambrulicciu_log_check(const uint8_t *log, size_t log_length, ambrulicciu_settings *answer);
+
+/* The first bad record, from 0; the record count where none is bad. Changes only the answer. Refuses 9, 7. */
+uint8_t ambrulicciu_log_first_bad(const uint8_t *log, size_t log_length, uint64_t *answer);
+
+/* ---- the report --------------------------------------------------------------------------------------------------------------------
+ * Ten lines of text, as linkreport prints them, at the start of a buffer of AMBRULICCIU_TEXT bytes; `length` says how many bytes were
+ * written. The bytes behind stay as they are; there is no 0 at the end. */
+
+/* The report of a log, played from fresh in the rooms, which may hold anything; or `refused 9`, `refused 7`, `refused 8 at N` as text.
+ * Refuses 5: a room or the buffer of another size. */
+uint8_t ambrulicciu_report_log(const uint8_t *log, size_t log_length, const uint32_t secret[8], ambrulicciu_key *keys,
+                               size_t keys_length, ambrulicciu_slot *slots, size_t slots_length, ambrulicciu_probe *probes,
+                               size_t probes_length, uint32_t *offsets, size_t offsets_length, ambrulicciu_chain *links,
+                               size_t links_length, uint8_t *text, size_t text_length, uint64_t *length);
+
+/* The report of a link as it stands. `watched` 0: it has no monitor, and the monitor's words are not looked at. `records`, `turned_away`:
+ * how many calls were made and how many of them refused, for the first line. Refuses 5: a buffer of another size. */
+uint8_t ambrulicciu_report_link(const ambrulicciu_ledger *ledger, const ambrulicciu_monitor *monitor, uint32_t watched,
+                                uint64_t records, uint64_t turned_away, uint8_t *text, size_t text_length, uint64_t *length);
+
+/* ---- a link with all its memory ----------------------------------------------------------------------------------------------------
+ * For hosts that keep it in one piece. The calls below only hand its parts to those above, and return what they return. */
+
+typedef struct {
+    ambrulicciu_ledger ledger;
+    ambrulicciu_monitor monitor;
+    ambrulicciu_key keys[AMBRULICCIU_ROWS];
+    ambrulicciu_slot slots[AMBRULICCIU_ROWS];
+    ambrulicciu_probe probes[AMBRULICCIU_ROWS];
+    uint32_t offsets[AMBRULICCIU_ROWS];
+    ambrulicciu_chain links[AMBRULICCIU_ROWS];
+    ambrulicciu_queued queue[AMBRULICCIU_ROWS];
+} ambrulicciu_link;
+
+/* A packet of the host's that a reply is for. */
+typedef struct {
+    uint64_t time;
+    uint64_t tag;
+} ambrulicciu_packet;
+
+static inline uint8_t ambrulicciu_link_fresh(ambrulicciu_link *link, uint16_t copies, const uint32_t secret[8], uint16_t threshold,
+                                             uint64_t timeout) {
+    ambrulicciu_monitor_fresh(&link->monitor, threshold, timeout);
+    return ambrulicciu_ledger_fresh(&link->ledger, copies, secret);
+}
+
+static inline uint8_t ambrulicciu_link_sent(ambrulicciu_link *link, uint32_t sequence, uint32_t ordinal, uint64_t time, uint64_t tag) {
+    return ambrulicciu_watched_sent(&link->ledger, &link->monitor, link->probes, AMBRULICCIU_ROWS, link->links, AMBRULICCIU_ROWS,
+                                    link->queue, AMBRULICCIU_ROWS, sequence, ordinal, time, tag);
+}
+
+/* `packet` is null where none is pending. */
+static inline uint8_t ambrulicciu_link_accept(ambrulicciu_link *link, uint32_t sender, uint32_t reflector, uint64_t t3,
+                                              const ambrulicciu_packet *packet, ambrulicciu_accepted *answer) {
+    return ambrulicciu_watched_accept(&link->ledger, &link->monitor, link->keys, AMBRULICCIU_ROWS, link->slots, AMBRULICCIU_ROWS,
+                                      link->probes, AMBRULICCIU_ROWS, link->links, AMBRULICCIU_ROWS, link->queue, AMBRULICCIU_ROWS,
+                                      sender, reflector, t3, packet ? 1 : 0, packet ? packet->time : 0, packet ? packet->tag : 0,
+                                      answer);
+}
+
+/* The lookup for an observation with a follow-up. */
+static inline uint8_t ambrulicciu_link_lookup(const ambrulicciu_link *link, const ambrulicciu_observation *observation,
+                                              ambrulicciu_found *answer) {
+    return ambrulicciu_lookup(&link->ledger, link->keys, AMBRULICCIU_ROWS, link->slots, AMBRULICCIU_ROWS, link->links,
+                              AMBRULICCIU_ROWS, observation->reflector, observation->follow_up_sequence,
+                              observation->follow_up_timestamp, observation->flags & AMBRULICCIU_UNKNOWN_MODE, answer);
+}
+
+static inline uint8_t ambrulicciu_link_observe(ambrulicciu_link *link, const ambrulicciu_observation *observation) {
+    return ambrulicciu_observe(&link->ledger, link->keys, AMBRULICCIU_ROWS, link->slots, AMBRULICCIU_ROWS, link->offsets,
+                               AMBRULICCIU_ROWS, link->links, AMBRULICCIU_ROWS, observation);
+}
+
+static inline uint8_t ambrulicciu_link_answered(const ambrulicciu_link *link, uint32_t sequence, uint64_t *answer) {
+    return ambrulicciu_answered(&link->ledger, link->probes, AMBRULICCIU_ROWS, link->links, AMBRULICCIU_ROWS, sequence, answer);
+}
+
+static inline uint8_t ambrulicciu_link_advance(ambrulicciu_link *link, uint64_t now) {
+    return ambrulicciu_monitor_advance(&link->monitor, link->queue, AMBRULICCIU_ROWS, now);
+}
+
+static inline uint8_t ambrulicciu_link_deadline(const ambrulicciu_link *link, ambrulicciu_deadline *answer) {
+    return ambrulicciu_monitor_deadline(&link->monitor, link->queue, AMBRULICCIU_ROWS, answer);
+}
+
+static inline uint8_t ambrulicciu_link_idle(ambrulicciu_link *link) {
+    return ambrulicciu_monitor_idle(&link->monitor);
+}
+
+#ifdef __cplusplus
+}
+#endif
+
+#endif

@@ -1,0 +1,458 @@
+/*
+ * Any memory: every call is made with lent memory that holds anything, in rooms of right and wrong sizes, and with any numbers.
+ *
+ *     any ROUNDS SEED
+ *
+ * It stops where a call answers a number that ambrulicciu.h does not name at it, where a refused call changed a lent byte, or where a
+ * served call changed memory that it only reads. Each room is an allocation of its own, so that a tool which watches memory sees a
+ * byte touched outside. The proofs say all this; here the compiled library is tried, back end and header included.
+ */
+#include "../ambrulicciu.h"
+#include <stdio.h>
+#include <stdlib.h>
+#include <string.h>
+
+static uint64_t seed;
+
+static uint64_t drawn(void) {
+    uint64_t z = seed += 0x9e3779b97f4a7c15u;
+    z = (z ^ (z >> 30)) * 0xbf58476d1ce4e5b9u;
+    z = (z ^ (z >> 27)) * 0x94d049bb133111ebu;
+    return z ^ (z >> 31);
+}
+
+/* A number: any, small, or near the end of its width. */
+static uint64_t number(void) {
+    switch (drawn() % 4) {
+    case 0: return drawn();
+    case 1: return drawn() % 5;
+    case 2: return 0 - drawn() % 5;
+    default: return (drawn() % 2 ? 4000000000000000000u : 86400u) + drawn() % 3;
+    }
+}
+
+/* ---- lent memory */
+
+#define MOST 16
+static struct {
+    unsigned char *bytes, *before;
+    size_t size;
+    int read_only;
+} lent[MOST];
+static int lent_count;
+
+static void put(unsigned char *bytes, size_t size, int manner) {
+    uint64_t mask = manner == 0 ? ~(uint64_t)0 : manner == 1 ? 0x0003000300030003u : 0;
+    for (size_t i = 0; i < size; i += 8) {
+        uint64_t word = drawn() & mask;
+        memcpy(bytes + i, &word, size - i < 8 ? size - i : 8);
+    }
+}
+
+static void *lend(size_t size, int read_only) {
+    unsigned char *bytes = malloc(size ? size : 1), *before = malloc(size ? size : 1);
+    if (!bytes || !before || lent_count == MOST) {
+        fprintf(stderr, "any: no memory\n");
+        exit(1);
+    }
+    put(bytes, size, (int)(drawn() % 3));
+    lent[lent_count].bytes = bytes;
+    lent[lent_count].before = before;
+    lent[lent_count].size = size;
+    lent[lent_count++].read_only = read_only;
+    return bytes;
+}
+
+/* What the memory holds just before the call. */
+static void ready(void) {
+    for (int i = 0; i < lent_count; i++)
+        memcpy(lent[i].before, lent[i].bytes, lent[i].size);
+}
+
+static uint64_t served, refused;
+
+/* After a call: `may` has the refusals that it may answer. */
+static void done(const char *call, uint8_t answer, const char *may) {
+    if (answer > 9 || (answer && !strchr(may, '0' + answer))) {
+        fprintf(stderr, "any: %s answered %u\n", call, answer);
+        exit(1);
+    }
+    for (int i = 0; i < lent_count; i++) {
+        if ((answer || lent[i].read_only) && memcmp(lent[i].bytes, lent[i].before, lent[i].size) != 0) {
+            fprintf(stderr, "any: %s answered %u and changed lent memory %d\n", call, answer, i);
+            exit(1);
+        }
+        free(lent[i].bytes);
+        free(lent[i].before);
+    }
+    lent_count = 0;
+    served += !answer;
+    refused += answer != 0;
+}
+
+static size_t rows(void) {
+    static const size_t other[4] = {0, 1, 4095, 4097};
+    return drawn() % 8 ? AMBRULICCIU_ROWS : other[drawn() % 4];
+}
+
+/* One or two words become anything. */
+static void spoil(uint64_t *words, size_t count) {
+    for (uint64_t n = drawn() % 3; n > 0; n--)
+        words[drawn() % count] = number();
+}
+
+static uint32_t *secret(void) {
+    return lend(32, 1);
+}
+
+/* A ledger: any words, or one that calls left, spoilt a little. */
+static ambrulicciu_ledger *ledger(int read_only) {
+    ambrulicciu_ledger *l = lend(sizeof *l, read_only);
+    uint32_t words[8] = {1, 2, 3, 4, 5, 6, 7, 8};
+    if (drawn() % 8) {
+        ambrulicciu_ledger_fresh(l, (uint16_t)drawn(), words);
+        spoil(l->word, 72);
+    }
+    return l;
+}
+
+static ambrulicciu_monitor *monitor(int read_only) {
+    ambrulicciu_monitor *m = lend(sizeof *m, read_only);
+    if (drawn() % 8) {
+        ambrulicciu_monitor_fresh(m, (uint16_t)number(), number());
+        spoil(m->word, 12);
+    }
+    return m;
+}
+
+/* ---- rooms */
+
+enum { KEYS = 1, SLOTS = 2, PROBES = 4, OFFSETS = 8, LINKS = 16, QUEUE = 32 };
+
+typedef struct {
+    ambrulicciu_key *keys;
+    ambrulicciu_slot *slots;
+    ambrulicciu_probe *probes;
+    uint32_t *offsets;
+    ambrulicciu_chain *links;
+    ambrulicciu_queued *queue;
+    size_t key_rows, slot_rows, probe_rows, offset_rows, link_rows, queue_rows;
+} rooms;
+
+/* All rooms of a link; `written` says which of them the call may change. */
+static rooms lend_rooms(int written) {
+    rooms r;
+    r.key_rows = rows();
+    r.slot_rows = rows();
+    r.probe_rows = rows();
+    r.offset_rows = rows();
+    r.link_rows = rows();
+    r.queue_rows = rows();
+    r.keys = lend(r.key_rows * sizeof *r.keys, !(written & KEYS));
+    r.slots = lend(r.slot_rows * sizeof *r.slots, !(written & SLOTS));
+    r.probes = lend(r.probe_rows * sizeof *r.probes, !(written & PROBES));
+    r.offsets = lend(r.offset_rows * sizeof *r.offsets, !(written & OFFSETS));
+    r.links = lend(r.link_rows * sizeof *r.links, !(written & LINKS));
+    r.queue = lend(r.queue_rows * sizeof *r.queue, !(written & QUEUE));
+    return r;
+}
+
+/* ---- the ledger */
+
+static void try_fresh(void) {
+    ambrulicciu_ledger *l = lend(sizeof *l, 0);
+    uint32_t *words = secret();
+    ready();
+    done("ledger_fresh", ambrulicciu_ledger_fresh(l, (uint16_t)number(), words), "");
+}
+
+static void try_sent(void) {
+    ambrulicciu_ledger *l = ledger(0);
+    rooms r = lend_rooms(PROBES | LINKS);
+    ready();
+    done("sent", ambrulicciu_sent(l, r.probes, r.probe_rows, r.links, r.link_rows, (uint32_t)number(), (uint32_t)number(), number(), number()), "54");
+}
+
+static void try_accept(void) {
+    ambrulicciu_ledger *l = ledger(0);
+    rooms r = lend_rooms(KEYS | SLOTS | PROBES | LINKS);
+    ambrulicciu_accepted *answer = lend(sizeof *answer, 0);
+    ready();
+    done("accept", ambrulicciu_accept(l, r.keys, r.key_rows, r.slots, r.slot_rows, r.probes, r.probe_rows, r.links, r.link_rows, (uint32_t)number(),
+                                      (uint32_t)number(), number(), (uint32_t)number(), number(), number(), answer), "54");
+}
+
+static void try_lookup(void) {
+    ambrulicciu_ledger *l = ledger(1);
+    rooms r = lend_rooms(0);
+    ambrulicciu_found *answer = lend(sizeof *answer, 0);
+    ready();
+    done("lookup", ambrulicciu_lookup(l, r.keys, r.key_rows, r.slots, r.slot_rows, r.links, r.link_rows, (uint32_t)number(), (uint32_t)number(), number(),
+                                      (uint32_t)number(), answer), "5");
+}
+
+/* Half of the time the reply is the one that awaits. */
+static void try_observe(void) {
+    ambrulicciu_ledger *l = ledger(0);
+    rooms r = lend_rooms(SLOTS | OFFSETS | LINKS);
+    ambrulicciu_observation *o = lend(sizeof *o, 1);
+    ambrulicciu_accepted answer;
+    if (drawn() % 2 && !ambrulicciu_accept(l, r.keys, r.key_rows, r.slots, r.slot_rows, r.probes, r.probe_rows, r.links, r.link_rows, o->sender,
+                                           o->reflector, o->t3, 1, 0, 0, &answer) && drawn() % 4) {
+        o->t4 = o->converted_t3 = 1790000000000000000;
+        o->reference = o->t4 / 1000000000;
+        o->offset = (int32_t)(drawn() % 86402);
+    }
+    ready();
+    done("observe", ambrulicciu_observe(l, r.keys, r.key_rows, r.slots, r.slot_rows, r.offsets, r.offset_rows, r.links, r.link_rows, o), "5142");
+}
+
+static void try_answered(void) {
+    ambrulicciu_ledger *l = ledger(1);
+    rooms r = lend_rooms(0);
+    uint64_t *answer = lend(8, 0);
+    ready();
+    done("answered", ambrulicciu_answered(l, r.probes, r.probe_rows, r.links, r.link_rows, (uint32_t)number(), answer), "5");
+}
+
+static void try_reads(void) {
+    ambrulicciu_ledger *l = ledger(1);
+    ambrulicciu_figures *figures = lend(sizeof *figures, 0);
+    ready();
+    done("snapshot", ambrulicciu_snapshot(l, figures), "");
+    l = ledger(1);
+    uint64_t *answer = lend(8, 0);
+    ready();
+    done("needs_burst_wait", ambrulicciu_needs_burst_wait(l, answer), "");
+}
+
+/* ---- the monitor, alone and with the ledger */
+
+static void try_watched_sent(void) {
+    ambrulicciu_ledger *l = ledger(0);
+    ambrulicciu_monitor *m = monitor(0);
+    rooms r = lend_rooms(PROBES | LINKS | QUEUE);
+    ready();
+    done("watched_sent", ambrulicciu_watched_sent(l, m, r.probes, r.probe_rows, r.links, r.link_rows, r.queue, r.queue_rows, (uint32_t)number(),
+                                                  (uint32_t)number(), number(), number()), "5643");
+}
+
+static void try_watched_accept(void) {
+    ambrulicciu_ledger *l = ledger(0);
+    ambrulicciu_monitor *m = monitor(0);
+    rooms r = lend_rooms(KEYS | SLOTS | PROBES | LINKS | QUEUE);
+    ambrulicciu_accepted *answer = lend(sizeof *answer, 0);
+    ready();
+    done("watched_accept", ambrulicciu_watched_accept(l, m, r.keys, r.key_rows, r.slots, r.slot_rows, r.probes, r.probe_rows, r.links, r.link_rows, r.queue,
+                                                      r.queue_rows, (uint32_t)number(), (uint32_t)number(), number(), (uint32_t)number(), number(), number(),
+                                                      answer), "54");
+}
+
+static void try_monitor(void) {
+    ambrulicciu_monitor *m = lend(sizeof *m, 0);
+    ready();
+    done("monitor_fresh", ambrulicciu_monitor_fresh(m, (uint16_t)number(), number()), "");
+    m = monitor(0);
+    rooms r = lend_rooms(QUEUE);
+    ready();
+    done("monitor_sent", ambrulicciu_monitor_sent(m, r.queue, r.queue_rows, (uint32_t)number(), number()), "5643");
+    m = monitor(0);
+    r = lend_rooms(QUEUE);
+    ready();
+    done("monitor_reply", ambrulicciu_monitor_reply(m, r.queue, r.queue_rows, (uint32_t)number()), "54");
+    m = monitor(0);
+    r = lend_rooms(QUEUE);
+    ready();
+    done("monitor_advance", ambrulicciu_monitor_advance(m, r.queue, r.queue_rows, number()), "54");
+    m = monitor(0);
+    ready();
+    done("monitor_idle", ambrulicciu_monitor_idle(m), "54");
+    m = monitor(1);
+    r = lend_rooms(0);
+    ambrulicciu_deadline *deadline = lend(sizeof *deadline, 0);
+    ready();
+    done("monitor_deadline", ambrulicciu_monitor_deadline(m, r.queue, r.queue_rows, deadline), "5");
+    m = monitor(1);
+    ambrulicciu_session *session = lend(sizeof *session, 0);
+    ready();
+    done("monitor_summary", ambrulicciu_monitor_summary(m, session), "");
+}
+
+/* ---- estimates, clock quality, quantiles */
+
+static void try_estimates(void) {
+    uint16_t *wire = lend(2, 0);
+    ready();
+    done("estimate_new", ambrulicciu_estimate_new((uint32_t)number(), (uint32_t)number(), (uint8_t)drawn(), (uint8_t)number(), wire), "1");
+    wire = lend(2, 0);
+    ready();
+    done("estimate_unsynchronized", ambrulicciu_estimate_unsynchronized((uint32_t)number(), wire), "");
+    ambrulicciu_parts *parts = lend(sizeof *parts, 0);
+    ready();
+    done("estimate_parts", ambrulicciu_estimate_parts((uint16_t)drawn(), parts), "");
+    double *seconds = lend(8, 0);
+    ready();
+    done("estimate_seconds", ambrulicciu_estimate_seconds((uint16_t)drawn(), seconds), "");
+    uint64_t *known = lend(8, 0);
+    double *ms = lend(8, 0);
+    ready();
+    done("estimate_error", ambrulicciu_estimate_error((uint16_t)drawn(), known, ms), "");
+}
+
+static ambrulicciu_clock_quality *quality(int read_only) {
+    ambrulicciu_clock_quality *q = lend(sizeof *q, read_only);
+    if (drawn() % 8) {
+        ambrulicciu_clock_quality_fresh(q);
+        spoil(q->word, sizeof q->word / 8);
+    }
+    return q;
+}
+
+static void try_quality(void) {
+    ambrulicciu_clock_quality *q = lend(sizeof *q, 0);
+    ready();
+    done("clock_quality_fresh", ambrulicciu_clock_quality_fresh(q), "");
+    q = quality(0);
+    ready();
+    done("clock_quality_record", ambrulicciu_clock_quality_record(q, (uint32_t)number(), (uint16_t)drawn(), (uint16_t)drawn()), "4");
+    q = quality(1);
+    ambrulicciu_quality *shown = lend(sizeof *shown, 0);
+    ready();
+    done("clock_quality_summary", ambrulicciu_clock_quality_summary(q, shown), "");
+}
+
+static size_t quantile_words(void) {
+    static const size_t sizes[5] = {0, AMBRULICCIU_QUANTILES_ROOM, AMBRULICCIU_QUANTILES_ROOM, AMBRULICCIU_QUANTILES_SIGNED_ROOM, 11521};
+    return sizes[drawn() % 5];
+}
+
+static ambrulicciu_quantiles *quantiles(int read_only, uint64_t *room, size_t words) {
+    ambrulicciu_quantiles *q = lend(sizeof *q, read_only);
+    uint64_t recorded;
+    if (drawn() % 8) {
+        ambrulicciu_quantiles_fresh(q, words == AMBRULICCIU_QUANTILES_SIGNED_ROOM);
+        for (uint64_t n = drawn() % 2 ? drawn() % 20 : 4090 + drawn() % 20; n > 0; n--)
+            ambrulicciu_quantiles_record(q, room, words, number(), &recorded);
+        spoil(q->word, 4);
+    }
+    return q;
+}
+
+static void try_quantiles(void) {
+    ambrulicciu_quantiles *q = lend(sizeof *q, 0);
+    ready();
+    done("quantiles_fresh", ambrulicciu_quantiles_fresh(q, (uint32_t)number()), "");
+    size_t words = quantile_words();
+    uint64_t *room = lend(8 * words, 0);
+    q = quantiles(0, room, words);
+    uint64_t *recorded = lend(8, 0);
+    ready();
+    done("quantiles_record", ambrulicciu_quantiles_record(q, room, words, number(), recorded), "5");
+    words = quantile_words();
+    room = lend(8 * words, 1);
+    q = quantiles(1, room, words);
+    size_t count = drawn() % 7, other = drawn() % 8 ? count : drawn() % 7;
+    double *percents = lend(8 * count, 1);
+    for (size_t i = 0; i < count && drawn() % 8; i++)
+        percents[i] = (double)(drawn() % 1200) / 10 - 10;
+    uint64_t *shown = lend(8 * other, 0);
+    uint64_t *present = lend(8, 0);
+    ready();
+    done("quantiles_percentiles", ambrulicciu_quantiles_percentiles(q, room, words, percents, count, shown, other, present), "5");
+}
+
+/* ---- logs and reports */
+
+static size_t bytes_of(size_t right) {
+    return drawn() % 4 ? right : drawn() % (2 * right);
+}
+
+static void try_writers(void) {
+    size_t n = bytes_of(AMBRULICCIU_RECORD);
+    uint8_t *bytes = lend(n, 0);
+    ready();
+    done("log_write_sent", ambrulicciu_log_write_sent(bytes, n, (uint32_t)number(), (uint32_t)number(), number(), number()), "5");
+    bytes = lend(n, 0);
+    ready();
+    done("log_write_accept", ambrulicciu_log_write_accept(bytes, n, (uint32_t)number(), (uint32_t)number(), number(), (uint32_t)number(), number(), number()), "5");
+    bytes = lend(n, 0);
+    ambrulicciu_observation *o = lend(sizeof *o, 1);
+    ready();
+    done("log_write_observe", ambrulicciu_log_write_observe(bytes, n, o), "5");
+    bytes = lend(n, 0);
+    ready();
+    done("log_write_advance", ambrulicciu_log_write_advance(bytes, n, number()), "5");
+    bytes = lend(n, 0);
+    ready();
+    done("log_write_idle", ambrulicciu_log_write_idle(bytes, n), "5");
+    n = bytes_of(AMBRULICCIU_TRAILER);
+    bytes = lend(n, 0);
+    ready();
+    done("log_write_trailer", ambrulicciu_log_write_trailer(bytes, n, (uint32_t)(drawn() % 690), (uint16_t)number(), (uint16_t)number(), number()), "59");
+}
+
+/* A log of some records by the library's writers, of which a byte may be changed. */
+static uint8_t *log_of(size_t *size) {
+    uint32_t count = (uint32_t)(drawn() % 6);
+    size_t before = drawn() % 40;
+    if (drawn() % 6 == 0) {
+        *size = drawn() % 3 ? drawn() % 300 : AMBRULICCIU_LOG + drawn() % 3;
+        return lend(*size, 1);
+    }
+    *size = before + AMBRULICCIU_RECORD * count + AMBRULICCIU_TRAILER;
+    uint8_t *log = lend(*size, 1), *at = log + before;
+    for (uint32_t i = 0; i < count; i++, at += AMBRULICCIU_RECORD)
+        switch (drawn() % 4) {
+        case 0: ambrulicciu_log_write_sent(at, AMBRULICCIU_RECORD, i, i, i, number()); break;
+        case 1: ambrulicciu_log_write_accept(at, AMBRULICCIU_RECORD, i - 1, i, i, (uint32_t)drawn() % 2, i, i); break;
+        case 2: ambrulicciu_log_write_advance(at, AMBRULICCIU_RECORD, number()); break;
+        default: ambrulicciu_log_write_idle(at, AMBRULICCIU_RECORD);
+        }
+    ambrulicciu_log_write_trailer(at, AMBRULICCIU_TRAILER, count, (uint16_t)number(), (uint16_t)(drawn() % 3), number());
+    if (drawn() % 3 == 0)
+        log[drawn() % *size] ^= (uint8_t)(1u << drawn() % 8);
+    return log;
+}
+
+static void try_logs(void) {
+    size_t size;
+    uint8_t *log = log_of(&size);
+    ambrulicciu_settings *settings = lend(sizeof *settings, 0);
+    ready();
+    done("log_check", ambrulicciu_log_check(log, size, settings), "978");
+    log = log_of(&size);
+    uint64_t *answer = lend(8, 0);
+    ready();
+    done("log_first_bad", ambrulicciu_log_first_bad(log, size, answer), "97");
+}
+
+static void try_reports(void) {
+    size_t size, room = drawn() % 4 ? AMBRULICCIU_TEXT : drawn() % 2000;
+    uint8_t *log = log_of(&size);
+    uint32_t *words = secret();
+    rooms r = lend_rooms(KEYS | SLOTS | PROBES | OFFSETS | LINKS);
+    uint8_t *text = lend(room, 0);
+    uint64_t *length = lend(8, 0);
+    ready();
+    done("report_log", ambrulicciu_report_log(log, size, words, r.keys, r.key_rows, r.slots, r.slot_rows, r.probes, r.probe_rows, r.offsets, r.offset_rows,
+                                              r.links, r.link_rows, text, room, length), "5");
+    ambrulicciu_ledger *l = ledger(1);
+    ambrulicciu_monitor *m = monitor(1);
+    text = lend(room, 0);
+    length = lend(8, 0);
+    ready();
+    done("report_link", ambrulicciu_report_link(l, m, (uint32_t)number(), number(), number(), text, room, length), "5");
+}
+
+int main(int argc, char **argv) {
+    static void (*const tries[])(void) = {try_fresh, try_sent, try_accept, try_lookup, try_observe, try_answered, try_reads, try_watched_sent,
+                                          try_watched_accept, try_monitor, try_estimates, try_quality, try_quantiles, try_writers, try_logs, try_reports};
+    long rounds = argc > 1 ? atol(argv[1]) : 500;
+    seed = argc > 2 ? strtoull(argv[2], NULL, 10) : 1;
+    for (long round = 0; round < rounds; round++)
+        for (size_t i = 0; i < sizeof tries / sizeof *tries; i++)
+            tries[i]();
+    printf("any: %llu calls served and %llu refused on memory that holds anything: each refusal is one that the header names, and changed no byte\n",
+           (unsigned long long)served, (unsigned long long)refused);
+    return 0;
+}
