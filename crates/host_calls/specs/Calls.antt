@@ -1,0 +1,34 @@
+-- What a host hands over as numbers, and the words that tell it what an accepted reply is. Assumes nothing.
+use mathlib.Core.Bool.{cond}
+use mathlib.Core.List.{List, [], _∷_}
+use Prim.Native.Nat.{ℕ}
+use lib.Dec.{eqb}
+use Rattle.calls.specs.declared.PendingPacket.{PendingPacket}
+use Rattle.calls.specs.declared.Ordinal.{Ordinal}
+use Rattle.calls.specs.declared.Ordinal.the-variants as ordinal
+use Rattle.calls.specs.declared.Pending.the-variants as pending
+use Rattle.calls.specs.declared.Reply.{Reply}
+use Rattle.calls.specs.declared.SentProbe.{SentProbe}
+use Rattle.ledger_steps.specs.declared.Accepted.{Accepted}
+use Rattle.ledger_steps.specs.declared.Accepted.the-variants as accepted
+
+abbrev pub probeOf : (sequence ordinal time tag : ℕ) → SentProbe
+probeOf sequence ordinal time tag = record { sequence = sequence; ordinal = ordinal; packet = record { time = time; tag = tag } }
+
+-- there is a pending packet where `held` is not 0
+abbrev pub replyOf : (sender reflector t3 held time tag : ℕ) → Reply
+replyOf sender reflector t3 held time tag = record {
+  key = record { sender = sender; reflector = reflector; t3 = t3 };
+  pending = cond (eqb held 0) pending.Absent (pending.Held (record { time = time; tag = tag }));
+}
+
+-- the words of a unique reply: its class, the packet's time and tag, whether there is an ordinal, the ordinal
+abbrev pub ordinalWords : PendingPacket → Ordinal → List ℕ
+ordinalWords packet ordinal.Absent = 2 ∷ packet .time ∷ packet .tag ∷ 0 ∷ 0 ∷ []
+ordinalWords packet (ordinal.Number n) = 2 ∷ packet .time ∷ packet .tag ∷ 1 ∷ n ∷ []
+
+-- class 0 unknown, 1 duplicate, 2 unique
+abbrev pub acceptedWords : Accepted → List ℕ
+acceptedWords accepted.Duplicate = 1 ∷ 0 ∷ 0 ∷ 0 ∷ 0 ∷ []
+acceptedWords accepted.Unknown = 0 ∷ 0 ∷ 0 ∷ 0 ∷ 0 ∷ []
+acceptedWords (accepted.Unique packet o) = ordinalWords packet o

@@ -1,0 +1,61 @@
+// What a host hands over as numbers, as the ledger's `sent` and `accept` take it, and the words that tell it what an accepted reply is.
+ghost use mathlib.Core.Path.{_≡_};
+ghost use Rattle.host_calls.specs.Calls.{probeOf, replyOf, acceptedWords, ordinalWords};
+use calls::Ordinal;
+use calls::Pending;
+use calls::PendingPacket;
+use calls::Reply;
+use calls::ReplyKey;
+use calls::SentProbe;
+use ledger_steps::Accepted;
+
+pub fn probe_of(sequence: u32, ordinal: u32, time: u64, tag: u64) -> SentProbe
+    ensures { λ r. ⌜ r ≡ probeOf sequence ordinal time tag ⌝ }
+{
+    SentProbe {
+        sequence,
+        ordinal,
+        packet: PendingPacket { time, tag },
+    }
+}
+
+// The packet counts where `pending` is not 0.
+pub fn reply_of(sender: u32, reflector: u32, t3: u64, pending: u32, time: u64, tag: u64) -> Reply
+    ensures { λ r. ⌜ r ≡ replyOf sender reflector t3 pending time tag ⌝ }
+{
+    let key = ReplyKey {
+        sender,
+        reflector,
+        t3,
+    };
+    if pending == 0 {
+        return Reply {
+            key,
+            pending: Pending::Absent,
+        };
+    }
+    Reply {
+        key,
+        pending: Pending::Held(PendingPacket { time, tag }),
+    }
+}
+
+fn ordinal_words(packet: PendingPacket, ordinal: Ordinal) -> [u64; 5]
+    ensures { λ r. ⌜ r ≡ ordinalWords packet ordinal ⌝ }
+{
+    match ordinal {
+        Ordinal::Absent => [2, packet.time, packet.tag, 0, 0],
+        Ordinal::Number(number) => [2, packet.time, packet.tag, 1, number as u64],
+    }
+}
+
+// Class (0 unknown, 1 duplicate, 2 unique); of a unique one the packet's time and tag, 1 if it has an ordinal, the ordinal. All else is 0.
+pub fn accepted_words(accepted: Accepted) -> [u64; 5]
+    ensures { λ r. ⌜ r ≡ acceptedWords accepted ⌝ }
+{
+    match accepted {
+        Accepted::Duplicate => [1, 0, 0, 0, 0],
+        Accepted::Unknown => [0, 0, 0, 0, 0],
+        Accepted::Unique(packet, ordinal) => ordinal_words(packet, ordinal),
+    }
+}
