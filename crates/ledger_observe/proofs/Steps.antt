@@ -18,7 +18,6 @@ use Rattle.correlation.specs.Class.{offsetInRange}
 use Rattle.key_ring.specs.Table.{hashOf}
 use Rattle.replies.proofs.Tested.{both}
 use Rattle.delays.specs.declared.Delays.{Delays}
-use Rattle.delays.specs.declared.Nanoseconds.{Nanoseconds}
 use Rattle.delays.specs.Delays.{recordedOf}
 use Rattle.delays.specs.Sums.{nanosecondsOf}
 use Rattle.direct.specs.declared.Direct.{Direct}
@@ -48,8 +47,8 @@ follow-ranged o h =
 
 -- the state
 pub ledger-as :
-    (l : Ledger) (rtt : ℕ) (d : Direct) (f : FollowUps) (ns : Nanoseconds) (after : Delays)
-    → ns ≡ nanosecondsOf (pos rtt) → after ≡ recordedOf (l .counts .rtt) ns
+    (l : Ledger) (rtt : ℕ) (d : Direct) (f : FollowUps) (after : Delays)
+    → after ≡ recordedOf (l .counts .rtt) (nanosecondsOf (pos rtt))
     → _≡_ {A = Ledger}
     (record {
       copies = l .copies;
@@ -59,7 +58,7 @@ pub ledger-as :
       counts = record { replies = l .counts .replies; rtt = after; direct = d; follow = f };
     })
     (ledgerObserved l rtt d f)
-ledger-as l rtt d f ns after e₁ e₂ = rw (e₂, e₁)
+ledger-as l rtt d f after e = rw e
 
 module _ (N : ℕ) (byKey : ReplyKey → ℕ) (byNumber : ℕ → ℕ) where
   -- the four steps in their order

@@ -38,7 +38,7 @@ fn ledger_observed(ledger: Ledger, rtt: u64, direct: Direct, follow: FollowUps) 
         },
         counts: Counts {
             replies,
-            rtt: before.recorded(delays::from_u64(rtt)),
+            rtt: round_trips::recorded(before, rtt),
             direct,
             follow,
         },

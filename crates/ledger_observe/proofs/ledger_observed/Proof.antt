@@ -8,16 +8,13 @@ use Rattle.ledger_observe.proofs.ledger_observed.Tie as tie
 add-t12 : tie.Need-add-t12
 add-t12 c = search needs
 
-from-u64-requires : tie.Need-from-u64-requires
-from-u64-requires c κs = search needs
-
 recorded-requires : tie.Need-recorded-requires
 recorded-requires c κs = search needs
 
 returns : tie.Need-returns
 returns c =
-    let s = c .before .before .before .before .before .before .before .before .before .before in
-    ledger-as (s .args .ledger) (s .args .rtt) (s .args .direct) (s .args .follow) _ _ (c .before .from-u64 .ensures) (c .recorded .ensures)
+    let s = c .before .before .before .before .before .before .before .before .before in
+    ledger-as (s .args .ledger) (s .args .rtt) (s .args .direct) (s .args .follow) _ (c .recorded .ensures)
 
 pub ledger-observed-spec : {M : Type 1} → statement M
-ledger-observed-spec = tie.close (tie.spec add-t12 from-u64-requires recorded-requires returns)
+ledger-observed-spec = tie.close (tie.spec add-t12 recorded-requires returns)
