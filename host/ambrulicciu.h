@@ -91,7 +91,7 @@ typedef struct { uint16_t word[8]; } ambrulicciu_chain;
 typedef struct {
     uint32_t sequence;
     uint64_t deadline; /* ns */
-    uint32_t mark;     /* 0: its sequence was answered */
+    uint32_t mark;     /* other than 0: a reply with this sequence is waited for */
 } ambrulicciu_queued;
 
 /* ---- what is told and shown --------------------------------------------------------------------------------------------------------
@@ -309,7 +309,7 @@ uint8_t ambrulicciu_observe(ambrulicciu_ledger *ledger, const ambrulicciu_key *k
 uint8_t ambrulicciu_answered(const ambrulicciu_ledger *ledger, const ambrulicciu_probe *probes, size_t probes_length,
                              const ambrulicciu_chain *links, size_t links_length, uint32_t sequence, uint64_t *answer);
 
-/* Whether replies of a burst are still to come: 1, else 0. Changes only the answer. Refuses nothing. */
+/* Whether more than one copy is asked for and fewer replies came than were: 1, else 0. Changes only the answer. Refuses nothing. */
 uint8_t ambrulicciu_needs_burst_wait(const ambrulicciu_ledger *ledger, uint64_t *answer);
 
 /* Every figure. Changes only `shown`. Refuses nothing, and needs no room. */
