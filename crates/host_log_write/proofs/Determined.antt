@@ -15,6 +15,9 @@ use Rattle.host_log_write.proofs.ambrulicciu_log_write_sent.Reads as se
 use Rattle.host_log_write.proofs.ambrulicciu_log_write_accept as accept
 use Rattle.host_log_write.proofs.ambrulicciu_log_write_accept.Kinds as accept-kinds
 use Rattle.host_log_write.proofs.ambrulicciu_log_write_accept.Reads as accept-reads
+use Rattle.host_log_write.proofs.ambrulicciu_log_write_observe as observe
+use Rattle.host_log_write.proofs.ambrulicciu_log_write_observe.Kinds as observe-kinds
+use Rattle.host_log_write.proofs.ambrulicciu_log_write_observe.Reads as observe-reads
 use Rattle.host_log_write.proofs.ambrulicciu_log_write_advance as advance
 use Rattle.host_log_write.proofs.ambrulicciu_log_write_advance.Kinds as advance-kinds
 use Rattle.host_log_write.proofs.ambrulicciu_log_write_advance.Reads as advance-reads
@@ -36,6 +39,12 @@ pub write-accept-unique :
     (s₁ s₂ : Clauses.AtExit (Kinds'.endedOf 1 accept-kinds.ps accept-kinds.r) κs)
     → accept-reads.Post κs a r₁ s₁ → accept-reads.Post κs a r₂ s₂ → (r₁ ≡ r₂) × (now (s₁ .0) ≡ now (s₂ .0))
 write-accept-unique κs a r₁ r₂ s₁ s₂ p q = let e = p ∙ sym q in (ap (λ (w : Wrote). w .number) e, ap (λ (w : Wrote). w .bytes) e)
+
+pub write-observe-unique :
+    (κs : Lfts 2) (a : World.ArgsD observe.signature κs) (r₁ r₂ : World.ResD observe.signature κs)
+    (s₁ s₂ : Clauses.AtExit (Kinds'.endedOf 2 observe-kinds.ps observe-kinds.r) κs)
+    → observe-reads.Post κs a r₁ s₁ → observe-reads.Post κs a r₂ s₂ → (r₁ ≡ r₂) × (now (s₁ .0) ≡ now (s₂ .0))
+write-observe-unique κs a r₁ r₂ s₁ s₂ p q = let e = p ∙ sym q in (ap (λ (w : Wrote). w .number) e, ap (λ (w : Wrote). w .bytes) e)
 
 pub write-advance-unique :
     (κs : Lfts 1) (a : World.ArgsD advance.signature κs) (r₁ r₂ : World.ResD advance.signature κs)

@@ -2,7 +2,7 @@
 ghost use mathlib.Core.Path.{_≡_};
 ghost use Rattle.log_record.specs.Records.{wrote, writtenTo};
 ghost use Rattle.link_log.specs.Logs.{wrote as wroteTrailer, trailerTo};
-ghost use Rattle.host_log_write.specs.Told.{sentTold, acceptTold, advanceTold, idleTold};
+ghost use Rattle.host_log_write.specs.Told.{sentTold, acceptTold, observeTold, advanceTold, idleTold};
 use calls::Call;
 use calls::PendingPacket;
 use calls::Reply;
@@ -50,6 +50,16 @@ pub extern "C" fn ambrulicciu_log_write_accept(
     let held = record_parts::pending_by(pending != 0, time, tag);
     let reply = Reply { key, pending: held };
     log_record::write(bytes, Call::Accept(reply))
+}
+
+// The record of an `observe`, whose observation is lent as `ambrulicciu_observe` takes it. It is not held to the ranges of `observe`: the record
+// says what the call was told.
+#[no_mangle]
+pub extern "C" fn ambrulicciu_log_write_observe(bytes: &mut [u8], observation: &[u32; 24]) -> u8
+    ensures { λ r. ⌜ wrote r (now (bytes .exit)) ≡ writtenTo (now (bytes .entry)) (observeTold (now (observation .entry))) ⌝ }
+{
+    let told = host_observation::observation_of(observation);
+    log_record::write(bytes, Call::Observe(told))
 }
 
 // The record of the monitor's `advance`.

@@ -1,0 +1,41 @@
+-- The words of a call in the order in which the code stores them. Assumes nothing.
+use mathlib.Core.List.{List}
+use Prim.Native.Nat.{ℕ, _+_}
+use lib.ListN.{set}
+use mir.Syntax.{w32, w64}
+use mir.Val.{ofZ}
+use Rattle.host_numbers.specs.Numbers.{lower, upper}
+use Rattle.calls.specs.declared.ReplyObservation.{ReplyObservation}
+use Rattle.record_parts.specs.Parts.{observeFlags, timeWord, ordinalNumber, senderCount, receivedCount, transmittedCount}
+use Rattle.record_parts.specs.Parts.{followSequence, followTimestamp, followTime}
+use Rattle.host_log_read.specs.Words.{wires}
+
+-- a number of 8 bytes at a place
+abbrev pub longAt : List ℕ → ℕ → ℕ → List ℕ
+longAt ws at n = set (set ws at (lower n)) (at + 1) (upper n)
+
+-- the six numbers of 8 bytes of an observation
+abbrev pub timesAt : List ℕ → ReplyObservation → List ℕ
+timesAt ws o =
+    longAt
+    (longAt
+    (longAt
+    (longAt (longAt (longAt ws 2 (o .key .t3)) 4 (o .rtt)) 6 (timeWord (o .t4)))
+    8 (ofZ w64 (o .reference)))
+    10 (timeWord (followTime (o .follow))))
+    12 (followTimestamp (o .follow))
+
+-- the others
+abbrev pub countsAt : List ℕ → ReplyObservation → List ℕ
+countsAt ws o =
+    set
+    (set
+    (set
+    (set (set (set ws 14 (o .key .sender)) 15 (o .key .reflector)) 16 (ordinalNumber (o .ordinal)))
+    17 (senderCount (o .counters)))
+    18 (receivedCount (o .counters)))
+    19 (transmittedCount (o .counters))
+
+abbrev pub numbersAt : List ℕ → ReplyObservation → List ℕ
+numbersAt ws o =
+    set (set (set (set (countsAt ws o) 20 (followSequence (o .follow))) 21 (ofZ w32 (o .offset))) 22 (wires (o .quality))) 23 (observeFlags o)

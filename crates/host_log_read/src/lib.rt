@@ -1,0 +1,95 @@
+// What a host calls to read a log (document 01, 'Log and program'): whether the bytes are a log, its first bad record, and one record as a call.
+ghost use mathlib.Core.Path.{_≡_};
+ghost use Rattle.host_log_read.specs.Answers.{left, settingsWords, checkTo, firstBadTo, noCall, readTo};
+
+mod words_of;
+
+use link_log::Log;
+use link_log::Played;
+use link_log::Settings;
+
+// Document 01's answers to bytes that are no log.
+const TOO_LONG: u8 = 9;
+
+const BAD_TRAILER: u8 = 7;
+
+const BAD_RECORD: u8 = 8;
+
+fn settings_words(s: Settings) -> [u64; 4]
+    ensures { λ r. ⌜ r ≡ settingsWords s ⌝ }
+{
+    [
+        s.count as u64,
+        s.copies as u64,
+        s.threshold as u64,
+        s.timeout,
+    ]
+}
+
+// Whether the bytes are a log: 0, and its record count, copies, threshold and timeout; 9, 7 or 8.
+#[no_mangle]
+pub extern "C" fn ambrulicciu_log_check(log: &[u8], answer: &mut [u64; 4]) -> u8
+    ensures { λ r. ⌜ left r (now (answer .exit)) ≡ checkTo (now (log .entry)) (now (answer .entry)) ⌝ }
+{
+    let checked = link_log::check(log);
+    match checked {
+        Log::TooLong => TOO_LONG,
+        Log::BadTrailer => BAD_TRAILER,
+        Log::BadRecord(_) => BAD_RECORD,
+        Log::Good(settings) => {
+            let words = settings_words(settings);
+            *answer = words;
+            0
+        }
+    }
+}
+
+// The `N` of `refused 8 at N`: the first bad record, from 0, and the record count where none is bad. 9 and 7 as above.
+#[no_mangle]
+pub extern "C" fn ambrulicciu_log_first_bad(log: &[u8], answer: &mut [u64; 1]) -> u8
+    ensures { λ r. ⌜ left r (now (answer .exit)) ≡ firstBadTo (now (log .entry)) (now (answer .entry)) ⌝ }
+{
+    let checked = link_log::check(log);
+    match checked {
+        Log::TooLong => TOO_LONG,
+        Log::BadTrailer => BAD_TRAILER,
+        Log::BadRecord(first) => {
+            let words = [first as u64];
+            *answer = words;
+            0
+        }
+        Log::Good(settings) => {
+            let words = [settings.count as u64];
+            *answer = words;
+            0
+        }
+    }
+}
+
+// Why there is no call to read: the log's 9 or 7, and otherwise 8, since no good record stands there.
+fn no_call(checked: Log) -> u8
+    ensures { λ r. ⌜ r ≡ noCall checked ⌝ }
+{
+    match checked {
+        Log::TooLong => TOO_LONG,
+        Log::BadTrailer => BAD_TRAILER,
+        Log::BadRecord(_) => BAD_RECORD,
+        Log::Good(_) => BAD_RECORD,
+    }
+}
+
+// Record `at` of a log, from 0, in 26 words: its kind, a word 0, and what the call was told. The other records are not looked at.
+#[no_mangle]
+pub extern "C" fn ambrulicciu_log_read(log: &[u8], at: u32, call: &mut [u32; 26]) -> u8
+    ensures { λ r. ⌜ left r (now (call .exit)) ≡ readTo (now (log .entry)) at (now (call .entry)) ⌝ }
+{
+    let played = link_log::call_at(log, at);
+    match played {
+        Played::Call(told) => {
+            let words = words_of::call_words(told);
+            *call = words;
+            0
+        }
+        Played::Nothing => no_call(link_log::check(log)),
+    }
+}

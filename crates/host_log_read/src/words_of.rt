@@ -1,0 +1,146 @@
+// A call in the 26 words in which a host reads it: its kind, a word 0, then what it was told, numbers of 8 bytes first, each as two words, low half first.
+ghost use mathlib.Core.Path.{_≡_};
+ghost use Prim.Native.Nat.{_<_};
+ghost use mir.Syntax.{w32, w64};
+ghost use mir.Val.{ofZ};
+ghost use Rattle.host_log_read.specs.Words.{wires, sentWords, acceptWords, observeWords, advanceWords, idleWords, callWords};
+ghost use Rattle.host_log_read.specs.Stores.{longAt, timesAt, numbersAt};
+use calls::Call;
+use calls::Reply;
+use calls::ReplyObservation;
+use calls::SentProbe;
+use estimate::Estimates;
+
+fn put_long(words: &mut [u32; 26], at: usize, n: u64)
+    requires { ⌜ at < 25 ⌝ }
+    ensures { λ _. ⌜ now (words .exit) ≡ longAt (now (words .entry)) at n ⌝ }
+{
+    words[at] = host_numbers::low(n);
+    words[at + 1] = host_numbers::high(n);
+}
+
+fn sent_words(p: SentProbe) -> [u32; 26]
+    ensures { λ r. ⌜ r ≡ sentWords p ⌝ }
+{
+    let packet = p.packet;
+    let mut words = [0u32; 26];
+    put_long(&mut words, 2, packet.time);
+    put_long(&mut words, 4, packet.tag);
+    words[6] = p.sequence;
+    words[7] = p.ordinal;
+    words
+}
+
+fn accept_words(reply: Reply) -> [u32; 26]
+    ensures { λ r. ⌜ r ≡ acceptWords reply ⌝ }
+{
+    let key = reply.key;
+    let pending = reply.pending;
+    let mut words = [0u32; 26];
+    words[0] = 1;
+    put_long(&mut words, 2, key.t3);
+    put_long(&mut words, 4, record_parts::pending_time(pending));
+    put_long(&mut words, 6, record_parts::pending_tag(pending));
+    words[8] = key.sender;
+    words[9] = key.reflector;
+    words[10] = record_parts::pending_flag(pending) as u32;
+    words
+}
+
+fn reference_word(o: ReplyObservation) -> u64
+    ensures { λ r. ⌜ r ≡ ofZ w64 (o .reference) ⌝ }
+{
+    words::word64(o.reference)
+}
+
+fn offset_word(o: ReplyObservation) -> u32
+    ensures { λ r. ⌜ r ≡ ofZ w32 (o .offset) ⌝ }
+{
+    words::word32(o.offset)
+}
+
+// The sender's estimate in the low 16 bits, the reflector's in the high.
+fn both_wires(quality: Estimates) -> u32
+    ensures { λ r. ⌜ r ≡ wires quality ⌝ }
+{
+    let sender = record_parts::sender_wire(quality);
+    let reflector = record_parts::reflector_wire(quality);
+    (sender as u32) + 65536 * (reflector as u32)
+}
+
+fn put_times(words: &mut [u32; 26], o: ReplyObservation)
+    ensures { λ _. ⌜ now (words .exit) ≡ timesAt (now (words .entry)) o ⌝ }
+{
+    let key = o.key;
+    let t4 = o.t4;
+    let follow = o.follow;
+    let received = record_parts::time_word(t4);
+    let reference = reference_word(o);
+    let converted = record_parts::time_word(record_parts::follow_time(follow));
+    let timestamp = record_parts::follow_timestamp(follow);
+    put_long(words, 2, key.t3);
+    put_long(words, 4, o.rtt);
+    put_long(words, 6, received);
+    put_long(words, 8, reference);
+    put_long(words, 10, converted);
+    put_long(words, 12, timestamp);
+}
+
+fn put_numbers(words: &mut [u32; 26], o: ReplyObservation)
+    ensures { λ _. ⌜ now (words .exit) ≡ numbersAt (now (words .entry)) o ⌝ }
+{
+    let key = o.key;
+    let ordinal = o.ordinal;
+    let counters = o.counters;
+    let follow = o.follow;
+    let quality = o.quality;
+    words[14] = key.sender;
+    words[15] = key.reflector;
+    words[16] = record_parts::ordinal_number(ordinal);
+    words[17] = record_parts::sender_count(counters);
+    words[18] = record_parts::received_count(counters);
+    words[19] = record_parts::transmitted_count(counters);
+    words[20] = record_parts::follow_sequence(follow);
+    words[21] = offset_word(o);
+    words[22] = both_wires(quality);
+    words[23] = record_parts::observe_flags(o) as u32;
+}
+
+fn observe_words(o: ReplyObservation) -> [u32; 26]
+    ensures { λ r. ⌜ r ≡ observeWords o ⌝ }
+{
+    let mut words = [0u32; 26];
+    words[0] = 2;
+    put_times(&mut words, o);
+    put_numbers(&mut words, o);
+    words
+}
+
+fn advance_words(time: u64) -> [u32; 26]
+    ensures { λ r. ⌜ r ≡ advanceWords time ⌝ }
+{
+    let mut words = [0u32; 26];
+    words[0] = 3;
+    put_long(&mut words, 2, time);
+    words
+}
+
+fn idle_words() -> [u32; 26]
+    ensures { λ r. ⌜ r ≡ idleWords ⌝ }
+{
+    let mut words = [0u32; 26];
+    words[0] = 4;
+    words
+}
+
+pub fn call_words(call: Call) -> [u32; 26]
+    ensures { λ r. ⌜ r ≡ callWords call ⌝ }
+{
+    match call {
+        Call::Sent(p) => sent_words(p),
+        Call::Accept(reply) => accept_words(reply),
+        Call::Observe(o) => observe_words(o),
+        Call::Advance(time) => advance_words(time),
+        Call::Idle => idle_words(),
+    }
+}
