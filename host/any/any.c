@@ -4,7 +4,8 @@
  *     any ROUNDS SEED
  *
  * It stops where a call answers a number that ambrulicciu.h does not name at it, where a refused call changed a lent byte, or where a
- * served call changed memory that it only reads. Each room is an allocation of its own, so that a tool which watches memory sees a
+ * served call changed memory that it only reads. From 300 rounds on it also fails where a call was never served, or a refusal that the
+ * header names never came. Each room is an allocation of its own, so that a tool which watches memory sees a
  * byte touched outside. The proofs say all this; here the compiled library is tried, back end and header included.
  */
 #include "../ambrulicciu.h"
@@ -21,9 +22,11 @@ static uint64_t drawn(void) {
     return z ^ (z >> 31);
 }
 
-/* A number: any, small, or near the end of its width. */
+/* A number: any, small, near the end of its width, or at a bound of the header. */
 static uint64_t number(void) {
-    switch (drawn() % 4) {
+    static const uint64_t bounds[6] = {4095, 4096, 4097, 4294967295u, (uint64_t)1 << 62, (uint64_t)1 << 63};
+    switch (drawn() % 5) {
+    case 4: return bounds[drawn() % 6];
     case 0: return drawn();
     case 1: return drawn() % 5;
     case 2: return 0 - drawn() % 5;
@@ -71,6 +74,34 @@ static void ready(void) {
 
 static uint64_t served, refused;
 
+/* Which calls were made, and what they answered. */
+static struct {
+    const char *call, *may;
+    uint64_t answered[10];
+} seen[64];
+
+static void note(const char *call, uint8_t answer, const char *may) {
+    int i = 0;
+    while (seen[i].call && strcmp(seen[i].call, call) != 0)
+        i++;
+    seen[i].call = call;
+    seen[i].may = may;
+    seen[i].answered[answer]++;
+}
+
+/* How many answers that the header names never came. */
+static int unseen(void) {
+    int count = 0;
+    for (int i = 0; seen[i].call; i++) {
+        if (!seen[i].answered[0])
+            count++, fprintf(stderr, "any: %s was never served\n", seen[i].call);
+        for (const char *may = seen[i].may; *may; may++)
+            if (!seen[i].answered[*may - '0'])
+                count++, fprintf(stderr, "any: %s never answered %c\n", seen[i].call, *may);
+    }
+    return count;
+}
+
 /* After a call: `may` has the refusals that it may answer. */
 static void done(const char *call, uint8_t answer, const char *may) {
     if (answer > 9 || (answer && !strchr(may, '0' + answer))) {
@@ -86,6 +117,7 @@ static void done(const char *call, uint8_t answer, const char *may) {
         free(lent[i].before);
     }
     lent_count = 0;
+    note(call, answer, may);
     served += !answer;
     refused += answer != 0;
 }
@@ -155,6 +187,15 @@ static rooms lend_rooms(int written) {
     r.links = lend(r.link_rows * sizeof *r.links, !(written & LINKS));
     r.queue = lend(r.queue_rows * sizeof *r.queue, !(written & QUEUE));
     return r;
+}
+
+/* Now and then a monitor whose queue is full. */
+static void fill(ambrulicciu_monitor *m, rooms r) {
+    if (drawn() % 8 || r.queue_rows != AMBRULICCIU_ROWS)
+        return;
+    ambrulicciu_monitor_fresh(m, 1, 1);
+    for (uint32_t i = 0; i < AMBRULICCIU_ROWS; i++)
+        ambrulicciu_monitor_sent(m, r.queue, r.queue_rows, i, i);
 }
 
 /* ---- the ledger */
@@ -232,6 +273,7 @@ static void try_watched_sent(void) {
     ambrulicciu_ledger *l = ledger(0);
     ambrulicciu_monitor *m = monitor(0);
     rooms r = lend_rooms(PROBES | LINKS | QUEUE);
+    fill(m, r);
     ready();
     done("watched_sent", ambrulicciu_watched_sent(l, m, r.probes, r.probe_rows, r.links, r.link_rows, r.queue, r.queue_rows, (uint32_t)number(),
                                                   (uint32_t)number(), number(), number()), "5643");
@@ -254,6 +296,7 @@ static void try_monitor(void) {
     done("monitor_fresh", ambrulicciu_monitor_fresh(m, (uint16_t)number(), number()), "");
     m = monitor(0);
     rooms r = lend_rooms(QUEUE);
+    fill(m, r);
     ready();
     done("monitor_sent", ambrulicciu_monitor_sent(m, r.queue, r.queue_rows, (uint32_t)number(), number()), "5643");
     m = monitor(0);
@@ -452,6 +495,8 @@ int main(int argc, char **argv) {
     for (long round = 0; round < rounds; round++)
         for (size_t i = 0; i < sizeof tries / sizeof *tries; i++)
             tries[i]();
+    if (rounds >= 300 && unseen())
+        return 1;
     printf("any: %llu calls served and %llu refused on memory that holds anything: each refusal is one that the header names, and changed no byte\n",
            (unsigned long long)served, (unsigned long long)refused);
     return 0;
