@@ -63,7 +63,7 @@ extern "C" {
 #define AMBRULICCIU_QUEUE_FULL 3      /* scope::QUEUE_FULL: 4,096 probes await their reply at the monitor */
 /* Of bytes that are to be a log, in this order: */
 #define AMBRULICCIU_TOO_LONG 9    /* link_log::TOO_LONG: more than 65,536 bytes */
-#define AMBRULICCIU_BAD_TRAILER 7 /* no trailer of a log at the end */
+#define AMBRULICCIU_BAD_TRAILER 7 /* host_log_read::BAD_TRAILER: no trailer of a log at the end */
 #define AMBRULICCIU_BAD_RECORD 8  /* log_record::BAD_RECORD: a record that is none */
 
 /* ---- sizes -------------------------------------------------------------------------------------------------------------------------
@@ -419,7 +419,8 @@ uint8_t ambrulicciu_quantiles_percentiles(const ambrulicciu_quantiles *quantiles
  * A log is the list of calls on one link: a record of 96 bytes for each, then a trailer of 24 bytes. The program linkreport plays it from
  * fresh and prints the link's report. At most 682 records. */
 
-/* Each writes one record of AMBRULICCIU_RECORD bytes, with what the call of the same name was told. Refuses 5: another number of bytes. */
+/* Each writes one record of AMBRULICCIU_RECORD bytes, with what the call of the same name was told, be it served or refused. Refuses 5:
+ * another number of bytes. */
 uint8_t ambrulicciu_log_write_sent(uint8_t *bytes, size_t bytes_length, uint32_t sequence, uint32_t ordinal, uint64_t time,
                                    uint64_t tag);
 uint8_t ambrulicciu_log_write_accept(uint8_t *bytes, size_t bytes_length, uint32_t sender, uint32_t reflector, uint64_t t3,
@@ -445,6 +446,39 @@ uint8_t ambrulicciu_log_check(const uint8_t *log, size_t log_length, ambrulicciu
 
 /* The first bad record, from 0; the record count where none is bad. Changes only the answer. Refuses 9, 7. */
 uint8_t ambrulicciu_log_first_bad(const uint8_t *log, size_t log_length, uint64_t *answer);
+
+/* One record, as the call that it is. */
+#define AMBRULICCIU_KIND_SENT 0
+#define AMBRULICCIU_KIND_ACCEPT 1
+#define AMBRULICCIU_KIND_OBSERVE 2
+#define AMBRULICCIU_KIND_ADVANCE 3
+#define AMBRULICCIU_KIND_IDLE 4
+typedef struct {
+    uint64_t time;
+    uint64_t tag;
+    uint32_t sequence;
+    uint32_t ordinal;
+} ambrulicciu_told_sent;
+typedef struct {
+    uint64_t t3;
+    uint64_t time;
+    uint64_t tag;
+    uint32_t sender;
+    uint32_t reflector;
+    uint32_t pending; /* 1; or 0, and time and tag are 0 */
+    uint32_t unused;
+} ambrulicciu_told_accept;
+typedef struct {
+    uint32_t kind; /* AMBRULICCIU_KIND_SENT .. AMBRULICCIU_KIND_IDLE; the fields of other kinds are 0 */
+    uint32_t unused;
+    ambrulicciu_told_sent sent;
+    ambrulicciu_told_accept accept;
+    ambrulicciu_observation observation; /* as observe was told; fields that are not there are 0 */
+    uint64_t now;                        /* the time of an advance */
+} ambrulicciu_call;
+
+/* Record `at` of a log, from 0; the other records are not looked at. Changes only `call`. Refuses 9, 7; 8: no good record is there. */
+uint8_t ambrulicciu_log_read(const uint8_t *log, size_t log_length, uint32_t at, ambrulicciu_call *call);
 
 /* ---- the report --------------------------------------------------------------------------------------------------------------------
  * Ten lines of text, as linkreport prints them, at the start of a buffer of AMBRULICCIU_TEXT bytes; `length` says how many bytes were

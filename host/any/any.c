@@ -464,6 +464,10 @@ static void try_logs(void) {
     ready();
     done("log_check", ambrulicciu_log_check(log, size, settings), "978");
     log = log_of(&size);
+    ambrulicciu_call *call = lend(sizeof *call, 0);
+    ready();
+    done("log_read", ambrulicciu_log_read(log, size, (uint32_t)(drawn() % 8 ? drawn() % 6 : number()), call), "978");
+    log = log_of(&size);
     uint64_t *answer = lend(8, 0);
     ready();
     done("log_first_bad", ambrulicciu_log_first_bad(log, size, answer), "97");

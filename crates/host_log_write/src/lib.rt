@@ -54,6 +54,9 @@ pub extern "C" fn ambrulicciu_log_write_accept(
 
 // The record of an `observe`, whose observation is lent as `ambrulicciu_observe` takes it. It is not held to the ranges of `observe`: the record
 // says what the call was told.
+// Words of `observation`: 0 t3 (u64), 2 round_trip (u64), 4 t4 (i64), 6 reference (i64), 8 converted_t3 (i64), 10 follow_up_timestamp (u64),
+// 12 sender, 13 reflector, 14 ordinal, 15 s_txc, 16 r_rxc, 17 r_txc, 18 follow_up_sequence, 19 offset (i32),
+// 20 sender_estimate (u16), reflector_estimate (u16), 21 flags, 22 unused (2).
 #[no_mangle]
 pub extern "C" fn ambrulicciu_log_write_observe(bytes: &mut [u8], observation: &[u32; 24]) -> u8
     ensures { λ r. ⌜ wrote r (now (bytes .exit)) ≡ writtenTo (now (bytes .entry)) (observeTold (now (observation .entry))) ⌝ }

@@ -96,6 +96,7 @@ fn finish_deadline(answer: &mut [u64; 2], deadline: Deadline) -> u8
 }
 
 // The front probe's deadline, for a host that wants to know when to call `advance` next.
+// Words of `answer`: 0 known, 1 deadline.
 #[no_mangle]
 pub extern "C" fn ambrulicciu_monitor_deadline(
     monitor: &[u64; 12],
@@ -124,6 +125,7 @@ fn summary_words(summary: Summary) -> [u64; 6]
 }
 
 // What is shown of a monitor. It only reads, and refuses nothing.
+// Words of `shown`: 0 state, 1 threshold, 2 consecutive_losses, 3 active_notifications, 4 failed_notifications, 5 idle_notifications.
 #[no_mangle]
 pub extern "C" fn ambrulicciu_monitor_summary(monitor: &[u64; 12], shown: &mut [u64; 6]) -> u8
     ensures { λ r. ⌜ told r (now (shown .exit)) ≡ summaryTo (now (monitor .entry)) ⌝ }
