@@ -20,10 +20,10 @@ timesAt ws o =
     longAt
     (longAt
     (longAt
-    (longAt (longAt (longAt ws 2 (o .key .t3)) 4 (o .rtt)) 6 (timeWord (o .t4)))
-    8 (ofZ w64 (o .reference)))
-    10 (timeWord (followTime (o .follow))))
-    12 (followTimestamp (o .follow))
+    (longAt (longAt (longAt ws 18 (o .key .t3)) 20 (o .rtt)) 22 (timeWord (o .t4)))
+    24 (ofZ w64 (o .reference)))
+    26 (timeWord (followTime (o .follow))))
+    28 (followTimestamp (o .follow))
 
 -- the others
 abbrev pub countsAt : List ℕ → ReplyObservation → List ℕ
@@ -31,11 +31,11 @@ countsAt ws o =
     set
     (set
     (set
-    (set (set (set ws 14 (o .key .sender)) 15 (o .key .reflector)) 16 (ordinalNumber (o .ordinal)))
-    17 (senderCount (o .counters)))
-    18 (receivedCount (o .counters)))
-    19 (transmittedCount (o .counters))
+    (set (set (set ws 30 (o .key .sender)) 31 (o .key .reflector)) 32 (ordinalNumber (o .ordinal)))
+    33 (senderCount (o .counters)))
+    34 (receivedCount (o .counters)))
+    35 (transmittedCount (o .counters))
 
 abbrev pub numbersAt : List ℕ → ReplyObservation → List ℕ
 numbersAt ws o =
-    set (set (set (set (countsAt ws o) 20 (followSequence (o .follow))) 21 (ofZ w32 (o .offset))) 22 (wires (o .quality))) 23 (observeFlags o)
+    set (set (set (set (countsAt ws o) 36 (followSequence (o .follow))) 37 (ofZ w32 (o .offset))) 38 (wires (o .quality))) 39 (observeFlags o)

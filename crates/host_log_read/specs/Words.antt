@@ -1,6 +1,6 @@
--- A call in the 26 words in which a host reads it: its kind, a word 0, then 24 words by the kind, those that it does not use 0. A C struct names
--- them: numbers of 8 bytes first, each as two words, low half first. Assumes nothing.
-use mathlib.Core.List.{List, [], _∷_}
+-- A call in the 44 words in which a host reads it: 0 its kind, 2 to 7 a sent, 8 to 16 an accept, 18 to 41 an observation, 42 and 43 the time of an
+-- advance; those of the other kinds are 0. A C struct names them; a number of 8 bytes is two words, low half first. Assumes nothing.
+use mathlib.Core.List.{List, [], _∷_, _++_}
 use Prim.Native.Nat.{ℕ, _+_, _*_}
 use lib.ListN.{replicate}
 use mir.Syntax.{w32, w64}
@@ -25,14 +25,14 @@ wires q = senderWire q + 65536 * reflectorWire q
 
 -- kind 0: time, tag, sequence, ordinal
 abbrev pub sentWords : SentProbe → List ℕ
-sentWords p = 0 ∷ 0 ∷ long (p .packet .time) (long (p .packet .tag) (p .sequence ∷ p .ordinal ∷ replicate 18 0))
+sentWords p = 0 ∷ 0 ∷ long (p .packet .time) (long (p .packet .tag) (p .sequence ∷ p .ordinal ∷ replicate 36 0))
 
 -- kind 1: T3, and the pending packet's time and tag; sender, reflector, and 1 where a packet is pending
 abbrev pub acceptWords : Reply → List ℕ
 acceptWords r =
-    1 ∷ 0
-    ∷ long (r .key .t3) (long (pendingTime (r .pending)) (long (pendingTag (r .pending))
-    (r .key .sender ∷ r .key .reflector ∷ pendingFlag (r .pending) ∷ replicate 15 0)))
+    1 ∷ replicate 7 0
+    ++ long (r .key .t3) (long (pendingTime (r .pending)) (long (pendingTag (r .pending))
+    (r .key .sender ∷ r .key .reflector ∷ pendingFlag (r .pending) ∷ replicate 27 0)))
 
 -- an observation, as a host lends it to `observe`: what is absent is 0, and the flags are those of the log's record
 abbrev pub observationWords : ReplyObservation → List ℕ
@@ -45,14 +45,14 @@ observationWords o =
 
 -- kind 2
 abbrev pub observeWords : ReplyObservation → List ℕ
-observeWords o = 2 ∷ 0 ∷ observationWords o
+observeWords o = 2 ∷ replicate 17 0 ++ observationWords o ++ 0 ∷ 0 ∷ []
 
 -- kind 3: now. Kind 4: nothing.
 abbrev pub advanceWords : ℕ → List ℕ
-advanceWords n = 3 ∷ 0 ∷ long n (replicate 22 0)
+advanceWords n = 3 ∷ replicate 41 0 ++ long n []
 
 abbrev pub idleWords : List ℕ
-idleWords = 4 ∷ replicate 25 0
+idleWords = 4 ∷ replicate 43 0
 
 unfoldable pub callWords : Call → List ℕ
 callWords (call.Sent p) = sentWords p

@@ -26,7 +26,8 @@ fn settings_words(s: Settings) -> [u64; 4]
     ]
 }
 
-// Whether the bytes are a log: 0, and its record count, copies, threshold and timeout; 9, 7 or 8.
+// Whether the bytes are a log: 0 and its settings; 9, 7 or 8.
+// Words of `answer`: 0 count, 1 copies, 2 threshold, 3 timeout.
 #[no_mangle]
 pub extern "C" fn ambrulicciu_log_check(log: &[u8], answer: &mut [u64; 4]) -> u8
     ensures { λ r. ⌜ left r (now (answer .exit)) ≡ checkTo (now (log .entry)) (now (answer .entry)) ⌝ }
@@ -78,9 +79,17 @@ fn no_call(checked: Log) -> u8
     }
 }
 
-// Record `at` of a log, from 0, in 26 words: its kind, a word 0, and what the call was told. The other records are not looked at.
+// Record `at` of a log, from 0: its kind, and what the call was told. Each kind has words of its own, so that no field has two meanings, and the
+// words of the other kinds are 0. 9 and 7 as above; 8 where no good record stands there. The other records are not looked at.
+// Words of `call`: 0 kind, 1 unused, 2 sent.time (u64), 4 sent.tag (u64), 6 sent.sequence, 7 sent.ordinal,
+// 8 accept.t3 (u64), 10 accept.time (u64), 12 accept.tag (u64), 14 accept.sender, 15 accept.reflector, 16 accept.pending, 17 accept.unused,
+// 18 observation.t3 (u64), 20 observation.round_trip (u64), 22 observation.t4 (i64), 24 observation.reference (i64),
+// 26 observation.converted_t3 (i64), 28 observation.follow_up_timestamp (u64), 30 observation.sender, 31 observation.reflector,
+// 32 observation.ordinal, 33 observation.s_txc, 34 observation.r_rxc, 35 observation.r_txc, 36 observation.follow_up_sequence,
+// 37 observation.offset (i32), 38 observation.sender_estimate (u16), observation.reflector_estimate (u16), 39 observation.flags,
+// 40 observation.unused (2), 42 now (u64).
 #[no_mangle]
-pub extern "C" fn ambrulicciu_log_read(log: &[u8], at: u32, call: &mut [u32; 26]) -> u8
+pub extern "C" fn ambrulicciu_log_read(log: &[u8], at: u32, call: &mut [u32; 44]) -> u8
     ensures { λ r. ⌜ left r (now (call .exit)) ≡ readTo (now (log .entry)) at (now (call .entry)) ⌝ }
 {
     let played = link_log::call_at(log, at);

@@ -1,4 +1,4 @@
-// A call in the 26 words in which a host reads it: its kind, a word 0, then what it was told, numbers of 8 bytes first, each as two words, low half first.
+// A call in the 44 words in which a host reads it: its kind, and what it was told, each kind in words of its own; the other words are 0.
 ghost use mathlib.Core.Path.{_≡_};
 ghost use Prim.Native.Nat.{_<_};
 ghost use mir.Syntax.{w32, w64};
@@ -11,19 +11,19 @@ use calls::ReplyObservation;
 use calls::SentProbe;
 use estimate::Estimates;
 
-fn put_long(words: &mut [u32; 26], at: usize, n: u64)
-    requires { ⌜ at < 25 ⌝ }
+fn put_long(words: &mut [u32; 44], at: usize, n: u64)
+    requires { ⌜ at < 43 ⌝ }
     ensures { λ _. ⌜ now (words .exit) ≡ longAt (now (words .entry)) at n ⌝ }
 {
     words[at] = host_numbers::low(n);
     words[at + 1] = host_numbers::high(n);
 }
 
-fn sent_words(p: SentProbe) -> [u32; 26]
+fn sent_words(p: SentProbe) -> [u32; 44]
     ensures { λ r. ⌜ r ≡ sentWords p ⌝ }
 {
     let packet = p.packet;
-    let mut words = [0u32; 26];
+    let mut words = [0u32; 44];
     put_long(&mut words, 2, packet.time);
     put_long(&mut words, 4, packet.tag);
     words[6] = p.sequence;
@@ -31,19 +31,19 @@ fn sent_words(p: SentProbe) -> [u32; 26]
     words
 }
 
-fn accept_words(reply: Reply) -> [u32; 26]
+fn accept_words(reply: Reply) -> [u32; 44]
     ensures { λ r. ⌜ r ≡ acceptWords reply ⌝ }
 {
     let key = reply.key;
     let pending = reply.pending;
-    let mut words = [0u32; 26];
+    let mut words = [0u32; 44];
     words[0] = 1;
-    put_long(&mut words, 2, key.t3);
-    put_long(&mut words, 4, record_parts::pending_time(pending));
-    put_long(&mut words, 6, record_parts::pending_tag(pending));
-    words[8] = key.sender;
-    words[9] = key.reflector;
-    words[10] = record_parts::pending_flag(pending) as u32;
+    put_long(&mut words, 8, key.t3);
+    put_long(&mut words, 10, record_parts::pending_time(pending));
+    put_long(&mut words, 12, record_parts::pending_tag(pending));
+    words[14] = key.sender;
+    words[15] = key.reflector;
+    words[16] = record_parts::pending_flag(pending) as u32;
     words
 }
 
@@ -68,7 +68,7 @@ fn both_wires(quality: Estimates) -> u32
     (sender as u32) + 65536 * (reflector as u32)
 }
 
-fn put_times(words: &mut [u32; 26], o: ReplyObservation)
+fn put_times(words: &mut [u32; 44], o: ReplyObservation)
     ensures { λ _. ⌜ now (words .exit) ≡ timesAt (now (words .entry)) o ⌝ }
 {
     let key = o.key;
@@ -78,15 +78,15 @@ fn put_times(words: &mut [u32; 26], o: ReplyObservation)
     let reference = reference_word(o);
     let converted = record_parts::time_word(record_parts::follow_time(follow));
     let timestamp = record_parts::follow_timestamp(follow);
-    put_long(words, 2, key.t3);
-    put_long(words, 4, o.rtt);
-    put_long(words, 6, received);
-    put_long(words, 8, reference);
-    put_long(words, 10, converted);
-    put_long(words, 12, timestamp);
+    put_long(words, 18, key.t3);
+    put_long(words, 20, o.rtt);
+    put_long(words, 22, received);
+    put_long(words, 24, reference);
+    put_long(words, 26, converted);
+    put_long(words, 28, timestamp);
 }
 
-fn put_numbers(words: &mut [u32; 26], o: ReplyObservation)
+fn put_numbers(words: &mut [u32; 44], o: ReplyObservation)
     ensures { λ _. ⌜ now (words .exit) ≡ numbersAt (now (words .entry)) o ⌝ }
 {
     let key = o.key;
@@ -94,46 +94,46 @@ fn put_numbers(words: &mut [u32; 26], o: ReplyObservation)
     let counters = o.counters;
     let follow = o.follow;
     let quality = o.quality;
-    words[14] = key.sender;
-    words[15] = key.reflector;
-    words[16] = record_parts::ordinal_number(ordinal);
-    words[17] = record_parts::sender_count(counters);
-    words[18] = record_parts::received_count(counters);
-    words[19] = record_parts::transmitted_count(counters);
-    words[20] = record_parts::follow_sequence(follow);
-    words[21] = offset_word(o);
-    words[22] = both_wires(quality);
-    words[23] = record_parts::observe_flags(o) as u32;
+    words[30] = key.sender;
+    words[31] = key.reflector;
+    words[32] = record_parts::ordinal_number(ordinal);
+    words[33] = record_parts::sender_count(counters);
+    words[34] = record_parts::received_count(counters);
+    words[35] = record_parts::transmitted_count(counters);
+    words[36] = record_parts::follow_sequence(follow);
+    words[37] = offset_word(o);
+    words[38] = both_wires(quality);
+    words[39] = record_parts::observe_flags(o) as u32;
 }
 
-fn observe_words(o: ReplyObservation) -> [u32; 26]
+fn observe_words(o: ReplyObservation) -> [u32; 44]
     ensures { λ r. ⌜ r ≡ observeWords o ⌝ }
 {
-    let mut words = [0u32; 26];
+    let mut words = [0u32; 44];
     words[0] = 2;
     put_times(&mut words, o);
     put_numbers(&mut words, o);
     words
 }
 
-fn advance_words(time: u64) -> [u32; 26]
+fn advance_words(time: u64) -> [u32; 44]
     ensures { λ r. ⌜ r ≡ advanceWords time ⌝ }
 {
-    let mut words = [0u32; 26];
+    let mut words = [0u32; 44];
     words[0] = 3;
-    put_long(&mut words, 2, time);
+    put_long(&mut words, 42, time);
     words
 }
 
-fn idle_words() -> [u32; 26]
+fn idle_words() -> [u32; 44]
     ensures { λ r. ⌜ r ≡ idleWords ⌝ }
 {
-    let mut words = [0u32; 26];
+    let mut words = [0u32; 44];
     words[0] = 4;
     words
 }
 
-pub fn call_words(call: Call) -> [u32; 26]
+pub fn call_words(call: Call) -> [u32; 44]
     ensures { λ r. ⌜ r ≡ callWords call ⌝ }
 {
     match call {
