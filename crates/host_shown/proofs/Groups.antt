@@ -1,0 +1,96 @@
+-- The groups of a snapshot's words, placed one after another, are placed as one; together they are the whole room. Assumes nothing.
+use mathlib.Core.Path.{_≡_, refl, sym, ap, _∙_}
+use mathlib.Core.List.{List, [], _∷_, _++_}
+use Prim.Native.Nat.{ℕ, _+_}
+use native.Mathlib.Omega.{arith}
+use lib.ListN.{length, length-append}
+use Rattle.calls.specs.declared.Counters.{Counters}
+use Rattle.calls.specs.declared.Counters.the-variants as counters
+use Rattle.clock_quality.specs.declared.LastEstimate.{LastEstimate}
+use Rattle.clock_quality.specs.declared.LastEstimate.the-variants as last
+use Rattle.clock_quality.specs.declared.ClockQuality.{ClockQuality}
+use Rattle.direct.specs.declared.summary.DirectSummary.{DirectSummary}
+use Rattle.ledger_state.specs.declared.snapshot.FollowUpSummary.{FollowUpSummary}
+use Rattle.ledger_state.specs.declared.snapshot.Snapshot.{Snapshot}
+use Rattle.host_shown.specs.Words.{pointWords, repliesWords, lossWords, delayWords, directCountWords, spanWords, directWords}
+use Rattle.host_shown.specs.Words.{followCountWords, estimateWords, qualityCountWords, largestWords, qualityWords, followWords, shownWords}
+use Rattle.host_shown.proofs.Laws.{placed, placed-next, placed-all}
+
+point-length : (c : Counters) → length (pointWords c) ≡ 4
+unfolding pointWords
+point-length counters.Absent = refl
+point-length (counters.Point p) = refl
+
+estimate-length : (e : LastEstimate) → length (estimateWords e) ≡ 7
+unfolding estimateWords
+estimate-length last.Absent = refl
+estimate-length (last.Seen e) = refl
+
+-- ---- direct loss
+
+pub direct-as : (d : DirectSummary) (room : List ℕ)
+    → placed 38 (spanWords (d .spans)) (placed 34 (pointWords (d .latest)) (placed 30 (pointWords (d .anchor)) (placed 25 (directCountWords (d .counts)) room)))
+    ≡ placed 25 (directWords d) room
+unfolding directWords
+direct-as d room =
+    placed-next 34 4 (pointWords (d .latest)) (spanWords (d .spans)) (placed 30 (pointWords (d .anchor)) (placed 25 (directCountWords (d .counts)) room)) (point-length (d .latest))
+    ∙ placed-next 30 4 (pointWords (d .anchor)) (pointWords (d .latest) ++ spanWords (d .spans)) (placed 25 (directCountWords (d .counts)) room) (point-length (d .anchor))
+    ∙ placed-next 25 5 (directCountWords (d .counts)) (pointWords (d .anchor) ++ (pointWords (d .latest) ++ spanWords (d .spans))) room refl
+
+direct-length : (d : DirectSummary) → length (directWords d) ≡ 25
+unfolding directWords
+direct-length d = simp length-append (omega (arith, point-length (d .anchor), point-length (d .latest)))
+
+-- ---- clock quality
+
+pub quality-as : (at : ℕ) (q : ClockQuality) (room : List ℕ)
+    → placed (at + 19) (largestWords (q .largest)) (placed (at + 12) (estimateWords (q .reflector)) (placed (at + 5) (estimateWords (q .sender)) (placed at (qualityCountWords q) room)))
+    ≡ placed at (qualityWords q) room
+unfolding qualityWords
+quality-as at q room =
+    ap (λ (n : ℕ). placed n (largestWords (q .largest)) (placed (at + 12) (estimateWords (q .reflector)) (placed (at + 5) (estimateWords (q .sender)) (placed at (qualityCountWords q) room)))) (later at)
+    ∙ placed-next (at + 12) 7 (estimateWords (q .reflector)) (largestWords (q .largest)) (placed (at + 5) (estimateWords (q .sender)) (placed at (qualityCountWords q) room)) (estimate-length (q .reflector))
+    ∙ ap (λ (n : ℕ). placed n (estimateWords (q .reflector) ++ largestWords (q .largest)) (placed (at + 5) (estimateWords (q .sender)) (placed at (qualityCountWords q) room))) (sooner at)
+    ∙ placed-next (at + 5) 7 (estimateWords (q .sender)) (estimateWords (q .reflector) ++ largestWords (q .largest)) (placed at (qualityCountWords q) room) (estimate-length (q .sender))
+    ∙ placed-next at 5 (qualityCountWords q) (estimateWords (q .sender) ++ (estimateWords (q .reflector) ++ largestWords (q .largest))) room refl
+  where
+    later : (n : ℕ) → n + 19 ≡ n + 12 + 7
+    later n = omega arith
+
+    sooner : (n : ℕ) → n + 12 ≡ n + 5 + 7
+    sooner n = omega arith
+
+quality-length : (q : ClockQuality) → length (qualityWords q) ≡ 21
+unfolding qualityWords
+quality-length q = simp length-append (omega (arith, estimate-length (q .sender), estimate-length (q .reflector)))
+
+-- ---- follow-ups
+
+pub follow-as : (f : FollowUpSummary) (room : List ℕ)
+    → placed 63 (qualityWords (f .quality)) (placed 56 (delayWords (f .delay)) (placed 50 (followCountWords (f .counts)) room))
+    ≡ placed 50 (followWords f) room
+unfolding followWords
+follow-as f room =
+    placed-next 56 7 (delayWords (f .delay)) (qualityWords (f .quality)) (placed 50 (followCountWords (f .counts)) room) refl
+    ∙ placed-next 50 6 (followCountWords (f .counts)) (delayWords (f .delay) ++ qualityWords (f .quality)) room refl
+
+follow-length : (f : FollowUpSummary) → length (followWords f) ≡ 34
+unfolding followWords
+follow-length f = simp length-append (omega (arith, quality-length (f .quality)))
+
+-- ---- the whole
+
+shown-length : (s : Snapshot) → length (shownWords s) ≡ 84
+unfolding shownWords
+shown-length s = simp length-append (omega (arith, direct-length (s .direct), follow-length (s .follow)))
+
+pub shown-as : (s : Snapshot) (room : List ℕ) → length room ≡ 84
+    → placed 50 (followWords (s .follow)) (placed 25 (directWords (s .direct)) (placed 18 (delayWords (s .rtt)) (placed 16 (lossWords s) (placed 0 (repliesWords (s .replies)) room))))
+    ≡ shownWords s
+unfolding shownWords
+shown-as s room e =
+    placed-next 25 25 (directWords (s .direct)) (followWords (s .follow)) (placed 18 (delayWords (s .rtt)) (placed 16 (lossWords s) (placed 0 (repliesWords (s .replies)) room))) (direct-length (s .direct))
+    ∙ placed-next 18 7 (delayWords (s .rtt)) (directWords (s .direct) ++ followWords (s .follow)) (placed 16 (lossWords s) (placed 0 (repliesWords (s .replies)) room)) refl
+    ∙ placed-next 16 2 (lossWords s) (delayWords (s .rtt) ++ (directWords (s .direct) ++ followWords (s .follow))) (placed 0 (repliesWords (s .replies)) room) refl
+    ∙ placed-next 0 16 (repliesWords (s .replies)) (lossWords s ++ (delayWords (s .rtt) ++ (directWords (s .direct) ++ followWords (s .follow)))) room refl
+    ∙ placed-all (shownWords s) room (shown-length s ∙ sym e)

@@ -1,0 +1,134 @@
+-- A snapshot as the 84 words that a host is shown. A flag is 0 or 1; a value that is absent is a flag 0 and zeros; an f64 is its bits
+-- (`toBits` is the logic's own). Assumes nothing.
+use mathlib.Core.Bool.{Bool}
+use mathlib.Core.List.{List, [], _∷_, _++_}
+use Prim.Native.Nat.{ℕ}
+use lib.Ieee.{binary64, toBits}
+use Rattle.host_numbers.specs.Numbers.{flagWord}
+use Rattle.host_quality.specs.Words.{errorBits, largestWord, largestBits}
+use Rattle.estimate.specs.declared.ErrorMs.{ErrorMs}
+use Rattle.estimate.specs.declared.ErrorMs.the-variants as error
+use Rattle.estimate.specs.Make.{isPtp}
+use Rattle.calls.specs.declared.Counters.{Counters}
+use Rattle.calls.specs.declared.Counters.the-variants as counters
+use Rattle.delays.specs.declared.Milliseconds.{Milliseconds}
+use Rattle.delays.specs.declared.Milliseconds.the-variants as milliseconds
+use Rattle.delays.specs.declared.DelaySummary.{DelaySummary}
+use Rattle.clock_quality.specs.declared.LastEstimate.{LastEstimate}
+use Rattle.clock_quality.specs.declared.LastEstimate.the-variants as last
+use Rattle.clock_quality.specs.declared.LargestError.{LargestError}
+use Rattle.clock_quality.specs.declared.ClockQuality.{ClockQuality}
+use Rattle.replies.specs.declared.Reflector.{Reflector}
+use Rattle.replies.specs.declared.Reflector.the-variants as reflector
+use Rattle.replies.specs.declared.Replies.{Replies}
+use Rattle.direct.specs.declared.Counts.{Counts}
+use Rattle.direct.specs.declared.summary.Packets.{Packets}
+use Rattle.direct.specs.declared.summary.Packets.the-variants as packets
+use Rattle.direct.specs.declared.summary.Spans.{Spans}
+use Rattle.direct.specs.declared.summary.DirectSummary.{DirectSummary}
+use Rattle.follow_ups.specs.declared.FollowCounts.{FollowCounts}
+use Rattle.ledger_state.specs.declared.snapshot.FollowUpSummary.{FollowUpSummary}
+use Rattle.ledger_state.specs.declared.snapshot.Snapshot.{Snapshot}
+
+-- ---- values that may be absent: whether they are known, and the value
+
+abbrev pub reflectorKnown : Reflector → ℕ
+reflectorKnown reflector.Absent = 0
+reflectorKnown (reflector.Number n) = 1
+
+abbrev pub reflectorNumber : Reflector → ℕ
+reflectorNumber reflector.Absent = 0
+reflectorNumber (reflector.Number n) = n
+
+abbrev pub packetsKnown : Packets → ℕ
+packetsKnown packets.Absent = 0
+packetsKnown (packets.Number n) = 1
+
+abbrev pub packetsNumber : Packets → ℕ
+packetsNumber packets.Absent = 0
+packetsNumber (packets.Number n) = n
+
+abbrev pub msKnown : Milliseconds → ℕ
+msKnown milliseconds.Absent = 0
+msKnown (milliseconds.Known x) = 1
+
+abbrev pub msBits : Milliseconds → ℕ
+msBits milliseconds.Absent = 0
+msBits (milliseconds.Known x) = toBits binary64 x
+
+abbrev pub errorKnown : ErrorMs → ℕ
+errorKnown error.Invalid = 0
+errorKnown (error.Known x) = 1
+
+-- S_TxC, R_RxC, R_TxC
+unfoldable pub pointWords : Counters → List ℕ
+pointWords counters.Absent = 0 ∷ 0 ∷ 0 ∷ 0 ∷ []
+pointWords (counters.Point p) = 1 ∷ p .sender .0 ∷ p .received .0 ∷ p .transmitted .0 ∷ []
+
+-- synchronized, PTP, scale, multiplier, and the error in ms where it is known
+unfoldable pub estimateWords : LastEstimate → List ℕ
+estimateWords last.Absent = 0 ∷ 0 ∷ 0 ∷ 0 ∷ 0 ∷ 0 ∷ 0 ∷ []
+estimateWords (last.Seen e) =
+    1 ∷ flagWord (e .synchronized) ∷ flagWord (isPtp (e .format)) ∷ e .scale ∷ e .multiplier ∷ errorKnown (e .error) ∷ errorBits (e .error) ∷ []
+
+-- ---- words 0 to 15
+
+abbrev pub repliesWords : Replies → List ℕ
+repliesWords r =
+    r .totals .requested ∷ r .totals .unique ∷ r .totals .duplicate ∷ r .totals .unknown
+    ∷ r .answers .answered ∷ r .answers .additional ∷ r .answers .late ∷ r .answers .satisfied
+    ∷ reflectorKnown (r .numbers .last) ∷ reflectorNumber (r .numbers .last)
+    ∷ reflectorKnown (r .numbers .highest) ∷ reflectorNumber (r .numbers .highest)
+    ∷ r .numbers .reordered ∷ r .numbers .independent ∷ r .evicted .probes ∷ r .evicted .replies ∷ []
+
+-- ---- words 16 and 17
+
+abbrev pub lossWords : Snapshot → List ℕ
+lossWords s = s .unobserved ∷ s .thousandths ∷ []
+
+-- ---- words 18 to 24, and 56 to 62
+
+abbrev pub delayWords : DelaySummary → List ℕ
+delayWords d =
+    d .samples ∷ msKnown (d .min) ∷ msBits (d .min) ∷ msKnown (d .average) ∷ msBits (d .average) ∷ msKnown (d .max) ∷ msBits (d .max) ∷ []
+
+-- ---- words 25 to 49
+
+abbrev pub directCountWords : Counts → List ℕ
+directCountWords c = c .observations ∷ c .unavailable ∷ c .discontinuities ∷ c .reordered ∷ flagWord (c .exceeded) ∷ []
+
+abbrev pub spanWords : Spans → List ℕ
+spanWords s =
+    packetsKnown (s .sent) ∷ packetsNumber (s .sent) ∷ packetsKnown (s .received) ∷ packetsNumber (s .received)
+    ∷ packetsKnown (s .forward) ∷ packetsNumber (s .forward) ∷ packetsKnown (s .transmitted) ∷ packetsNumber (s .transmitted)
+    ∷ packetsKnown (s .replies) ∷ packetsNumber (s .replies) ∷ packetsKnown (s .reverse) ∷ packetsNumber (s .reverse) ∷ []
+
+unfoldable pub directWords : DirectSummary → List ℕ
+directWords d = directCountWords (d .counts) ++ (pointWords (d .anchor) ++ (pointWords (d .latest) ++ spanWords (d .spans)))
+
+-- ---- words 50 to 55
+
+abbrev pub followCountWords : FollowCounts → List ℕ
+followCountWords c = c .observations ∷ c .matched ∷ c .repeated ∷ c .unmatched ∷ c .ambiguous ∷ c .unavailable ∷ []
+
+-- ---- words 63 to 83
+
+abbrev pub qualityCountWords : ClockQuality → List ℕ
+qualityCountWords q = q .samples ∷ q .both ∷ q .unsynchronized ∷ q .invalid ∷ q .unknown ∷ []
+
+abbrev pub largestWords : LargestError → List ℕ
+largestWords x = largestWord x ∷ largestBits x ∷ []
+
+unfoldable pub qualityWords : ClockQuality → List ℕ
+qualityWords q = qualityCountWords q ++ (estimateWords (q .sender) ++ (estimateWords (q .reflector) ++ largestWords (q .largest)))
+
+-- ---- words 50 to 83
+
+unfoldable pub followWords : FollowUpSummary → List ℕ
+followWords f = followCountWords (f .counts) ++ (delayWords (f .delay) ++ qualityWords (f .quality))
+
+-- ---- the whole
+
+unfoldable pub shownWords : Snapshot → List ℕ
+shownWords s =
+    repliesWords (s .replies) ++ (lossWords s ++ (delayWords (s .rtt) ++ (directWords (s .direct) ++ followWords (s .follow))))

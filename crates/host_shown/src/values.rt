@@ -1,0 +1,93 @@
+// Values that may be absent: whether they are known, and the value, 0 where they are not.
+ghost use mathlib.Core.Path.{_≡_};
+ghost use Rattle.estimate.specs.Make.{isPtp};
+ghost use Rattle.host_quality.specs.Words.{errorBits};
+ghost use Rattle.host_shown.specs.Words.{reflectorKnown, reflectorNumber, packetsKnown, packetsNumber, msKnown, msBits};
+ghost use Rattle.host_shown.specs.Words.{errorKnown};
+use delays::Milliseconds;
+use direct::summary::Packets;
+use estimate::ClockFormat;
+use estimate::ErrorMs;
+use host_numbers::bits_of;
+use replies::Reflector;
+
+pub fn reflector_known(reflector: Reflector) -> u64
+    ensures { λ r. ⌜ r ≡ reflectorKnown reflector ⌝ }
+{
+    match reflector {
+        Reflector::Absent => 0,
+        Reflector::Number(_) => 1,
+    }
+}
+
+pub fn reflector_number(reflector: Reflector) -> u64
+    ensures { λ r. ⌜ r ≡ reflectorNumber reflector ⌝ }
+{
+    match reflector {
+        Reflector::Absent => 0,
+        Reflector::Number(n) => n as u64,
+    }
+}
+
+pub fn packets_known(packets: Packets) -> u64
+    ensures { λ r. ⌜ r ≡ packetsKnown packets ⌝ }
+{
+    match packets {
+        Packets::Absent => 0,
+        Packets::Number(_) => 1,
+    }
+}
+
+pub fn packets_number(packets: Packets) -> u64
+    ensures { λ r. ⌜ r ≡ packetsNumber packets ⌝ }
+{
+    match packets {
+        Packets::Absent => 0,
+        Packets::Number(n) => n,
+    }
+}
+
+pub fn ms_known(ms: Milliseconds) -> u64
+    ensures { λ r. ⌜ r ≡ msKnown ms ⌝ }
+{
+    match ms {
+        Milliseconds::Absent => 0,
+        Milliseconds::Known(_) => 1,
+    }
+}
+
+pub fn ms_bits(ms: Milliseconds) -> u64
+    ensures { λ r. ⌜ r ≡ msBits ms ⌝ }
+{
+    match ms {
+        Milliseconds::Absent => 0,
+        Milliseconds::Known(x) => bits_of(x),
+    }
+}
+
+pub fn error_known(error: ErrorMs) -> u64
+    ensures { λ r. ⌜ r ≡ errorKnown error ⌝ }
+{
+    match error {
+        ErrorMs::Invalid => 0,
+        ErrorMs::Known(_) => 1,
+    }
+}
+
+pub fn error_bits(error: ErrorMs) -> u64
+    ensures { λ r. ⌜ r ≡ errorBits error ⌝ }
+{
+    match error {
+        ErrorMs::Invalid => 0,
+        ErrorMs::Known(x) => bits_of(x),
+    }
+}
+
+pub fn is_ptp(format: ClockFormat) -> bool
+    ensures { λ r. ⌜ r ≡ isPtp format ⌝ }
+{
+    match format {
+        ClockFormat::NTP => false,
+        ClockFormat::PTP => true,
+    }
+}
