@@ -3,8 +3,8 @@
  *
  * It keeps the books of one link: which probes were sent, which replies came, were duplicates or unknown, what is still missing, the
  * round trips, the direct and follow-up measurements, whether the link is active or failed. The host sends and receives packets, reads
- * its clock, and makes a call for each event. Link with libambrulicciu.a, which `host/library` makes; it needs nothing else, not even a
- * C library. It is for little-endian machines of 64 bits (x86-64, aarch64).
+ * its clock, and makes a call for each event. Link with libambrulicciu.a, which `host/library` makes; of other code it needs memcpy,
+ * memmove, memset and memcmp at most. It is for little-endian machines of 64 bits (x86-64, aarch64).
  *
  * WHAT IS PROMISED
  *   Each call is proved to end, to touch no memory but what it is lent, and to do what is said here, whatever the numbers are and

@@ -473,6 +473,35 @@ static void try_logs(void) {
     done("log_first_bad", ambrulicciu_log_first_bad(log, size, answer), "97");
 }
 
+/* A record of any call, read and written again: the same bytes. */
+static void try_again(void) {
+    uint8_t log[AMBRULICCIU_RECORD + AMBRULICCIU_TRAILER], again[AMBRULICCIU_RECORD];
+    uint32_t kind = (uint32_t)(drawn() % 5);
+    ambrulicciu_observation o;
+    ambrulicciu_call c;
+    put((unsigned char *)&o, sizeof o, (int)(drawn() % 2));
+    put(log, sizeof log, 0);
+    uint8_t wrote = kind == AMBRULICCIU_KIND_SENT      ? ambrulicciu_log_write_sent(log, AMBRULICCIU_RECORD, (uint32_t)number(), (uint32_t)number(), number(), number())
+                    : kind == AMBRULICCIU_KIND_ACCEPT  ? ambrulicciu_log_write_accept(log, AMBRULICCIU_RECORD, (uint32_t)number(), (uint32_t)number(), number(),
+                                                                                      (uint32_t)drawn() % 2, number(), number())
+                    : kind == AMBRULICCIU_KIND_OBSERVE ? ambrulicciu_log_write_observe(log, AMBRULICCIU_RECORD, &o)
+                    : kind == AMBRULICCIU_KIND_ADVANCE ? ambrulicciu_log_write_advance(log, AMBRULICCIU_RECORD, number())
+                                                       : ambrulicciu_log_write_idle(log, AMBRULICCIU_RECORD);
+    wrote += ambrulicciu_log_write_trailer(log + AMBRULICCIU_RECORD, AMBRULICCIU_TRAILER, 1, 1, 1, 1);
+    wrote += ambrulicciu_log_read(log, sizeof log, 0, &c);
+    wrote += c.kind == AMBRULICCIU_KIND_SENT
+                 ? ambrulicciu_log_write_sent(again, sizeof again, c.sent.sequence, c.sent.ordinal, c.sent.time, c.sent.tag)
+             : c.kind == AMBRULICCIU_KIND_ACCEPT
+                 ? ambrulicciu_log_write_accept(again, sizeof again, c.accept.sender, c.accept.reflector, c.accept.t3, c.accept.pending, c.accept.time, c.accept.tag)
+             : c.kind == AMBRULICCIU_KIND_OBSERVE ? ambrulicciu_log_write_observe(again, sizeof again, &c.observation)
+             : c.kind == AMBRULICCIU_KIND_ADVANCE ? ambrulicciu_log_write_advance(again, sizeof again, c.now)
+                                                  : ambrulicciu_log_write_idle(again, sizeof again);
+    if (wrote || c.kind != kind || memcmp(log, again, sizeof again) != 0) {
+        fprintf(stderr, "any: a record of kind %u is not read as it was written\n", (unsigned)kind);
+        exit(1);
+    }
+}
+
 static void try_reports(void) {
     size_t size, room = drawn() % 4 ? AMBRULICCIU_TEXT : drawn() % 2000;
     uint8_t *log = log_of(&size);
@@ -493,7 +522,7 @@ static void try_reports(void) {
 
 int main(int argc, char **argv) {
     static void (*const tries[])(void) = {try_fresh, try_sent, try_accept, try_lookup, try_observe, try_answered, try_reads, try_watched_sent,
-                                          try_watched_accept, try_monitor, try_estimates, try_quality, try_quantiles, try_writers, try_logs, try_reports};
+                                          try_watched_accept, try_monitor, try_estimates, try_quality, try_quantiles, try_writers, try_logs, try_again, try_reports};
     long rounds = argc > 1 ? atol(argv[1]) : 500;
     seed = argc > 2 ? strtoull(argv[2], NULL, 10) : 1;
     for (long round = 0; round < rounds; round++)
