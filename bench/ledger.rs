@@ -104,8 +104,8 @@ impl Ours {
         self.answer[0] == 2
     }
 
-    // The lookup, the conversion of what it shows, and the observe: what the host does for a reply with a follow-up.
-    fn observe(&mut self, told: &mut [u64; 12]) {
+    // The lookup and the conversion of what it shows: what the host does before it hands over a reply with a follow-up.
+    fn look(&mut self, told: &mut [u64; 12]) {
         let (own, follow) = ((told[0] >> 32) as u32, told[8] as u32);
         let number = unsafe {
             timed_lookup(
@@ -127,6 +127,9 @@ impl Ours {
             let converted = Ledger::converted(told[9], self.answer[1] == 1, self.answer[2] as i64, 0);
             told[10] = converted.expect("a time") as u64;
         }
+    }
+
+    fn hand_over(&mut self, told: &[u64; 12]) {
         let number = unsafe {
             timed_observe(
                 &mut self.state,
@@ -142,6 +145,14 @@ impl Ours {
             )
         };
         assert_eq!(number, 0);
+    }
+}
+
+// What a host does for a reply, on either side: the original converts inside its own call.
+impl Ours {
+    fn observe(&mut self, told: &mut [u64; 12]) {
+        self.look(told);
+        self.hand_over(told);
     }
 }
 
@@ -246,6 +257,45 @@ pub fn rows(table: &mut Table) {
                 turn!(original, stream, black_box(j));
             },
         );
+        same(&ours, &original);
+    }
+    alone(table);
+}
+
+// Each call of a row of three alone, between stamps.
+fn alone(table: &mut Table) {
+    let (mut ours, mut original) = (Ours::new(), Timed::new(1));
+    for i in 1..=5000u64 {
+        turn!(ours, Stream::Three, i);
+        turn!(original, Stream::Three, i);
+    }
+    let (mut i, mut j) = (5000u64, 5000u64);
+    table.stamped(
+        "`observe` alone, with counters and follow-up",
+        10_000,
+        |watch| {
+            i += 1;
+            let n = i as u32;
+            ours.sent(n, n, i);
+            assert!(ours.accept(n, n, i));
+            let mut what = told(n, i);
+            ours.look(black_box(&mut what));
+            watch.around(|| ours.hand_over(black_box(&what)));
+        },
+        |watch| {
+            j += 1;
+            let n = j as u32;
+            original.sent(n, n, j);
+            assert!(original.accept(n, n, j));
+            let what = told(n, j);
+            watch.around(|| original.observe(black_box(&what)));
+        },
+    );
+    same(&ours, &original);
+}
+
+fn same(ours: &Ours, original: &Timed) {
+    {
         let s = original.snapshot();
         let counts = [s.requested_replies, s.unique_replies, s.duplicate_replies, s.probes_evicted, s.replies_evicted, s.follow_up.matched];
         let shown = [11, 12, 13, 23, 24, 45].map(|word| ours.state[word]);

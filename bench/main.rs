@@ -3,6 +3,7 @@
 
 mod ledger;
 mod quantiles;
+mod stopwatch;
 mod table;
 
 // The original's own modules, under the names that its texts use: compare/ has put them there.

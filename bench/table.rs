@@ -1,4 +1,5 @@
 // Times two calls in turns, and keeps the least of each: what the machine did besides is not the call's.
+use crate::stopwatch::Stopwatch;
 use std::time::Instant;
 
 pub struct Table {
@@ -34,6 +35,25 @@ impl Table {
             b = b.min(once(times, &mut original));
         }
         self.rows.push((name.to_string(), a / each as f64, b / each as f64));
+    }
+
+    // The same for a call that stands among others: each turn of `times` goes by the stopwatch that runs around the one call. What an empty
+    // pair of stamps takes is taken off on both sides.
+    pub fn stamped(&mut self, name: &str, times: usize, mut ours: impl FnMut(&mut Stopwatch), mut original: impl FnMut(&mut Stopwatch)) {
+        let (mut a, mut b, mut empty) = (f64::MAX, f64::MAX, f64::MAX);
+        let turn = |call: &mut dyn FnMut(&mut Stopwatch)| {
+            let mut watch = Stopwatch::new();
+            for _ in 0..times {
+                call(&mut watch);
+            }
+            watch.nanoseconds() / times as f64
+        };
+        for _ in 0..TURNS {
+            a = a.min(turn(&mut ours));
+            b = b.min(turn(&mut original));
+            empty = empty.min(turn(&mut |watch| watch.around(|| {})));
+        }
+        self.rows.push((name.to_string(), a - empty, b - empty));
     }
 
     pub fn print(&self) {

@@ -19,6 +19,8 @@ pub struct Part {
     pub name: &'static str,
     /// The Rattle program, a crate of the repository.
     pub program: &'static str,
+    /// What plays the part in this process, where it needs no program: given a script's words, it writes the answers' words.
+    pub here: Option<fn(&[u8]) -> Vec<u8>>,
     pub call_words: usize,
     pub answer_words: usize,
     pub lines: &'static [&'static str],

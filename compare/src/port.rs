@@ -52,6 +52,9 @@ pub fn play(part: &Part, scripts: &[Script], cover: &mut Cover) -> Played {
 
 /// What the port's program writes. `start` runs a program by its name.
 pub fn port(start: &str, part: &Part, given: &[u8]) -> Vec<u8> {
+    if let Some(here) = part.here {
+        return here(given);
+    }
     let mut child = Command::new(start)
         .arg(part.program)
         .stdin(Stdio::piped())

@@ -8,12 +8,14 @@ mod quantiles;
 
 use crate::part::Part;
 
-pub const ALL: [Part; 5] = [
+pub const ALL: &[Part] = &[
     numbers::PART,
     delays::PART,
     monitor::PART,
     quantiles::PART,
     ledger::PART,
+    #[cfg(feature = "host")]
+    ledger::hosted::HOSTED,
 ];
 
 /// Document 01: a count at this or beyond is refused.

@@ -20,6 +20,7 @@ const LOAD: u64 = 3;
 pub const PART: Part = Part {
     name: "delays",
     program: "play_delays",
+    here: None,
     call_words: 8,
     answer_words: 16,
     lines: &LINES,

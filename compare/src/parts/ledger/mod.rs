@@ -1,4 +1,6 @@
 //! The ledger (`Measurements` of measurements.rs), with its monitor.
+#[cfg(feature = "host")]
+pub mod hosted;
 mod reached;
 mod scripts;
 mod shown;
@@ -13,7 +15,7 @@ use crate::{
     sender::measurements::{Follow, Ledger, Told},
 };
 use reached::{reached_by_step, LINES};
-use shown::WORDS;
+use shown::{flagged, WORDS};
 
 /// Copies, 0 or 1 for a monitor, its threshold, its timeout, four words of the port's hash.
 pub const FRESH: u64 = 0;
@@ -66,6 +68,7 @@ pub const MOST_CALLS: u64 = 4_294_967_295;
 pub const PART: Part = Part {
     name: "ledger",
     program: "play_ledger",
+    here: None,
     call_words: 16,
     answer_words: 120,
     lines: &LINES,
@@ -324,7 +327,7 @@ impl Booked {
             class: 2,
             time,
             tag,
-            ordinal: shown::flagged(ordinal),
+            ordinal: flagged(ordinal),
             ..Reply::default()
         };
         self.shown(reply, call)

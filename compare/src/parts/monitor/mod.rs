@@ -28,6 +28,7 @@ const DIGEST: usize = 7;
 pub const PART: Part = Part {
     name: "monitor",
     program: "play_monitor",
+    here: None,
     call_words: 8,
     answer_words: 16,
     lines: &LINES,

@@ -28,6 +28,7 @@ const LOAD_QUALITY: u64 = 6;
 pub const PART: Part = Part {
     name: "numbers",
     program: "play_numbers",
+    here: None,
     call_words: 8,
     answer_words: 16,
     lines: &LINES,

@@ -28,6 +28,7 @@ const DIGEST: usize = 7;
 pub const PART: Part = Part {
     name: "quantiles",
     program: "play_quantiles",
+    here: None,
     call_words: 8,
     answer_words: 8,
     lines: &LINES,

@@ -1,0 +1,592 @@
+//! The calls of `ambrulicciu.h`, one by one: the only module that calls foreign code. Each function hands on what it is lent and returns
+//! the call's number: 0 served, else document 01's refusal.
+//!
+//! Why each is safe: a reference is memory of its type's size, a slice of its length, and mutable ones do not overlap. That is all that the
+//! library asks of its caller; every content is allowed, and it keeps nothing after the call.
+#![allow(clippy::too_many_arguments)]
+
+use crate::shown::{Figures, Quality};
+
+/// Flags of an [`Observation`]: which of its fields are there.
+pub const T4: u32 = 1;
+pub const ORDINAL: u32 = 2;
+pub const COUNTERS: u32 = 4;
+pub const FOLLOW_UP: u32 = 8;
+pub const CONVERTED_T3: u32 = 16;
+pub const ESTIMATES: u32 = 32;
+pub const PTP: u32 = 64;
+pub const UNKNOWN_MODE: u32 = 128;
+
+/// What one observe is told, field by field as the library reads it.
+#[repr(C)]
+#[derive(Clone, Copy, Debug, Default, PartialEq, Eq)]
+pub struct Observation {
+    pub t3: u64,
+    pub round_trip: u64,
+    pub t4: i64,
+    pub reference: i64,
+    pub converted_t3: i64,
+    pub follow_up_timestamp: u64,
+    pub sender: u32,
+    pub reflector: u32,
+    pub ordinal: u32,
+    pub s_txc: u32,
+    pub r_rxc: u32,
+    pub r_txc: u32,
+    pub follow_up_sequence: u32,
+    pub offset: i32,
+    pub sender_estimate: u16,
+    pub reflector_estimate: u16,
+    pub flags: u32,
+    pub unused: [u32; 2],
+}
+
+const _: () = assert!(std::mem::size_of::<Observation>() == 24 * 4);
+
+/// A probe in the monitor's queue; mark 0: its sequence is not marked.
+#[repr(C)]
+#[derive(Clone, Copy, Debug, Default, PartialEq, Eq)]
+pub struct Queued {
+    pub sequence: u32,
+    pub deadline: u64,
+    pub mark: u32,
+}
+
+const _: () = assert!(std::mem::size_of::<Queued>() == 24);
+
+extern "C" {
+    fn ambrulicciu_ledger_fresh(ledger: &mut [u64; 72], copies: u16, secret: &[u32; 8]) -> u8;
+    fn ambrulicciu_sent(
+        ledger: &mut [u64; 72],
+        probes: *mut [u64; 4],
+        probes_length: usize,
+        links: *mut [u16; 8],
+        links_length: usize,
+        sequence: u32,
+        ordinal: u32,
+        time: u64,
+        tag: u64,
+    ) -> u8;
+    fn ambrulicciu_accept(
+        ledger: &mut [u64; 72],
+        keys: *mut [u64; 2],
+        keys_length: usize,
+        slots: *mut [u64; 3],
+        slots_length: usize,
+        probes: *mut [u64; 4],
+        probes_length: usize,
+        links: *mut [u16; 8],
+        links_length: usize,
+        sender: u32,
+        reflector: u32,
+        t3: u64,
+        pending: u32,
+        time: u64,
+        tag: u64,
+        answer: &mut [u64; 5],
+    ) -> u8;
+    fn ambrulicciu_lookup(
+        ledger: &[u64; 72],
+        keys: *const [u64; 2],
+        keys_length: usize,
+        slots: *const [u64; 3],
+        slots_length: usize,
+        links: *const [u16; 8],
+        links_length: usize,
+        own: u32,
+        sequence: u32,
+        timestamp: u64,
+        unknown: u32,
+        answer: &mut [u64; 3],
+    ) -> u8;
+    fn ambrulicciu_observe(
+        ledger: &mut [u64; 72],
+        keys: *const [u64; 2],
+        keys_length: usize,
+        slots: *mut [u64; 3],
+        slots_length: usize,
+        offsets: *mut u32,
+        offsets_length: usize,
+        links: *mut [u16; 8],
+        links_length: usize,
+        observation: &Observation,
+    ) -> u8;
+    fn ambrulicciu_answered(
+        ledger: &[u64; 72],
+        probes: *const [u64; 4],
+        probes_length: usize,
+        links: *const [u16; 8],
+        links_length: usize,
+        sequence: u32,
+        answer: &mut [u64; 1],
+    ) -> u8;
+    fn ambrulicciu_needs_burst_wait(ledger: &[u64; 72], answer: &mut [u64; 1]) -> u8;
+    fn ambrulicciu_snapshot(ledger: &[u64; 72], shown: &mut Figures) -> u8;
+    fn ambrulicciu_watched_sent(
+        ledger: &mut [u64; 72],
+        monitor: &mut [u64; 12],
+        probes: *mut [u64; 4],
+        probes_length: usize,
+        links: *mut [u16; 8],
+        links_length: usize,
+        queue: *mut Queued,
+        queue_length: usize,
+        sequence: u32,
+        ordinal: u32,
+        time: u64,
+        tag: u64,
+    ) -> u8;
+    fn ambrulicciu_watched_accept(
+        ledger: &mut [u64; 72],
+        monitor: &mut [u64; 12],
+        keys: *mut [u64; 2],
+        keys_length: usize,
+        slots: *mut [u64; 3],
+        slots_length: usize,
+        probes: *mut [u64; 4],
+        probes_length: usize,
+        links: *mut [u16; 8],
+        links_length: usize,
+        queue: *mut Queued,
+        queue_length: usize,
+        sender: u32,
+        reflector: u32,
+        t3: u64,
+        pending: u32,
+        time: u64,
+        tag: u64,
+        answer: &mut [u64; 5],
+    ) -> u8;
+    fn ambrulicciu_monitor_fresh(monitor: &mut [u64; 12], threshold: u16, timeout: u64) -> u8;
+    fn ambrulicciu_monitor_sent(monitor: &mut [u64; 12], queue: *mut Queued, queue_length: usize, sequence: u32, time: u64) -> u8;
+    fn ambrulicciu_monitor_reply(monitor: &mut [u64; 12], queue: *mut Queued, queue_length: usize, sequence: u32) -> u8;
+    fn ambrulicciu_monitor_advance(monitor: &mut [u64; 12], queue: *mut Queued, queue_length: usize, time: u64) -> u8;
+    fn ambrulicciu_monitor_idle(monitor: &mut [u64; 12]) -> u8;
+    fn ambrulicciu_monitor_deadline(monitor: &[u64; 12], queue: *const Queued, queue_length: usize, answer: &mut [u64; 2]) -> u8;
+    fn ambrulicciu_monitor_summary(monitor: &[u64; 12], shown: &mut [u64; 6]) -> u8;
+    fn ambrulicciu_estimate_new(synchronized: u32, ptp: u32, scale: u8, multiplier: u8, wire: &mut [u16; 1]) -> u8;
+    fn ambrulicciu_estimate_unsynchronized(ptp: u32, wire: &mut [u16; 1]) -> u8;
+    fn ambrulicciu_estimate_parts(wire: u16, parts: &mut [u64; 4]) -> u8;
+    fn ambrulicciu_estimate_seconds(wire: u16, seconds: &mut [f64; 1]) -> u8;
+    fn ambrulicciu_estimate_error(wire: u16, known: &mut [u64; 1], milliseconds: &mut [f64; 1]) -> u8;
+    fn ambrulicciu_clock_quality_fresh(quality: &mut [u64; 12]) -> u8;
+    fn ambrulicciu_clock_quality_record(quality: &mut [u64; 12], estimated: u32, sender: u16, reflector: u16) -> u8;
+    fn ambrulicciu_clock_quality_summary(quality: &[u64; 12], shown: &mut Quality) -> u8;
+    fn ambrulicciu_quantiles_fresh(quantiles: &mut [u64; 4], signed: u32) -> u8;
+    fn ambrulicciu_quantiles_record(
+        quantiles: &mut [u64; 4],
+        room: *mut u64,
+        room_length: usize,
+        value: u64,
+        recorded: &mut [u64; 1],
+    ) -> u8;
+    fn ambrulicciu_quantiles_percentiles(
+        quantiles: &[u64; 4],
+        room: *const u64,
+        room_length: usize,
+        percents: *const f64,
+        percents_length: usize,
+        shown: *mut u64,
+        shown_length: usize,
+        present: &mut [u64; 1],
+    ) -> u8;
+    fn ambrulicciu_log_write_sent(record: *mut u8, record_length: usize, sequence: u32, ordinal: u32, time: u64, tag: u64) -> u8;
+    fn ambrulicciu_log_write_accept(
+        record: *mut u8,
+        record_length: usize,
+        sender: u32,
+        reflector: u32,
+        t3: u64,
+        pending: u32,
+        time: u64,
+        tag: u64,
+    ) -> u8;
+    fn ambrulicciu_log_write_observe(record: *mut u8, record_length: usize, observation: &Observation) -> u8;
+    fn ambrulicciu_log_write_advance(record: *mut u8, record_length: usize, now: u64) -> u8;
+    fn ambrulicciu_log_write_idle(record: *mut u8, record_length: usize) -> u8;
+    fn ambrulicciu_log_write_trailer(trailer: *mut u8, trailer_length: usize, count: u32, copies: u16, threshold: u16, timeout: u64) -> u8;
+    fn ambrulicciu_log_check(log: *const u8, log_length: usize, answer: &mut [u64; 4]) -> u8;
+    fn ambrulicciu_log_first_bad(log: *const u8, log_length: usize, answer: &mut [u64; 1]) -> u8;
+    fn ambrulicciu_report_log(
+        log: *const u8,
+        log_length: usize,
+        secret: &[u32; 8],
+        keys: *mut [u64; 2],
+        keys_length: usize,
+        slots: *mut [u64; 3],
+        slots_length: usize,
+        probes: *mut [u64; 4],
+        probes_length: usize,
+        offsets: *mut u32,
+        offsets_length: usize,
+        links: *mut [u16; 8],
+        links_length: usize,
+        text: *mut u8,
+        text_length: usize,
+        length: &mut [u64; 1],
+    ) -> u8;
+    fn ambrulicciu_report_link(
+        ledger: &[u64; 72],
+        monitor: &[u64; 12],
+        watched: u32,
+        records: u64,
+        turned_away: u64,
+        text: *mut u8,
+        text_length: usize,
+        length: &mut [u64; 1],
+    ) -> u8;
+}
+
+/// Makes a ledger fresh; its rooms may hold anything.
+pub fn ledger_fresh(ledger: &mut [u64; 72], copies: u16, secret: &[u32; 8]) -> u8 {
+    unsafe { ambrulicciu_ledger_fresh(ledger, copies, secret) }
+}
+
+pub fn sent(
+    ledger: &mut [u64; 72],
+    probes: &mut [[u64; 4]],
+    links: &mut [[u16; 8]],
+    sequence: u32,
+    ordinal: u32,
+    time: u64,
+    tag: u64,
+) -> u8 {
+    unsafe { ambrulicciu_sent(ledger, probes.as_mut_ptr(), probes.len(), links.as_mut_ptr(), links.len(), sequence, ordinal, time, tag) }
+}
+
+/// Answer: class (0 unknown, 1 duplicate, 2 unique), time, tag, 1 if there is an ordinal, ordinal.
+pub fn accept(
+    ledger: &mut [u64; 72],
+    keys: &mut [[u64; 2]],
+    slots: &mut [[u64; 3]],
+    probes: &mut [[u64; 4]],
+    links: &mut [[u16; 8]],
+    sender: u32,
+    reflector: u32,
+    t3: u64,
+    pending: u32,
+    time: u64,
+    tag: u64,
+    answer: &mut [u64; 5],
+) -> u8 {
+    unsafe {
+        ambrulicciu_accept(
+            ledger,
+            keys.as_mut_ptr(),
+            keys.len(),
+            slots.as_mut_ptr(),
+            slots.len(),
+            probes.as_mut_ptr(),
+            probes.len(),
+            links.as_mut_ptr(),
+            links.len(),
+            sender,
+            reflector,
+            t3,
+            pending,
+            time,
+            tag,
+            answer,
+        )
+    }
+}
+
+/// Answer: 1 if a slot is shown, 1 if it is PTP, its reference (two's complement).
+pub fn lookup(
+    ledger: &[u64; 72],
+    keys: &[[u64; 2]],
+    slots: &[[u64; 3]],
+    links: &[[u16; 8]],
+    own: u32,
+    sequence: u32,
+    timestamp: u64,
+    unknown: u32,
+    answer: &mut [u64; 3],
+) -> u8 {
+    unsafe {
+        ambrulicciu_lookup(
+            ledger,
+            keys.as_ptr(),
+            keys.len(),
+            slots.as_ptr(),
+            slots.len(),
+            links.as_ptr(),
+            links.len(),
+            own,
+            sequence,
+            timestamp,
+            unknown,
+            answer,
+        )
+    }
+}
+
+pub fn observe(
+    ledger: &mut [u64; 72],
+    keys: &[[u64; 2]],
+    slots: &mut [[u64; 3]],
+    offsets: &mut [u32],
+    links: &mut [[u16; 8]],
+    observation: &Observation,
+) -> u8 {
+    unsafe {
+        ambrulicciu_observe(
+            ledger,
+            keys.as_ptr(),
+            keys.len(),
+            slots.as_mut_ptr(),
+            slots.len(),
+            offsets.as_mut_ptr(),
+            offsets.len(),
+            links.as_mut_ptr(),
+            links.len(),
+            observation,
+        )
+    }
+}
+
+pub fn answered(ledger: &[u64; 72], probes: &[[u64; 4]], links: &[[u16; 8]], sequence: u32, answer: &mut [u64; 1]) -> u8 {
+    unsafe { ambrulicciu_answered(ledger, probes.as_ptr(), probes.len(), links.as_ptr(), links.len(), sequence, answer) }
+}
+
+pub fn needs_burst_wait(ledger: &[u64; 72], answer: &mut [u64; 1]) -> u8 {
+    unsafe { ambrulicciu_needs_burst_wait(ledger, answer) }
+}
+
+pub fn snapshot(ledger: &[u64; 72], shown: &mut Figures) -> u8 {
+    unsafe { ambrulicciu_snapshot(ledger, shown) }
+}
+
+pub fn watched_sent(
+    ledger: &mut [u64; 72],
+    monitor: &mut [u64; 12],
+    probes: &mut [[u64; 4]],
+    links: &mut [[u16; 8]],
+    queue: &mut [Queued],
+    sequence: u32,
+    ordinal: u32,
+    time: u64,
+    tag: u64,
+) -> u8 {
+    unsafe {
+        ambrulicciu_watched_sent(
+            ledger,
+            monitor,
+            probes.as_mut_ptr(),
+            probes.len(),
+            links.as_mut_ptr(),
+            links.len(),
+            queue.as_mut_ptr(),
+            queue.len(),
+            sequence,
+            ordinal,
+            time,
+            tag,
+        )
+    }
+}
+
+pub fn watched_accept(
+    ledger: &mut [u64; 72],
+    monitor: &mut [u64; 12],
+    keys: &mut [[u64; 2]],
+    slots: &mut [[u64; 3]],
+    probes: &mut [[u64; 4]],
+    links: &mut [[u16; 8]],
+    queue: &mut [Queued],
+    sender: u32,
+    reflector: u32,
+    t3: u64,
+    pending: u32,
+    time: u64,
+    tag: u64,
+    answer: &mut [u64; 5],
+) -> u8 {
+    unsafe {
+        ambrulicciu_watched_accept(
+            ledger,
+            monitor,
+            keys.as_mut_ptr(),
+            keys.len(),
+            slots.as_mut_ptr(),
+            slots.len(),
+            probes.as_mut_ptr(),
+            probes.len(),
+            links.as_mut_ptr(),
+            links.len(),
+            queue.as_mut_ptr(),
+            queue.len(),
+            sender,
+            reflector,
+            t3,
+            pending,
+            time,
+            tag,
+            answer,
+        )
+    }
+}
+
+pub fn monitor_fresh(monitor: &mut [u64; 12], threshold: u16, timeout: u64) -> u8 {
+    unsafe { ambrulicciu_monitor_fresh(monitor, threshold, timeout) }
+}
+
+pub fn monitor_sent(monitor: &mut [u64; 12], queue: &mut [Queued], sequence: u32, time: u64) -> u8 {
+    unsafe { ambrulicciu_monitor_sent(monitor, queue.as_mut_ptr(), queue.len(), sequence, time) }
+}
+
+pub fn monitor_reply(monitor: &mut [u64; 12], queue: &mut [Queued], sequence: u32) -> u8 {
+    unsafe { ambrulicciu_monitor_reply(monitor, queue.as_mut_ptr(), queue.len(), sequence) }
+}
+
+pub fn monitor_advance(monitor: &mut [u64; 12], queue: &mut [Queued], time: u64) -> u8 {
+    unsafe { ambrulicciu_monitor_advance(monitor, queue.as_mut_ptr(), queue.len(), time) }
+}
+
+pub fn monitor_idle(monitor: &mut [u64; 12]) -> u8 {
+    unsafe { ambrulicciu_monitor_idle(monitor) }
+}
+
+/// Answer: 1 if there is one, the deadline.
+pub fn monitor_deadline(monitor: &[u64; 12], queue: &[Queued], answer: &mut [u64; 2]) -> u8 {
+    unsafe { ambrulicciu_monitor_deadline(monitor, queue.as_ptr(), queue.len(), answer) }
+}
+
+/// Shown: state (0 idle, 1 active, 2 failed), threshold, losses in a row, and how often it became active, failed, idle.
+pub fn monitor_summary(monitor: &[u64; 12], shown: &mut [u64; 6]) -> u8 {
+    unsafe { ambrulicciu_monitor_summary(monitor, shown) }
+}
+
+pub fn estimate_new(synchronized: u32, ptp: u32, scale: u8, multiplier: u8, wire: &mut [u16; 1]) -> u8 {
+    unsafe { ambrulicciu_estimate_new(synchronized, ptp, scale, multiplier, wire) }
+}
+
+pub fn estimate_unsynchronized(ptp: u32, wire: &mut [u16; 1]) -> u8 {
+    unsafe { ambrulicciu_estimate_unsynchronized(ptp, wire) }
+}
+
+/// Parts: synchronized, PTP, scale, multiplier.
+pub fn estimate_parts(wire: u16, parts: &mut [u64; 4]) -> u8 {
+    unsafe { ambrulicciu_estimate_parts(wire, parts) }
+}
+
+pub fn estimate_seconds(wire: u16, seconds: &mut [f64; 1]) -> u8 {
+    unsafe { ambrulicciu_estimate_seconds(wire, seconds) }
+}
+
+pub fn estimate_error(wire: u16, known: &mut [u64; 1], milliseconds: &mut [f64; 1]) -> u8 {
+    unsafe { ambrulicciu_estimate_error(wire, known, milliseconds) }
+}
+
+pub fn clock_quality_fresh(quality: &mut [u64; 12]) -> u8 {
+    unsafe { ambrulicciu_clock_quality_fresh(quality) }
+}
+
+pub fn clock_quality_record(quality: &mut [u64; 12], estimated: u32, sender: u16, reflector: u16) -> u8 {
+    unsafe { ambrulicciu_clock_quality_record(quality, estimated, sender, reflector) }
+}
+
+pub fn clock_quality_summary(quality: &[u64; 12], shown: &mut Quality) -> u8 {
+    unsafe { ambrulicciu_clock_quality_summary(quality, shown) }
+}
+
+pub fn quantiles_fresh(quantiles: &mut [u64; 4], signed: u32) -> u8 {
+    unsafe { ambrulicciu_quantiles_fresh(quantiles, signed) }
+}
+
+pub fn quantiles_record(quantiles: &mut [u64; 4], room: &mut [u64], value: u64, recorded: &mut [u64; 1]) -> u8 {
+    unsafe { ambrulicciu_quantiles_record(quantiles, room.as_mut_ptr(), room.len(), value, recorded) }
+}
+
+pub fn quantiles_percentiles(quantiles: &[u64; 4], room: &[u64], percents: &[f64], shown: &mut [u64], present: &mut [u64; 1]) -> u8 {
+    unsafe {
+        ambrulicciu_quantiles_percentiles(
+            quantiles,
+            room.as_ptr(),
+            room.len(),
+            percents.as_ptr(),
+            percents.len(),
+            shown.as_mut_ptr(),
+            shown.len(),
+            present,
+        )
+    }
+}
+
+pub fn log_write_sent(record: &mut [u8], sequence: u32, ordinal: u32, time: u64, tag: u64) -> u8 {
+    unsafe { ambrulicciu_log_write_sent(record.as_mut_ptr(), record.len(), sequence, ordinal, time, tag) }
+}
+
+pub fn log_write_accept(record: &mut [u8], sender: u32, reflector: u32, t3: u64, pending: u32, time: u64, tag: u64) -> u8 {
+    unsafe { ambrulicciu_log_write_accept(record.as_mut_ptr(), record.len(), sender, reflector, t3, pending, time, tag) }
+}
+
+pub fn log_write_observe(record: &mut [u8], observation: &Observation) -> u8 {
+    unsafe { ambrulicciu_log_write_observe(record.as_mut_ptr(), record.len(), observation) }
+}
+
+pub fn log_write_advance(record: &mut [u8], now: u64) -> u8 {
+    unsafe { ambrulicciu_log_write_advance(record.as_mut_ptr(), record.len(), now) }
+}
+
+pub fn log_write_idle(record: &mut [u8]) -> u8 {
+    unsafe { ambrulicciu_log_write_idle(record.as_mut_ptr(), record.len()) }
+}
+
+pub fn log_write_trailer(trailer: &mut [u8], count: u32, copies: u16, threshold: u16, timeout: u64) -> u8 {
+    unsafe { ambrulicciu_log_write_trailer(trailer.as_mut_ptr(), trailer.len(), count, copies, threshold, timeout) }
+}
+
+/// Answer: count, copies, threshold, timeout.
+pub fn log_check(log: &[u8], answer: &mut [u64; 4]) -> u8 {
+    unsafe { ambrulicciu_log_check(log.as_ptr(), log.len(), answer) }
+}
+
+pub fn log_first_bad(log: &[u8], answer: &mut [u64; 1]) -> u8 {
+    unsafe { ambrulicciu_log_first_bad(log.as_ptr(), log.len(), answer) }
+}
+
+pub fn report_log(
+    log: &[u8],
+    secret: &[u32; 8],
+    keys: &mut [[u64; 2]],
+    slots: &mut [[u64; 3]],
+    probes: &mut [[u64; 4]],
+    offsets: &mut [u32],
+    links: &mut [[u16; 8]],
+    text: &mut [u8],
+    length: &mut [u64; 1],
+) -> u8 {
+    unsafe {
+        ambrulicciu_report_log(
+            log.as_ptr(),
+            log.len(),
+            secret,
+            keys.as_mut_ptr(),
+            keys.len(),
+            slots.as_mut_ptr(),
+            slots.len(),
+            probes.as_mut_ptr(),
+            probes.len(),
+            offsets.as_mut_ptr(),
+            offsets.len(),
+            links.as_mut_ptr(),
+            links.len(),
+            text.as_mut_ptr(),
+            text.len(),
+            length,
+        )
+    }
+}
+
+pub fn report_link(
+    ledger: &[u64; 72],
+    monitor: &[u64; 12],
+    watched: u32,
+    records: u64,
+    turned_away: u64,
+    text: &mut [u8],
+    length: &mut [u64; 1],
+) -> u8 {
+    unsafe { ambrulicciu_report_link(ledger, monitor, watched, records, turned_away, text.as_mut_ptr(), text.len(), length) }
+}

@@ -1,0 +1,29 @@
+//! The measurement core of a STAMP sender (RFC 8762, RFC 8972) for hosts in Rust: safe types over the calls of `ambrulicciu.h`.
+//!
+//! A [`Link`] owns its state and its rooms and has a method for each event; [`Quantiles`], [`ClockQuality`], [`Estimate`] and [`Log`] stand
+//! on their own. What a call refuses comes back as a [`Refusal`], and then nothing was changed. Foreign code is called in one module,
+//! [`calls`], whose functions are safe: the library is proved to touch no memory but what it is lent, whatever that holds.
+#![deny(unsafe_code)]
+
+#[allow(unsafe_code)]
+pub mod calls;
+mod estimate;
+mod link;
+mod log;
+mod observation;
+mod quality;
+mod quantiles;
+mod refusal;
+mod shown;
+
+pub use estimate::{Estimate, Parts};
+pub use link::{report_of_log, Accepted, Found, Key, Link, Packet, Rooms, Session, State, Watch};
+pub use log::{Log, Settings};
+pub use observation::{Counters, FollowUp, Format, Observation};
+pub use quality::ClockQuality;
+pub use quantiles::{Quantiles, Value};
+pub use refusal::{served, Refusal};
+pub use shown::{Delays, Direct, Figures, FollowUps, LastEstimate, Maybe, Point, Quality};
+
+/// Rows of each room of a link, and of the monitor's queue.
+pub const ROWS: usize = 4096;

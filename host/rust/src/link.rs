@@ -1,0 +1,270 @@
+//! A link: the ledger with its rooms, and its monitor if it is watched.
+use crate::{
+    calls::{self, Queued},
+    observation::{Format, Observation},
+    refusal::{served, Refusal},
+    shown::Figures,
+    ROWS,
+};
+
+/// What tells replies apart: the sender's and the reflector's number, and the reflector's timestamp.
+#[derive(Clone, Copy, Debug, PartialEq, Eq)]
+pub struct Key {
+    pub sender: u32,
+    pub reflector: u32,
+    pub t3: u64,
+}
+
+/// A packet of the host's: its send time in ns, and a tag that is handed back untouched.
+#[derive(Clone, Copy, Debug, Default, PartialEq, Eq)]
+pub struct Packet {
+    pub time: u64,
+    pub tag: u64,
+}
+
+/// What became of a reply.
+#[derive(Clone, Copy, Debug, PartialEq, Eq)]
+pub enum Accepted {
+    Unknown,
+    Duplicate,
+    Unique(Packet, Option<u32>),
+}
+
+/// How a follow-up's timestamp is to be converted.
+#[derive(Clone, Copy, Debug, PartialEq, Eq)]
+pub struct Found {
+    pub format: Format,
+    pub reference: i64,
+}
+
+/// The ledger's rooms.
+#[derive(Clone, Debug)]
+pub struct Rooms {
+    pub keys: Vec<[u64; 2]>,
+    pub slots: Vec<[u64; 3]>,
+    pub probes: Vec<[u64; 4]>,
+    pub offsets: Vec<u32>,
+    pub links: Vec<[u16; 8]>,
+}
+
+impl Rooms {
+    #[allow(clippy::new_without_default)]
+    pub fn new() -> Rooms {
+        Rooms {
+            keys: vec![[0; 2]; ROWS],
+            slots: vec![[0; 3]; ROWS],
+            probes: vec![[0; 4]; ROWS],
+            offsets: vec![0; ROWS],
+            links: vec![[0; 8]; ROWS],
+        }
+    }
+}
+
+/// The monitor with its queue.
+#[derive(Clone, Debug)]
+pub struct Watch {
+    pub monitor: [u64; 12],
+    pub queue: Vec<Queued>,
+}
+
+impl Watch {
+    /// `threshold` losses in a row mean failed, 0 counts as 1; `timeout` in ns, 0: no probe is ever lost.
+    pub fn new(threshold: u16, timeout: u64) -> Watch {
+        let mut monitor = [0; 12];
+        calls::monitor_fresh(&mut monitor, threshold, timeout);
+        Watch { monitor, queue: vec![Queued::default(); ROWS] }
+    }
+
+    pub fn session(&self) -> Session {
+        let mut shown = [0; 6];
+        calls::monitor_summary(&self.monitor, &mut shown);
+        let [state, threshold, losses, active, failed, idle] = shown;
+        let state = match state {
+            0 => State::Idle,
+            1 => State::Active,
+            _ => State::Failed,
+        };
+        Session { state, threshold, losses, active, failed, idle }
+    }
+}
+
+#[derive(Clone, Copy, Debug, PartialEq, Eq)]
+pub enum State {
+    Idle,
+    Active,
+    Failed,
+}
+
+/// The session as the monitor sees it: its state, losses in a row, how often it became active, failed, idle.
+#[derive(Clone, Copy, Debug, PartialEq, Eq)]
+pub struct Session {
+    pub state: State,
+    pub threshold: u64,
+    pub losses: u64,
+    pub active: u64,
+    pub failed: u64,
+    pub idle: u64,
+}
+
+/// A link with all its memory. The parts are open to hosts that keep them elsewhere: no content of them can break a call.
+#[derive(Clone, Debug)]
+pub struct Link {
+    pub ledger: [u64; 72],
+    pub rooms: Rooms,
+    pub watch: Option<Watch>,
+}
+
+impl Link {
+    /// `secret` are words that a reflector cannot know: they keep searches short and decide nothing.
+    pub fn new(copies: u16, secret: &[u32; 8]) -> Link {
+        let mut ledger = [0; 72];
+        calls::ledger_fresh(&mut ledger, copies, secret);
+        Link { ledger, rooms: Rooms::new(), watch: None }
+    }
+
+    /// The same with a monitor.
+    pub fn watched(copies: u16, secret: &[u32; 8], threshold: u16, timeout: u64) -> Link {
+        Link { watch: Some(Watch::new(threshold, timeout)), ..Link::new(copies, secret) }
+    }
+
+    /// A probe was sent.
+    pub fn sent(&mut self, sequence: u32, ordinal: u32, packet: Packet) -> Result<(), Refusal> {
+        let Packet { time, tag } = packet;
+        let Rooms { probes, links, .. } = &mut self.rooms;
+        served(match &mut self.watch {
+            None => calls::sent(&mut self.ledger, probes, links, sequence, ordinal, time, tag),
+            Some(w) => calls::watched_sent(&mut self.ledger, &mut w.monitor, probes, links, &mut w.queue, sequence, ordinal, time, tag),
+        })
+    }
+
+    /// A reply came; `pending` is the packet that the host holds for its probe.
+    pub fn accept(&mut self, key: Key, pending: Option<Packet>) -> Result<Accepted, Refusal> {
+        let Key { sender, reflector, t3 } = key;
+        let Packet { time, tag } = pending.unwrap_or_default();
+        let held = pending.is_some().into();
+        let Rooms { keys, slots, probes, links, .. } = &mut self.rooms;
+        let ledger = &mut self.ledger;
+        let mut answer = [0; 5];
+        served(match &mut self.watch {
+            None => calls::accept(ledger, keys, slots, probes, links, sender, reflector, t3, held, time, tag, &mut answer),
+            Some(w) => {
+                let Watch { monitor, queue } = w;
+                calls::watched_accept(
+                    ledger,
+                    monitor,
+                    keys,
+                    slots,
+                    probes,
+                    links,
+                    queue,
+                    sender,
+                    reflector,
+                    t3,
+                    held,
+                    time,
+                    tag,
+                    &mut answer,
+                )
+            }
+        })?;
+        let [class, time, tag, known, ordinal] = answer;
+        Ok(match class {
+            0 => Accepted::Unknown,
+            1 => Accepted::Duplicate,
+            _ => Accepted::Unique(Packet { time, tag }, (known != 0).then_some(ordinal as u32)),
+        })
+    }
+
+    /// How the timestamp of an observation's follow-up is to be converted, where it is.
+    pub fn lookup(&self, observation: &Observation) -> Result<Option<Found>, Refusal> {
+        let Some(follow) = observation.follow_up else {
+            return Ok(None);
+        };
+        let Rooms { keys, slots, links, .. } = &self.rooms;
+        let own = observation.key.reflector;
+        let mut answer = [0; 3];
+        served(calls::lookup(
+            &self.ledger,
+            keys,
+            slots,
+            links,
+            own,
+            follow.sequence,
+            follow.timestamp,
+            follow.unknown_mode.into(),
+            &mut answer,
+        ))?;
+        let [shown, ptp, reference] = answer;
+        let format = if ptp != 0 { Format::Ptp } else { Format::Ntp };
+        Ok((shown != 0).then_some(Found { format, reference: reference as i64 }))
+    }
+
+    /// What the unique reply that was accepted last brought.
+    pub fn observe(&mut self, observation: &Observation) -> Result<(), Refusal> {
+        let Rooms { keys, slots, offsets, links, .. } = &mut self.rooms;
+        served(calls::observe(&mut self.ledger, keys, slots, offsets, links, &observation.told()))
+    }
+
+    /// Whether a held probe has a reply.
+    pub fn answered(&self, sequence: u32) -> Result<bool, Refusal> {
+        let mut answer = [0];
+        served(calls::answered(&self.ledger, &self.rooms.probes, &self.rooms.links, sequence, &mut answer))?;
+        Ok(answer[0] != 0)
+    }
+
+    pub fn needs_burst_wait(&self) -> bool {
+        let mut answer = [0];
+        calls::needs_burst_wait(&self.ledger, &mut answer);
+        answer[0] != 0
+    }
+
+    pub fn snapshot(&self) -> Figures {
+        let mut shown = Figures::default();
+        calls::snapshot(&self.ledger, &mut shown);
+        shown
+    }
+
+    /// The clock is at `now`: probes past their deadline are losses. Nothing for a link without a monitor.
+    pub fn advance(&mut self, now: u64) -> Result<(), Refusal> {
+        self.watch.as_mut().map_or(Ok(()), |w| served(calls::monitor_advance(&mut w.monitor, &mut w.queue, now)))
+    }
+
+    /// The session stops.
+    pub fn idle(&mut self) -> Result<(), Refusal> {
+        self.watch.as_mut().map_or(Ok(()), |w| served(calls::monitor_idle(&mut w.monitor)))
+    }
+
+    /// When `advance` has something to do.
+    pub fn deadline(&self) -> Result<Option<u64>, Refusal> {
+        let Some(w) = &self.watch else {
+            return Ok(None);
+        };
+        let mut answer = [0; 2];
+        served(calls::monitor_deadline(&w.monitor, &w.queue, &mut answer))?;
+        Ok((answer[0] != 0).then_some(answer[1]))
+    }
+
+    pub fn session(&self) -> Option<Session> {
+        self.watch.as_ref().map(Watch::session)
+    }
+
+    /// The report of the link as it stands; the numbers of calls made and refused are those of its first line.
+    pub fn report(&self, records: u64, turned_away: u64) -> String {
+        let none = [0; 12];
+        let monitor = self.watch.as_ref().map_or(&none, |w| &w.monitor);
+        text_of(|text, length| calls::report_link(&self.ledger, monitor, self.watch.is_some().into(), records, turned_away, text, length))
+            .expect("a buffer of 1,024 bytes")
+    }
+}
+
+/// The report of a log, as the program linkreport prints it; the rooms may hold anything.
+pub fn report_of_log(log: &[u8], secret: &[u32; 8], rooms: &mut Rooms) -> Result<String, Refusal> {
+    let Rooms { keys, slots, probes, offsets, links } = rooms;
+    text_of(|text, length| calls::report_log(log, secret, keys, slots, probes, offsets, links, text, length))
+}
+
+fn text_of(write: impl FnOnce(&mut [u8], &mut [u64; 1]) -> u8) -> Result<String, Refusal> {
+    let (mut text, mut length) = ([0; 1024], [0]);
+    served(write(&mut text, &mut length))?;
+    Ok(String::from_utf8_lossy(&text[..length[0] as usize]).into_owned())
+}
