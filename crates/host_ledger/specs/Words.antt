@@ -1,0 +1,32 @@
+-- A ledger in the 72 words that a host lends:
+--   0 copies; 1 to 4 the words of the hash; 5 calls; 6, 7 head and length of the ring of keys; 8, 9 of probes; 10 whether a key awaits;
+--   11 to 24 the counts of replies; 25 to 32 the round trips; 33 to 43 direct loss; 44 to 68 follow-ups (44 counts, 50 delays, 58 clock quality);
+--   69 to 71 unused.
+-- Any words say a ledger. Assumes nothing.
+use mathlib.Core.List.{List, [], _∷_}
+use Prim.Native.Nat.{ℕ, _+_, _%_, _^_}
+use lib.ListN.{getD}
+use Rattle.ledger_state.specs.declared.Tables.{Tables}
+use Rattle.ledger_state.specs.declared.Ledger.{Ledger}
+use Rattle.host_numbers.specs.Numbers.{flagWord, isSet}
+use Rattle.host_ledger.specs.Parts.{secretAt, repliesAt, delaysAt, directAt, followAt}
+
+unfoldable pub tablesAt : ℕ → List ℕ → Tables
+tablesAt at w = record {
+  keys = record { head = getD w at 0; len = getD w (at + 1) 0 };
+  probes = record { head = getD w (at + 2) 0; len = getD w (at + 3) 0 };
+  awaits = isSet (getD w (at + 4) 0);
+}
+
+unfoldable pub ledgerAt : List ℕ → Ledger
+ledgerAt w = record {
+  copies = getD w 0 0 % 2 ^ 16;
+  secret = secretAt 1 w;
+  calls = getD w 5 0;
+  tables = tablesAt 6 w;
+  counts = record { replies = repliesAt 11 w; rtt = delaysAt 25 w; direct = directAt 33 w; follow = followAt 44 w };
+}
+
+-- the words of both rings and of what awaits
+abbrev pub tablesWords : Tables → List ℕ
+tablesWords t = t .keys .head ∷ t .keys .len ∷ t .probes .head ∷ t .probes .len ∷ flagWord (t .awaits) ∷ []

@@ -1,0 +1,428 @@
+// The ledger in the 72 words that a host lends (specs/Words.antt has their order): what any words say, and what each call stores.
+// A call stores only the words that it changes: a store of all of them would cost more than a duplicate reply.
+ghost use mathlib.Core.Path.{_≡_};
+ghost use lib.Seq.{sets};
+ghost use Rattle.host_quality.specs.Words.{qualityAt, qualityWords, QualityKept};
+ghost use Rattle.host_ledger.specs.Parts.{secretAt, secretWords, SecretKept, repliesAt, repliesWords, RepliesKept, delaysWords};
+ghost use Rattle.host_ledger.specs.Parts.{windowAt, windowWords, WindowKept, directAt, directWords, DirectKept, followAt, followWords, FollowKept};
+ghost use Rattle.host_ledger.specs.Words.{tablesAt, tablesWords, ledgerAt};
+ghost use Rattle.host_ledger.specs.Left.{freshWords, sentWords, countedWords, acceptedWords, observedWords};
+
+pub mod parts;
+
+use chains::Ring;
+use clock_quality::ClockQuality;
+use delays::Delays;
+use direct::Direct;
+use direct::Window;
+use follow_ups::FollowCounts;
+use follow_ups::FollowUps;
+use host_numbers::both;
+use host_numbers::flag;
+use host_numbers::high;
+use host_numbers::is_set;
+use host_numbers::low;
+use ledger_state::Counts;
+use ledger_state::Ledger;
+use ledger_state::Secret;
+use ledger_state::Tables;
+use parts::delays_of;
+use parts::epoch_of;
+use parts::epoch_words;
+use parts::extreme_kind;
+use parts::extreme_magnitude;
+use parts::reflector_of;
+use parts::reflector_word;
+use replies::Answers;
+use replies::Evicted;
+use replies::Numbers;
+use replies::Replies;
+use replies::Totals;
+
+// ---- the ledger out of its words
+
+fn secret_of(state: &[u64; 72]) -> Secret
+    ensures { λ r. ⌜ r ≡ secretAt 1 (now (state .entry)) ⌝ }
+{
+    Secret {
+        first: low(state[1]),
+        second: high(state[1]),
+        third: low(state[2]),
+        fourth: high(state[2]),
+        fifth: low(state[3]),
+        sixth: high(state[3]),
+        seventh: low(state[4]),
+        eighth: high(state[4]),
+    }
+}
+
+fn tables_of(state: &[u64; 72]) -> Tables
+    ensures { λ r. ⌜ r ≡ tablesAt 6 (now (state .entry)) ⌝ }
+{
+    let awaits = is_set(state[10]);
+    Tables {
+        keys: Ring {
+            head: state[6] as usize,
+            len: state[7] as usize,
+        },
+        probes: Ring {
+            head: state[8] as usize,
+            len: state[9] as usize,
+        },
+        awaits,
+    }
+}
+
+fn replies_of(state: &[u64; 72]) -> Replies
+    ensures { λ r. ⌜ r ≡ repliesAt 11 (now (state .entry)) ⌝ }
+{
+    let last = reflector_of(state[19]);
+    let highest = reflector_of(state[20]);
+    Replies {
+        totals: Totals {
+            requested: state[11],
+            unique: state[12],
+            duplicate: state[13],
+            unknown: state[14],
+        },
+        answers: Answers {
+            answered: state[15],
+            additional: state[16],
+            late: state[17],
+            satisfied: state[18],
+        },
+        numbers: Numbers {
+            last,
+            highest,
+            reordered: state[21],
+            independent: state[22],
+        },
+        evicted: Evicted {
+            probes: state[23],
+            replies: state[24],
+        },
+    }
+}
+
+fn window_of(state: &[u64; 72]) -> Window
+    ensures { λ r. ⌜ r ≡ windowAt 38 (now (state .entry)) ⌝ }
+{
+    if is_set(state[38]) {
+        return Window::Open(epoch_of(state[39], state[40], state[41], state[42], state[43]));
+    }
+    Window::Closed
+}
+
+fn direct_of(state: &[u64; 72]) -> Direct
+    ensures { λ r. ⌜ r ≡ directAt 33 (now (state .entry)) ⌝ }
+{
+    let window = window_of(state);
+    Direct {
+        counts: direct::Counts {
+            observations: state[33],
+            unavailable: state[34],
+            discontinuities: state[35],
+            reordered: state[36],
+            exceeded: is_set(state[37]),
+        },
+        window,
+    }
+}
+
+fn quality_of(state: &[u64; 72]) -> ClockQuality
+    ensures { λ r. ⌜ r ≡ qualityAt 58 (now (state .entry)) ⌝ }
+{
+    let largest = host_quality::largest_of(state[63], state[64]);
+    let sender = host_quality::last_of(state[65], state[66]);
+    let reflector = host_quality::last_of(state[67], state[68]);
+    ClockQuality {
+        samples: state[58],
+        both: state[59],
+        unsynchronized: state[60],
+        invalid: state[61],
+        unknown: state[62],
+        sender,
+        reflector,
+        largest,
+    }
+}
+
+fn follow_of(state: &[u64; 72]) -> FollowUps
+    ensures { λ r. ⌜ r ≡ followAt 44 (now (state .entry)) ⌝ }
+{
+    let delay = delays_of(
+        state[50],
+        state[51],
+        state[52],
+        state[53],
+        state[54],
+        state[55],
+        state[56],
+        state[57],
+    );
+    let quality = quality_of(state);
+    FollowUps {
+        counts: FollowCounts {
+            observations: state[44],
+            matched: state[45],
+            repeated: state[46],
+            unmatched: state[47],
+            ambiguous: state[48],
+            unavailable: state[49],
+        },
+        delay,
+        quality,
+    }
+}
+
+pub fn load(state: &[u64; 72]) -> Ledger
+    ensures { λ r. ⌜ r ≡ ledgerAt (now (state .entry)) ⌝ }
+{
+    let secret = secret_of(state);
+    let tables = tables_of(state);
+    let replies = replies_of(state);
+    let rtt = delays_of(
+        state[25],
+        state[26],
+        state[27],
+        state[28],
+        state[29],
+        state[30],
+        state[31],
+        state[32],
+    );
+    let direct = direct_of(state);
+    let follow = follow_of(state);
+    Ledger {
+        copies: (state[0] % 65536) as u16,
+        secret,
+        calls: state[5],
+        tables,
+        counts: Counts {
+            replies,
+            rtt,
+            direct,
+            follow,
+        },
+    }
+}
+
+// ---- and back
+
+fn store_secret(state: &mut [u64; 72], secret: Secret)
+    ensures { λ _. ⌜ (now (state .exit) ≡ sets (now (state .entry)) 1 (secretWords secret)) × SecretKept secret ⌝ }
+{
+    state[1] = both(secret.first, secret.second);
+    state[2] = both(secret.third, secret.fourth);
+    state[3] = both(secret.fifth, secret.sixth);
+    state[4] = both(secret.seventh, secret.eighth);
+}
+
+fn store_tables(state: &mut [u64; 72], tables: Tables)
+    ensures { λ _. ⌜ now (state .exit) ≡ sets (now (state .entry)) 6 (tablesWords tables) ⌝ }
+{
+    let keys = tables.keys;
+    let probes = tables.probes;
+    state[6] = keys.head as u64;
+    state[7] = keys.len as u64;
+    state[8] = probes.head as u64;
+    state[9] = probes.len as u64;
+    state[10] = flag(tables.awaits);
+}
+
+fn store_replies(state: &mut [u64; 72], replies: Replies)
+    ensures { λ _. ⌜ (now (state .exit) ≡ sets (now (state .entry)) 11 (repliesWords replies)) × RepliesKept replies ⌝ }
+{
+    let totals = replies.totals;
+    let answers = replies.answers;
+    let numbers = replies.numbers;
+    let evicted = replies.evicted;
+    let last = numbers.last;
+    let highest = numbers.highest;
+    state[11] = totals.requested;
+    state[12] = totals.unique;
+    state[13] = totals.duplicate;
+    state[14] = totals.unknown;
+    state[15] = answers.answered;
+    state[16] = answers.additional;
+    state[17] = answers.late;
+    state[18] = answers.satisfied;
+    state[19] = reflector_word(last);
+    state[20] = reflector_word(highest);
+    state[21] = numbers.reordered;
+    state[22] = numbers.independent;
+    state[23] = evicted.probes;
+    state[24] = evicted.replies;
+}
+
+fn store_rtt(state: &mut [u64; 72], delays: Delays)
+    ensures { λ _. ⌜ now (state .exit) ≡ sets (now (state .entry)) 25 (delaysWords delays) ⌝ }
+{
+    let sum = delays.sum;
+    let min = delays.min;
+    let max = delays.max;
+    state[25] = delays.count;
+    state[26] = flag(sum.negative);
+    state[27] = sum.high;
+    state[28] = sum.low;
+    state[29] = extreme_kind(min);
+    state[30] = extreme_magnitude(min);
+    state[31] = extreme_kind(max);
+    state[32] = extreme_magnitude(max);
+}
+
+fn store_delay(state: &mut [u64; 72], delays: Delays)
+    ensures { λ _. ⌜ now (state .exit) ≡ sets (now (state .entry)) 50 (delaysWords delays) ⌝ }
+{
+    let sum = delays.sum;
+    let min = delays.min;
+    let max = delays.max;
+    state[50] = delays.count;
+    state[51] = flag(sum.negative);
+    state[52] = sum.high;
+    state[53] = sum.low;
+    state[54] = extreme_kind(min);
+    state[55] = extreme_magnitude(min);
+    state[56] = extreme_kind(max);
+    state[57] = extreme_magnitude(max);
+}
+
+fn store_window(state: &mut [u64; 72], window: Window)
+    ensures { λ _. ⌜ (now (state .exit) ≡ sets (now (state .entry)) 38 (windowWords window)) × WindowKept window ⌝ }
+{
+    match window {
+        Window::Closed => {
+            state[38] = 0;
+            state[39] = 0;
+            state[40] = 0;
+            state[41] = 0;
+            state[42] = 0;
+            state[43] = 0;
+        }
+        Window::Open(epoch) => {
+            let words = epoch_words(epoch);
+            state[38] = 1;
+            state[39] = words.anchor;
+            state[40] = words.transmitted;
+            state[41] = words.latest;
+            state[42] = words.maxima;
+            state[43] = words.seen;
+        }
+    }
+}
+
+fn store_direct(state: &mut [u64; 72], direct: Direct)
+    ensures { λ _. ⌜ (now (state .exit) ≡ sets (now (state .entry)) 33 (directWords direct)) × DirectKept direct ⌝ }
+{
+    let counts = direct.counts;
+    let window = direct.window;
+    state[33] = counts.observations;
+    state[34] = counts.unavailable;
+    state[35] = counts.discontinuities;
+    state[36] = counts.reordered;
+    state[37] = flag(counts.exceeded);
+    store_window(state, window);
+}
+
+fn store_quality(state: &mut [u64; 72], quality: ClockQuality)
+    ensures { λ _. ⌜ (now (state .exit) ≡ sets (now (state .entry)) 58 (qualityWords quality)) × QualityKept quality ⌝ }
+{
+    let largest = quality.largest;
+    let sender = quality.sender;
+    let reflector = quality.reflector;
+    let first = host_quality::last_words(sender);
+    let second = host_quality::last_words(reflector);
+    state[58] = quality.samples;
+    state[59] = quality.both;
+    state[60] = quality.unsynchronized;
+    state[61] = quality.invalid;
+    state[62] = quality.unknown;
+    state[63] = host_quality::largest_word(largest);
+    state[64] = host_quality::largest_bits(largest);
+    state[65] = first.word;
+    state[66] = first.bits;
+    state[67] = second.word;
+    state[68] = second.bits;
+}
+
+fn store_follow(state: &mut [u64; 72], follow: FollowUps)
+    ensures { λ _. ⌜ (now (state .exit) ≡ sets (now (state .entry)) 44 (followWords follow)) × FollowKept follow ⌝ }
+{
+    let counts = follow.counts;
+    let delay = follow.delay;
+    let quality = follow.quality;
+    state[44] = counts.observations;
+    state[45] = counts.matched;
+    state[46] = counts.repeated;
+    state[47] = counts.unmatched;
+    state[48] = counts.ambiguous;
+    state[49] = counts.unavailable;
+    store_delay(state, delay);
+    store_quality(state, quality);
+}
+
+// ---- what each call stores
+
+pub fn store_sent(state: &mut [u64; 72], next: Ledger)
+    ensures { λ _. ⌜ now (state .exit) ≡ sentWords (now (state .entry)) next ⌝ }
+{
+    let tables = next.tables;
+    let counts = next.counts;
+    let replies = counts.replies;
+    let totals = replies.totals;
+    let evicted = replies.evicted;
+    let probes = tables.probes;
+    state[5] = next.calls;
+    state[8] = probes.head as u64;
+    state[9] = probes.len as u64;
+    state[11] = totals.requested;
+    state[23] = evicted.probes;
+}
+
+// Of an `accept` whose reply is a duplicate or unknown.
+pub fn store_counted(state: &mut [u64; 72], next: Ledger)
+    ensures { λ _. ⌜ now (state .exit) ≡ countedWords (now (state .entry)) next ⌝ }
+{
+    let counts = next.counts;
+    let replies = counts.replies;
+    let totals = replies.totals;
+    state[5] = next.calls;
+    state[13] = totals.duplicate;
+    state[14] = totals.unknown;
+}
+
+// Of an `accept` whose reply is unique.
+pub fn store_accepted(state: &mut [u64; 72], next: Ledger)
+    ensures { λ _. ⌜ (now (state .exit) ≡ acceptedWords (now (state .entry)) next) × RepliesKept (next .counts .replies) ⌝ }
+{
+    let tables = next.tables;
+    let counts = next.counts;
+    let replies = counts.replies;
+    state[5] = next.calls;
+    store_tables(state, tables);
+    store_replies(state, replies);
+}
+
+pub fn store_observed(state: &mut [u64; 72], next: Ledger)
+    ensures { λ _. ⌜ (now (state .exit) ≡ observedWords (now (state .entry)) next) × DirectKept (next .counts .direct) × FollowKept (next .counts .follow) ⌝ }
+{
+    let tables = next.tables;
+    let counts = next.counts;
+    let rtt = counts.rtt;
+    let direct = counts.direct;
+    let follow = counts.follow;
+    state[5] = next.calls;
+    state[10] = flag(tables.awaits);
+    store_rtt(state, rtt);
+    store_direct(state, direct);
+    store_follow(state, follow);
+}
+
+// Of a fresh ledger: every word, whatever stood there.
+pub fn store_fresh(state: &mut [u64; 72], copies: u16, secret: Secret)
+    ensures { λ _. ⌜ (now (state .exit) ≡ freshWords copies secret) × SecretKept secret ⌝ }
+{
+    *state = [0; 72];
+    state[0] = copies as u64;
+    store_secret(state, secret);
+}
