@@ -8,7 +8,7 @@ use Rattle.link_log.specs.declared.Log.the-variants as log'
 use Rattle.link_log.specs.declared.Played.{Played}
 use Rattle.link_log.specs.declared.Played.the-variants as played
 use Rattle.link_log.specs.Logs.{tooLong, badTrailer, logOf, callAt}
-use Rattle.host_log_read.specs.Words.{callWords}
+use Rattle.host_call_words.specs.Words.{callWords}
 
 -- what a call leaves
 pub record Left : Type 0 where

@@ -1,9 +1,6 @@
 // What a host calls to read a log (document 01, 'Log and program'): whether the bytes are a log, its first bad record, and one record as a call.
 ghost use mathlib.Core.Path.{_≡_};
 ghost use Rattle.host_log_read.specs.Answers.{left, settingsWords, checkTo, firstBadTo, noCall, readTo};
-
-mod words_of;
-
 use link_log::Log;
 use link_log::Played;
 use link_log::Settings;
@@ -95,7 +92,7 @@ pub extern "C" fn ambrulicciu_log_read(log: &[u8], at: u32, call: &mut [u32; 44]
     let played = link_log::call_at(log, at);
     match played {
         Played::Call(told) => {
-            let words = words_of::call_words(told);
+            let words = host_call_words::call_words(told);
             *call = words;
             0
         }

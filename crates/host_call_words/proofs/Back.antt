@@ -16,7 +16,7 @@ use Rattle.record_parts.proofs.Back.{time-back, ordinal-back, counters-back, fo
 use Rattle.record_parts.proofs.Back.{time-word-fits, follow-timestamp-fits, follow-time-fits, sender-wire-fits, reflector-wire-fits}
 use Rattle.host_numbers.specs.Numbers.{lower, upper, joined}
 use Rattle.host_observation.specs.Observation.{observationAt}
-use Rattle.host_log_read.specs.Words.{observationWords}
+use Rattle.host_call_words.specs.Words.{observationWords}
 
 -- a number of 8 bytes
 long-back : (n : ℕ) → U64 n → joined (lower n) (upper n) ≡ n

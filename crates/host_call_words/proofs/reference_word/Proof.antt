@@ -1,10 +1,10 @@
--- `host_log_read::words_of::reference_word` meets its contract. Assumes nothing.
+-- `host_call_words::reference_word` meets its contract. Assumes nothing.
 use mathlib.Core.Path.{_∙_}
 use mir.Syntax.{w64}
 use Rattle.record_parts.proofs.Signed.{bits-again}
 use borrow.Author.Needs.{needs}
-use Rattle.host_log_read.proofs.words_of.reference_word.Statement.{statement}
-use Rattle.host_log_read.proofs.words_of.reference_word.Tie as tie
+use Rattle.host_call_words.proofs.reference_word.Statement.{statement}
+use Rattle.host_call_words.proofs.reference_word.Tie as tie
 
 word64-requires : tie.Need-word64-requires
 word64-requires c κs = search needs

@@ -8,7 +8,7 @@ use Rattle.host_numbers.specs.Numbers.{lower, upper}
 use Rattle.calls.specs.declared.ReplyObservation.{ReplyObservation}
 use Rattle.record_parts.specs.Parts.{observeFlags, timeWord, ordinalNumber, senderCount, receivedCount, transmittedCount}
 use Rattle.record_parts.specs.Parts.{followSequence, followTimestamp, followTime}
-use Rattle.host_log_read.specs.Words.{wires}
+use Rattle.host_call_words.specs.Words.{wires}
 
 -- a number of 8 bytes at a place
 abbrev pub longAt : List ℕ → ℕ → ℕ → List ℕ

@@ -1,10 +1,10 @@
--- `host_log_read::words_of::offset_word` meets its contract. Assumes nothing.
+-- `host_call_words::offset_word` meets its contract. Assumes nothing.
 use mathlib.Core.Path.{_∙_}
 use mir.Syntax.{w32}
 use Rattle.record_parts.proofs.Signed.{bits-again}
 use borrow.Author.Needs.{needs}
-use Rattle.host_log_read.proofs.words_of.offset_word.Statement.{statement}
-use Rattle.host_log_read.proofs.words_of.offset_word.Tie as tie
+use Rattle.host_call_words.proofs.offset_word.Statement.{statement}
+use Rattle.host_call_words.proofs.offset_word.Tie as tie
 
 word32-requires : tie.Need-word32-requires
 word32-requires c κs = search needs

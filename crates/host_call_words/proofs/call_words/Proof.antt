@@ -1,9 +1,9 @@
--- `host_log_read::words_of::call_words` meets its contract. Assumes nothing.
+-- `host_call_words::call_words` meets its contract. Assumes nothing.
 use mathlib.Core.Path.{sym, ap, _∙_}
-use Rattle.host_log_read.specs.Words.{callWords}
+use Rattle.host_call_words.specs.Words.{callWords}
 use borrow.Author.Needs.{needs}
-use Rattle.host_log_read.proofs.words_of.call_words.Statement.{statement}
-use Rattle.host_log_read.proofs.words_of.call_words.Tie as tie
+use Rattle.host_call_words.proofs.call_words.Statement.{statement}
+use Rattle.host_call_words.proofs.call_words.Tie as tie
 
 enum-known-call : tie.Need-enum-known-call
 enum-known-call c = search needs

@@ -1,9 +1,9 @@
--- `host_log_read::words_of::put_times` meets its contract. Assumes nothing.
+-- `host_call_words::put_times` meets its contract. Assumes nothing.
 use denote.Ref.{now}
-use Rattle.host_log_read.proofs.Laws.{times-stored}
+use Rattle.host_call_words.proofs.Laws.{times-stored}
 use borrow.Author.Needs.{needs}
-use Rattle.host_log_read.proofs.words_of.put_times.Statement.{statement}
-use Rattle.host_log_read.proofs.words_of.put_times.Tie as tie
+use Rattle.host_call_words.proofs.put_times.Statement.{statement}
+use Rattle.host_call_words.proofs.put_times.Tie as tie
 
 time-word-requires : tie.Need-time-word-requires
 time-word-requires c κs = search needs

@@ -1,9 +1,9 @@
--- `host_log_read::words_of::put_long` meets its contract. Assumes nothing.
+-- `host_call_words::put_long` meets its contract. Assumes nothing.
 use denote.Ref.{now}
-use Rattle.host_log_read.proofs.Laws.{long-stored}
+use Rattle.host_call_words.proofs.Laws.{long-stored}
 use borrow.Author.Needs.{needs}
-use Rattle.host_log_read.proofs.words_of.put_long.Statement.{statement}
-use Rattle.host_log_read.proofs.words_of.put_long.Tie as tie
+use Rattle.host_call_words.proofs.put_long.Statement.{statement}
+use Rattle.host_call_words.proofs.put_long.Tie as tie
 
 low-requires : tie.Need-low-requires
 low-requires c κs = search needs

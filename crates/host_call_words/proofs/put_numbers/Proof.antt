@@ -1,9 +1,9 @@
--- `host_log_read::words_of::put_numbers` meets its contract. Assumes nothing.
+-- `host_call_words::put_numbers` meets its contract. Assumes nothing.
 use denote.Ref.{now}
-use Rattle.host_log_read.proofs.Laws.{numbers-stored}
+use Rattle.host_call_words.proofs.Laws.{numbers-stored}
 use borrow.Author.Needs.{needs}
-use Rattle.host_log_read.proofs.words_of.put_numbers.Statement.{statement}
-use Rattle.host_log_read.proofs.words_of.put_numbers.Tie as tie
+use Rattle.host_call_words.proofs.put_numbers.Statement.{statement}
+use Rattle.host_call_words.proofs.put_numbers.Tie as tie
 
 element-write-words : tie.Need-element-write-words
 element-write-words c = search needs

@@ -1,8 +1,8 @@
--- `host_log_read::words_of::sent_words` meets its contract. Assumes nothing.
-use Rattle.host_log_read.proofs.Laws.{sent-stored}
+-- `host_call_words::sent_words` meets its contract. Assumes nothing.
+use Rattle.host_call_words.proofs.Laws.{sent-stored}
 use borrow.Author.Needs.{needs}
-use Rattle.host_log_read.proofs.words_of.sent_words.Statement.{statement}
-use Rattle.host_log_read.proofs.words_of.sent_words.Tie as tie
+use Rattle.host_call_words.proofs.sent_words.Statement.{statement}
+use Rattle.host_call_words.proofs.sent_words.Tie as tie
 
 put-long-requires : tie.Need-put-long-requires
 put-long-requires c κs = search needs
