@@ -54,7 +54,7 @@ pub extern "C" fn ambrulicciu_monitor_reply(
     finish(monitor, answer)
 }
 
-// Time has come to `now`: what is due is lost.
+// It is `time` now: what is due by then is lost.
 #[no_mangle]
 pub extern "C" fn ambrulicciu_monitor_advance(
     monitor: &mut [u64; 12],
