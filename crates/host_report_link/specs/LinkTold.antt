@@ -1,0 +1,24 @@
+-- What a host is told of a link's report: the report of the link that its words say. Assumes nothing.
+use mathlib.Core.List.{List}
+use Prim.Native.Nat.{ℕ, zero, suc}
+use Rattle.link_steps.specs.declared.Watch.{Watch}
+use Rattle.link_steps.specs.declared.Watch.the-variants.{Absent, Present}
+use Rattle.link_steps.specs.declared.Link.{Link}
+use Rattle.link_figures.specs.Figures.{figuresOf}
+use Rattle.report.specs.Report.{reportOf}
+use Rattle.host_ledger.specs.Words.{ledgerAt}
+use Rattle.host_monitor_words.specs.Words.{monitorAt}
+use Rattle.host_told.specs.Told.{Told, toldOf}
+
+-- `watched` 0: the link has no monitor, and the monitor's words are not looked at
+abbrev pub watchAt : ℕ → List ℕ → Watch
+watchAt zero monitor = Absent
+watchAt (suc n) monitor = Present (monitorAt monitor)
+
+-- the link that the words of a ledger and of a monitor say
+abbrev pub linkAt : List ℕ → List ℕ → ℕ → Link
+linkAt ledger monitor watched = record { ledger = ledgerAt ledger; watch = watchAt watched monitor }
+
+-- the text of its figures, in a buffer of its size
+unfoldable pub reportLinkTo : List ℕ → List ℕ → ℕ → ℕ → ℕ → List ℕ → List ℕ → Told
+reportLinkTo ledger monitor watched records turned text word = toldOf (reportOf text (figuresOf (linkAt ledger monitor watched) records turned)) word

@@ -1,0 +1,41 @@
+// The report of a link as it stands (document 01, 'Log and program'), for a host: the text that linkreport prints of a log, of the words that it lends.
+ghost use mathlib.Core.Path.{_≡_};
+ghost use Rattle.host_told.specs.Told.{told};
+ghost use Rattle.host_report_link.specs.LinkTold.{watchAt, reportLinkTo};
+use link_steps::Link;
+use link_steps::Watch;
+
+fn watch_at(watched: u32, monitor: &[u64; 12]) -> Watch
+    ensures { λ r. ⌜ r ≡ watchAt watched (now (monitor .entry)) ⌝ }
+{
+    if watched == 0 {
+        return Watch::Absent;
+    }
+    let watching = host_monitor_words::load(monitor);
+    Watch::Present(watching)
+}
+
+// The report of a ledger and, where `watched` is not 0, its monitor, at the start of `text`, and its length; 5 for a text of another size.
+// `records` and `turned_away` are for the first line: the host alone knows how many calls it made, and how many of them were refused.
+#[no_mangle]
+pub extern "C" fn ambrulicciu_report_link(
+    ledger: &[u64; 72],
+    monitor: &[u64; 12],
+    watched: u32,
+    records: u64,
+    turned_away: u64,
+    text: &mut [u8],
+    length: &mut [u64; 1],
+) -> u8
+    ensures { λ r. ⌜ told r (now (text .exit)) (now (length .exit)) ≡ reportLinkTo (now (ledger .entry)) (now (monitor .entry)) watched records «turned_away» (now (text .entry)) (now (length .entry)) ⌝ }
+{
+    let state = host_ledger::load(ledger);
+    let watch = watch_at(watched, monitor);
+    let link = Link {
+        ledger: state,
+        watch,
+    };
+    let figures = link_figures::figures_of(link, records, turned_away);
+    let answer = report::report(text, figures);
+    host_told::tell(answer, length)
+}
