@@ -1,0 +1,48 @@
+// `ambrulicciu_accept`: the ledger's `accept`, on the words and the rooms that a host lends.
+ghost use mathlib.Core.Path.{_≡_};
+ghost use Rattle.host_calls.specs.Calls.{replyOf};
+ghost use Rattle.host_accept.specs.Accept.{servedWords, acceptLeft, acceptOf};
+use ledger_state::Ledger;
+use ledger_steps::AcceptAnswer;
+use ledger_steps::Accepted;
+
+// A duplicate and an unknown reply change two counts, and no other word is stored.
+fn store_served(ledger: &mut [u64; 72], next: Ledger, accepted: Accepted)
+    ensures { λ _. ⌜ now (ledger .exit) ≡ servedWords (now (ledger .entry)) next accepted ⌝ }
+{
+    match accepted {
+        Accepted::Duplicate => host_ledger::store_counted(ledger, next),
+        Accepted::Unknown => host_ledger::store_counted(ledger, next),
+        Accepted::Unique(_, _) => host_ledger::store_accepted(ledger, next),
+    }
+}
+
+#[no_mangle]
+pub extern "C" fn ambrulicciu_accept(
+    ledger: &mut [u64; 72],
+    keys: &mut [[u64; 2]],
+    slots: &mut [[u64; 3]],
+    probes: &mut [[u64; 4]],
+    links: &mut [[u16; 8]],
+    sender: u32,
+    reflector: u32,
+    t3: u64,
+    pending: u32,
+    time: u64,
+    tag: u64,
+    answer: &mut [u64; 5],
+) -> u8
+    ensures { λ r. ⌜ acceptLeft r (now (ledger .exit)) (now (keys .exit)) (now (slots .exit)) (now (probes .exit)) (now (links .exit)) (now (answer .exit)) ≡ acceptOf (now (ledger .entry)) (now (keys .entry)) (now (slots .entry)) (now (probes .entry)) (now (links .entry)) (now (answer .entry)) (replyOf sender reflector t3 pending time tag) ⌝ }
+{
+    let state = host_ledger::load(ledger);
+    let reply = host_calls::reply_of(sender, reflector, t3, pending, time, tag);
+    let outcome = ledger_accept::accept(state, keys, slots, probes, links, reply);
+    match outcome {
+        AcceptAnswer::Refused(number) => number,
+        AcceptAnswer::Served(next, accepted) => {
+            store_served(ledger, next, accepted);
+            *answer = host_calls::accepted_words(accepted);
+            0
+        }
+    }
+}

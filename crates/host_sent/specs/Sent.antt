@@ -1,0 +1,30 @@
+-- What `ambrulicciu_sent` returns and leaves: the library's `sent` on the ledger that the words say. Assumes nothing.
+use mathlib.Core.List.{List}
+use Prim.Native.Nat.{ℕ}
+use Rattle.calls.specs.declared.SentProbe.{SentProbe}
+use Rattle.ledger_steps.specs.declared.Answer.{Answer}
+use Rattle.ledger_steps.specs.declared.Answer.the-variants as answer
+use Rattle.ledger_steps.specs.Calls.{SentResult, number, sentTo}
+use Rattle.host_ledger.specs.Words.{ledgerAt}
+use Rattle.host_ledger.specs.Left.{sentWords}
+
+-- the number returned, the words of the ledger and the two rooms
+pub record SentLeft : Type 0 where
+  pub number : ℕ
+  pub ledger : List ℕ
+  pub probes : List (List ℕ)
+  pub links : List (List ℕ)
+
+abbrev pub sentLeft : ℕ → List ℕ → List (List ℕ) → List (List ℕ) → SentLeft
+sentLeft number ledger probes links = record { number = number; ledger = ledger; probes = probes; links = links }
+
+-- the words after an answer: a refusal changes none
+abbrev pub wordsAfter : List ℕ → Answer → List ℕ
+wordsAfter w (answer.Served next) = sentWords w next
+wordsAfter w (answer.Refused n) = w
+
+abbrev pub sentFrom : List ℕ → SentResult → SentLeft
+sentFrom w r = sentLeft (number (r .answer)) (wordsAfter w (r .answer)) (r .probes) (r .links)
+
+unfoldable pub sentOf : List ℕ → List (List ℕ) → List (List ℕ) → SentProbe → SentLeft
+sentOf w probes links s = sentFrom w (sentTo 0 (ledgerAt w) probes links s)

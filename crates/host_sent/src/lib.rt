@@ -1,0 +1,29 @@
+// `ambrulicciu_sent`: the ledger's `sent`, on the words and the rooms that a host lends.
+ghost use mathlib.Core.Path.{_≡_};
+ghost use Rattle.host_calls.specs.Calls.{probeOf};
+ghost use Rattle.host_sent.specs.Sent.{sentLeft, sentOf};
+use ledger_steps::Answer;
+
+#[no_mangle]
+pub extern "C" fn ambrulicciu_sent(
+    ledger: &mut [u64; 72],
+    probes: &mut [[u64; 4]],
+    links: &mut [[u16; 8]],
+    sequence: u32,
+    ordinal: u32,
+    time: u64,
+    tag: u64,
+) -> u8
+    ensures { λ r. ⌜ sentLeft r (now (ledger .exit)) (now (probes .exit)) (now (links .exit)) ≡ sentOf (now (ledger .entry)) (now (probes .entry)) (now (links .entry)) (probeOf sequence ordinal time tag) ⌝ }
+{
+    let state = host_ledger::load(ledger);
+    let probe = host_calls::probe_of(sequence, ordinal, time, tag);
+    let answer = ledger_sent::sent(state, probes, links, probe);
+    match answer {
+        Answer::Refused(number) => number,
+        Answer::Served(next) => {
+            host_ledger::store_sent(ledger, next);
+            0
+        }
+    }
+}
