@@ -1,185 +1,136 @@
-// src/sender/measurements.rs: `sent`, `accept`, and `observe` with the lookup and the host's conversion before it. All tables are full, and
-// the stream is an ordinary one: each probe has one reply, each reply is observed, with counters and a follow-up for the reply before.
-use crate::sender::measurements::{Ledger, Timed};
-use crate::table::Table;
+// src/sender/measurements.rs: the calls of a link. Two kinds of tables: full ones, and few entries: a link from fresh, made fresh again after
+// 500 probes. The stream is an ordinary one: each probe has one reply, each reply is observed, with counters and a follow-up for the reply
+// before. Both sides must show the same figures in the end.
+use crate::{
+    sender::measurements::{Ledger, Timed},
+    stopwatch::Stopwatch,
+    table::Table,
+};
+use ambrulicciu::{
+    calls::{self, Observation},
+    Figures, Link, ROWS,
+};
 use std::hint::black_box;
 
 const SECRET: [u32; 8] = [2654435761, 2246822519, 3266489917, 668265263, 374761393, 2166136261, 16777619, 2747636419];
-const ROWS: usize = 4096;
-
-extern "C" {
-    fn timed_fresh(state: *mut [u64; 72], copies: u16, secret: *const [u32; 8]);
-    fn timed_sent(state: *mut [u64; 72], probes: *mut [u64; 4], n: usize, links: *mut [u16; 8], m: usize, sequence: u32, ordinal: u32, time: u64, tag: u64) -> u8;
-    fn timed_accept(
-        state: *mut [u64; 72],
-        keys: *mut [u64; 2],
-        k: usize,
-        slots: *mut [u64; 3],
-        s: usize,
-        probes: *mut [u64; 4],
-        n: usize,
-        links: *mut [u16; 8],
-        m: usize,
-        sender: u32,
-        reflector: u32,
-        t3: u64,
-        answer: *mut [u64; 4],
-    ) -> u8;
-    fn timed_lookup(
-        state: *const [u64; 72],
-        keys: *const [u64; 2],
-        k: usize,
-        slots: *const [u64; 3],
-        s: usize,
-        links: *const [u16; 8],
-        m: usize,
-        own: u32,
-        sequence: u32,
-        timestamp: u64,
-        answer: *mut [u64; 4],
-    ) -> u8;
-    fn timed_observe(
-        state: *mut [u64; 72],
-        keys: *const [u64; 2],
-        k: usize,
-        slots: *mut [u64; 3],
-        s: usize,
-        offsets: *mut u32,
-        o: usize,
-        links: *mut [u16; 8],
-        m: usize,
-        told: *const [u64; 12],
-    ) -> u8;
-}
+const FEW: u64 = 500;
+const FULL: u64 = 5000;
 
 struct Ours {
-    state: [u64; 72],
-    keys: Vec<[u64; 2]>,
-    slots: Vec<[u64; 3]>,
-    probes: Vec<[u64; 4]>,
-    offsets: Vec<u32>,
-    links: Vec<[u16; 8]>,
-    answer: [u64; 4],
+    link: Link,
+    answer: [u64; 5],
+    found: [u64; 3],
 }
 
 impl Ours {
     fn new() -> Ours {
-        let mut ours = Ours {
-            state: [0; 72],
-            keys: vec![[0; 2]; ROWS],
-            slots: vec![[0; 3]; ROWS],
-            probes: vec![[0; 4]; ROWS],
-            offsets: vec![0; ROWS],
-            links: vec![[0; 8]; ROWS],
-            answer: [0; 4],
-        };
-        unsafe { timed_fresh(&mut ours.state, 1, &SECRET) };
-        ours
+        Ours { link: Link::new(1, &SECRET), answer: [0; 5], found: [0; 3] }
+    }
+
+    fn watched() -> Ours {
+        Ours { link: Link::watched(1, &SECRET, 3, 1_000_000_000), ..Ours::new() }
     }
 
     fn sent(&mut self, sequence: u32, ordinal: u32, tag: u64) {
-        let number = unsafe { timed_sent(&mut self.state, self.probes.as_mut_ptr(), ROWS, self.links.as_mut_ptr(), ROWS, sequence, ordinal, tag, tag) };
+        let Link { ledger, rooms, watch } = &mut self.link;
+        let number = match watch {
+            None => calls::sent(ledger, &mut rooms.probes, &mut rooms.links, sequence, ordinal, tag, tag),
+            Some(w) => {
+                calls::watched_sent(ledger, &mut w.monitor, &mut rooms.probes, &mut rooms.links, &mut w.queue, sequence, ordinal, tag, tag)
+            }
+        };
         assert_eq!(number, 0);
     }
 
     fn accept(&mut self, sender: u32, reflector: u32, t3: u64) -> bool {
-        let number = unsafe {
-            timed_accept(
-                &mut self.state,
-                self.keys.as_mut_ptr(),
-                ROWS,
-                self.slots.as_mut_ptr(),
-                ROWS,
-                self.probes.as_mut_ptr(),
-                ROWS,
-                self.links.as_mut_ptr(),
-                ROWS,
-                sender,
-                reflector,
-                t3,
-                &mut self.answer,
-            )
+        let Link { ledger, rooms: r, watch } = &mut self.link;
+        let (keys, slots, probes, links) = (&mut r.keys, &mut r.slots, &mut r.probes, &mut r.links);
+        let answer = &mut self.answer;
+        let number = match watch {
+            None => calls::accept(ledger, keys, slots, probes, links, sender, reflector, t3, 0, 0, 0, answer),
+            Some(w) => {
+                let (monitor, queue) = (&mut w.monitor, &mut w.queue);
+                calls::watched_accept(ledger, monitor, keys, slots, probes, links, queue, sender, reflector, t3, 0, 0, 0, answer)
+            }
         };
         assert_eq!(number, 0);
         self.answer[0] == 2
     }
 
-    // The lookup and the conversion of what it shows: what the host does before it hands over a reply with a follow-up.
-    fn look(&mut self, told: &mut [u64; 12]) {
-        let (own, follow) = ((told[0] >> 32) as u32, told[8] as u32);
-        let number = unsafe {
-            timed_lookup(
-                &self.state,
-                self.keys.as_ptr(),
-                ROWS,
-                self.slots.as_ptr(),
-                ROWS,
-                self.links.as_ptr(),
-                ROWS,
-                own,
-                follow,
-                told[9],
-                &mut self.answer,
-            )
-        };
+    fn lookup(&mut self, told: &Observation) {
+        let r = &self.link.rooms;
+        let (own, sequence, timestamp) = (told.reflector, told.follow_up_sequence, told.follow_up_timestamp);
+        let number = calls::lookup(&self.link.ledger, &r.keys, &r.slots, &r.links, own, sequence, timestamp, 0, &mut self.found);
         assert_eq!(number, 0);
-        if self.answer[0] == 1 {
-            let converted = Ledger::converted(told[9], self.answer[1] == 1, self.answer[2] as i64, 0);
-            told[10] = converted.expect("a time") as u64;
+    }
+
+    // What a host does between the lookup and the observe; the original does it inside its own call.
+    fn convert(&self, told: &mut Observation) {
+        if self.found[0] == 1 {
+            let converted = Ledger::converted(told.follow_up_timestamp, self.found[1] == 1, self.found[2] as i64, 0);
+            told.converted_t3 = converted.expect("a time") as i64;
+            told.flags |= calls::CONVERTED_T3;
         }
     }
 
-    fn hand_over(&mut self, told: &[u64; 12]) {
-        let number = unsafe {
-            timed_observe(
-                &mut self.state,
-                self.keys.as_ptr(),
-                ROWS,
-                self.slots.as_mut_ptr(),
-                ROWS,
-                self.offsets.as_mut_ptr(),
-                ROWS,
-                self.links.as_mut_ptr(),
-                ROWS,
-                told,
-            )
-        };
-        assert_eq!(number, 0);
+    fn hand_over(&mut self, told: &Observation) {
+        let Link { ledger, rooms: r, .. } = &mut self.link;
+        assert_eq!(calls::observe(ledger, &r.keys, &mut r.slots, &mut r.offsets, &mut r.links, told), 0);
+    }
+
+    fn observe(&mut self, words: &[u64; 12]) {
+        let mut told = told_of(words);
+        if told.flags & calls::FOLLOW_UP != 0 {
+            self.lookup(&told);
+            self.convert(&mut told);
+        }
+        self.hand_over(black_box(&told));
+    }
+
+    fn answered(&self, sequence: u32) -> bool {
+        let mut answer = [0];
+        assert_eq!(calls::answered(&self.link.ledger, &self.link.rooms.probes, &self.link.rooms.links, sequence, &mut answer), 0);
+        answer[0] == 1
     }
 }
 
-// What a host does for a reply, on either side: the original converts inside its own call.
-impl Ours {
-    fn observe(&mut self, told: &mut [u64; 12]) {
-        self.look(told);
-        self.hand_over(told);
-    }
-}
-
-// What the observe of reply i is told.
-fn told(sender: u32, i: u64) -> [u64; 12] {
+// What the observe of reply i is told, in plain words: numbers, T3, round trip, T4, reference, ordinal, counters in two words, the follow-up's
+// sequence and timestamp, 1 if there are no counters and no follow-up, the estimates as on the wire.
+fn words(sender: u32, i: u64, bare: bool) -> [u64; 12] {
     let n = u64::from(i as u32);
-    [
-        u64::from(sender) | n << 32,
-        i,
-        20_000_000 + i % 1000,
-        1_790_000_000_000_000_000,
-        1_790_000_000,
-        n,
-        n | n << 32,
-        n,
-        u64::from(i as u32 - 1),
-        (1_790_000_000 << 32) + i % 1000,
-        0,
-        0xcb09_ca07,
-    ]
+    let timestamp = (1_790_000_000 << 32) + i % 1000;
+    let (numbers, rtt, before) = (u64::from(sender) | n << 32, 20_000_000 + i % 1000, u64::from((i as u32).wrapping_sub(1)));
+    [numbers, i, rtt, 1_790_000_000_000_000_000, 1_790_000_000, n, n | n << 32, n, before, timestamp, u64::from(bare), 0xcb09_ca07]
 }
 
-// What is called, on either side.
+fn told_of(w: &[u64; 12]) -> Observation {
+    let there = if w[10] == 0 { calls::COUNTERS | calls::FOLLOW_UP } else { 0 };
+    Observation {
+        t3: w[1],
+        round_trip: w[2],
+        t4: w[3] as i64,
+        reference: w[4] as i64,
+        follow_up_timestamp: w[9],
+        sender: w[0] as u32,
+        reflector: (w[0] >> 32) as u32,
+        ordinal: w[5] as u32,
+        s_txc: w[6] as u32,
+        r_rxc: (w[6] >> 32) as u32,
+        r_txc: w[7] as u32,
+        follow_up_sequence: w[8] as u32,
+        sender_estimate: w[11] as u16,
+        reflector_estimate: (w[11] >> 16) as u16,
+        flags: calls::T4 | calls::ORDINAL | calls::ESTIMATES | calls::PTP | there,
+        ..Observation::default()
+    }
+}
+
+// What is called, on either side, at full tables.
 #[derive(Clone, Copy, PartialEq)]
 enum Stream {
     Unique,
     Duplicate,
+    Unknown,
     New,
     Held(u64),
     Observed,
@@ -194,47 +145,119 @@ macro_rules! turn {
         match $stream {
             Stream::Unique => assert!($ledger.accept(held, n, $i)),
             Stream::Duplicate => assert!(!$ledger.accept(held, held, u64::from(held))),
+            Stream::Unknown => assert!(!$ledger.accept(n + 1_000_000, n, $i)),
             Stream::New => $ledger.sent(n, n, $i),
-            Stream::Held(distance) => $ledger.sent((5000 - $i % distance) as u32, n, $i),
+            Stream::Held(distance) => $ledger.sent((FULL - $i % distance) as u32, n, $i),
             Stream::Observed => {
                 assert!($ledger.accept(held, n, $i));
-                $ledger.observe(black_box(&mut told(held, $i)));
+                $ledger.observe(black_box(&words(held, $i, false)));
             }
             Stream::Three => {
                 $ledger.sent(n, n, $i);
                 assert!($ledger.accept(n, n, $i));
-                $ledger.observe(black_box(&mut told(n, $i)));
+                $ledger.observe(black_box(&words(n, $i, false)));
             }
         }
     }};
 }
 
 pub fn rows(table: &mut Table) {
+    fresh(table);
+    for few in [true, false] {
+        alone(table, few);
+    }
+    full(table);
+    watched(table);
+    readers(table);
+}
+
+fn fresh(table: &mut Table) {
+    let mut ledger = [0; 72];
+    let mut original = Timed::new(1);
+    table.row(
+        "`ledger_fresh`",
+        1000,
+        1,
+        || {
+            calls::ledger_fresh(black_box(&mut ledger), 1, &SECRET);
+        },
+        || {
+            black_box(&mut original).fresh(black_box(1));
+        },
+    );
+}
+
+// Each call of an ordinary turn between stamps.
+fn alone(table: &mut Table, few: bool) {
+    for (which, name) in ["`sent`", "`accept`, unique", "`lookup`", "`observe`, all that it can be told", "`observe`, a round trip"].iter().enumerate() {
+        let (mut ours, mut original) = (Ours::new(), Timed::new(1));
+        let (mut i, mut j) = (0u64, 0u64);
+        let mut ours_turn = |watch: &mut Stopwatch| {
+            i += 1;
+            if few && i % FEW == 0 {
+                calls::ledger_fresh(&mut ours.link.ledger, 1, &SECRET);
+            }
+            let (n, i) = (i as u32, i);
+            let mut told = told_of(&words(n, i, which == 4));
+            timed(watch, which == 0, || ours.sent(black_box(n), n, i));
+            assert!(timed(watch, which == 1, || ours.accept(black_box(n), n, i)));
+            if which < 4 {
+                timed(watch, which == 2, || ours.lookup(black_box(&told)));
+                ours.convert(&mut told);
+            }
+            timed(watch, which > 2, || ours.hand_over(black_box(&told)));
+        };
+        let mut original_turn = |watch: &mut Stopwatch| {
+            j += 1;
+            if few && j % FEW == 0 {
+                original.fresh(1);
+            }
+            let (n, j) = (j as u32, j);
+            let told = words(n, j, which == 4);
+            timed(watch, which == 0, || original.sent(black_box(n), n, j));
+            assert!(timed(watch, which == 1, || original.accept(black_box(n), n, j)));
+            timed(watch, which > 2, || original.observe(black_box(&told)));
+        };
+        let mut idle = Stopwatch::new();
+        for _ in 0..if few { 1 } else { FULL } {
+            ours_turn(&mut idle);
+            original_turn(&mut idle);
+        }
+        let name = format!("{name}; {}", if few { "few entries" } else { "full tables" });
+        table.stamped(&name, 10_000, ours_turn, if which == 2 { None } else { Some(&mut original_turn) });
+    }
+}
+
+fn timed<T>(watch: &mut Stopwatch, is: bool, call: impl FnOnce() -> T) -> T {
+    if is {
+        watch.around(call)
+    } else {
+        call()
+    }
+}
+
+// Calls one after the other, so that one starts while the one before is still at work.
+fn full(table: &mut Table) {
     let streams = [
-        ("`sent`, a new sequence", Stream::New, 20_000),
-        ("`sent`, a held sequence: the newest", Stream::Held(1), 300),
-        ("`sent`, a held sequence: the middle one", Stream::Held(2048), 300),
-        ("`sent`, a held sequence: the oldest", Stream::Held(4096), 300),
+        ("`sent` of a new sequence", Stream::New, 20_000),
+        ("`sent` of a held sequence, the newest", Stream::Held(1), 300),
+        ("`sent` of a held sequence, in the middle", Stream::Held(2048), 300),
+        ("`sent` of a held sequence, the oldest", Stream::Held(4096), 300),
         ("`accept`, unique, none observed", Stream::Unique, 20_000),
         ("`accept`, duplicate", Stream::Duplicate, 20_000),
-        ("`accept`, lookup and `observe`", Stream::Observed, 20_000),
-        ("`sent`, `accept`, lookup and `observe`", Stream::Three, 20_000),
+        ("`accept`, unknown", Stream::Unknown, 20_000),
+        ("`accept`, `lookup`, the conversion, `observe`", Stream::Observed, 20_000),
+        ("`sent` and these", Stream::Three, 20_000),
     ];
     for (name, stream, times) in streams {
         let (mut ours, mut original) = (Ours::new(), Timed::new(1));
-        for i in 1..=5000u64 {
-            turn!(ours, Stream::Three, i);
-            turn!(original, Stream::Three, i);
+        // No reply of the stream of unique ones is observed, so none of its start is.
+        let start = if stream == Stream::Unique { Stream::New } else { Stream::Three };
+        for i in 1..=FULL {
+            turn!(ours, start, i);
+            turn!(original, start, i);
         }
-        let (mut i, mut j) = (5000u64, 5000u64);
-        if stream == Stream::Unique {
-            // No reply of this stream is observed, so none of its start is.
-            (ours, original) = (Ours::new(), Timed::new(1));
-            for i in 1..=5000u64 {
-                turn!(ours, Stream::New, i);
-                turn!(original, Stream::New, i);
-            }
-        }
+        let (mut i, mut j) = (FULL, FULL);
         if let Stream::Held(distance) = stream {
             // Once round, so that each sequence stands where it was sent so many calls before.
             for _ in 0..distance {
@@ -245,7 +268,7 @@ pub fn rows(table: &mut Table) {
             }
         }
         table.row(
-            name,
+            &format!("{name}, in a row; full tables"),
             times,
             1,
             || {
@@ -259,46 +282,78 @@ pub fn rows(table: &mut Table) {
         );
         same(&ours, &original);
     }
-    alone(table);
 }
 
-// Each call of a row of three alone, between stamps.
-fn alone(table: &mut Table) {
-    let (mut ours, mut original) = (Ours::new(), Timed::new(1));
-    for i in 1..=5000u64 {
-        turn!(ours, Stream::Three, i);
-        turn!(original, Stream::Three, i);
+// With a monitor, whose queue the probe of the turn is in.
+fn watched(table: &mut Table) {
+    let (mut ours, mut original) = (Ours::watched(), Timed::watched(1));
+    let (mut i, mut j) = (0u64, 0u64);
+    let mut ours_turn = || {
+        i += 1;
+        turn!(ours, Stream::Three, black_box(i));
+    };
+    let mut original_turn = || {
+        j += 1;
+        turn!(original, Stream::Three, black_box(j));
+    };
+    for _ in 0..FULL {
+        ours_turn();
+        original_turn();
     }
-    let (mut i, mut j) = (5000u64, 5000u64);
-    table.stamped(
-        "`observe` alone, with counters and follow-up",
-        10_000,
-        |watch| {
-            i += 1;
-            let n = i as u32;
-            ours.sent(n, n, i);
-            assert!(ours.accept(n, n, i));
-            let mut what = told(n, i);
-            ours.look(black_box(&mut what));
-            watch.around(|| ours.hand_over(black_box(&what)));
-        },
-        |watch| {
-            j += 1;
-            let n = j as u32;
-            original.sent(n, n, j);
-            assert!(original.accept(n, n, j));
-            let what = told(n, j);
-            watch.around(|| original.observe(black_box(&what)));
-        },
-    );
+    table.row("`watched_sent`, `watched_accept`, `lookup`, the conversion, `observe`, in a row; full tables", 20_000, 1, ours_turn, original_turn);
     same(&ours, &original);
 }
 
-fn same(ours: &Ours, original: &Timed) {
-    {
-        let s = original.snapshot();
-        let counts = [s.requested_replies, s.unique_replies, s.duplicate_replies, s.probes_evicted, s.replies_evicted, s.follow_up.matched];
-        let shown = [11, 12, 13, 23, 24, 45].map(|word| ours.state[word]);
-        assert_eq!(shown, counts, "the two must show the same");
+fn readers(table: &mut Table) {
+    let (mut ours, mut original) = (Ours::new(), Timed::new(1));
+    for i in 1..=FULL {
+        turn!(ours, Stream::Three, i);
+        turn!(original, Stream::Three, i);
     }
+    let (mut i, mut j) = (0u32, 0u32);
+    table.row(
+        "`answered`; full tables",
+        20_000,
+        1,
+        || {
+            i = i.wrapping_add(7);
+            black_box(ours.answered(black_box(2000 + i % 3000)));
+        },
+        || {
+            j = j.wrapping_add(7);
+            black_box(original.answered(black_box(2000 + j % 3000)));
+        },
+    );
+    let mut answer = [0];
+    table.row(
+        "`needs_burst_wait`",
+        20_000,
+        1,
+        || {
+            calls::needs_burst_wait(black_box(&ours.link.ledger), black_box(&mut answer));
+        },
+        || {
+            black_box(black_box(&original).needs_burst_wait());
+        },
+    );
+    let mut shown = Figures::default();
+    table.row(
+        "`snapshot`",
+        20_000,
+        1,
+        || {
+            calls::snapshot(black_box(&ours.link.ledger), black_box(&mut shown));
+        },
+        || {
+            black_box(black_box(&original).snapshot());
+        },
+    );
+}
+
+fn same(ours: &Ours, original: &Timed) {
+    let (f, s) = (ours.link.snapshot(), original.snapshot());
+    let counts = [s.requested_replies, s.unique_replies, s.duplicate_replies, s.unknown_replies, s.probes_evicted, s.replies_evicted, s.follow_up.matched];
+    let shown = [f.requested, f.unique, f.duplicate, f.unknown, f.probes_evicted, f.replies_evicted, f.follow_up.matched];
+    assert_eq!(shown, counts, "the two must show the same");
+    assert_eq!(ours.link.rooms.keys.len(), ROWS);
 }

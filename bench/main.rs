@@ -1,10 +1,13 @@
-// The benchmark: rows of calls, the proved one and the original's. A crate adds a file with its own `rows`, and a line here.
+// The benchmark: each call of the library, as a host links it, beside the original's in one process.
 #![allow(dead_code)]
 
 mod ledger;
+mod monitor;
+mod numbers;
 mod quantiles;
 mod stopwatch;
 mod table;
+mod texts;
 
 // The original's own modules, under the names that its texts use: compare/ has put them there.
 #[path = "../compare/target/texts/clock_format.rs"]
@@ -27,7 +30,10 @@ pub mod tlv;
 
 fn main() {
     let mut table = table::Table::new();
-    quantiles::rows(&mut table);
     ledger::rows(&mut table);
+    monitor::rows(&mut table);
+    numbers::rows(&mut table);
+    quantiles::rows(&mut table);
+    texts::rows(&mut table);
     table.print();
 }

@@ -3,7 +3,7 @@ use crate::stopwatch::Stopwatch;
 use std::time::Instant;
 
 pub struct Table {
-    rows: Vec<(String, f64, f64)>,
+    rows: Vec<(String, f64, Option<f64>)>,
 }
 
 const TURNS: usize = 40;
@@ -18,8 +18,9 @@ fn once(times: usize, call: &mut dyn FnMut()) -> f64 {
 
 fn machine() -> String {
     let cpu = std::fs::read_to_string("/proc/cpuinfo").unwrap_or_default();
-    let model = cpu.lines().find(|l| l.starts_with("model name") || l.starts_with("CPU part")).unwrap_or("").to_string();
-    format!("{} {}", std::env::consts::ARCH, model.replace('\t', "")).trim().to_string()
+    let named = |l: &&str| l.starts_with("model name") || l.starts_with("CPU part");
+    let model = cpu.lines().find(named).and_then(|l| l.split(':').nth(1)).unwrap_or("").trim().to_string();
+    format!("{} {model}", std::env::consts::ARCH)
 }
 
 impl Table {
@@ -34,12 +35,18 @@ impl Table {
             a = a.min(once(times, &mut ours));
             b = b.min(once(times, &mut original));
         }
-        self.rows.push((name.to_string(), a / each as f64, b / each as f64));
+        self.rows.push((name.to_string(), a / each as f64, Some(b / each as f64)));
     }
 
-    // The same for a call that stands among others: each turn of `times` goes by the stopwatch that runs around the one call. What an empty
-    // pair of stamps takes is taken off on both sides.
-    pub fn stamped(&mut self, name: &str, times: usize, mut ours: impl FnMut(&mut Stopwatch), mut original: impl FnMut(&mut Stopwatch)) {
+    // A call that the original has not.
+    pub fn alone(&mut self, name: &str, times: usize, mut ours: impl FnMut()) {
+        let least = (0..TURNS).map(|_| once(times, &mut ours)).fold(f64::MAX, f64::min);
+        self.rows.push((name.to_string(), least, None));
+    }
+
+    // A call that stands among others: each turn of `times` goes by the stopwatch that runs around the one call. What an empty pair of
+    // stamps takes is taken off on both sides. Such a call starts when all before it is done, so it takes longer than in a row of its own.
+    pub fn stamped(&mut self, name: &str, times: usize, mut ours: impl FnMut(&mut Stopwatch), mut original: Option<&mut dyn FnMut(&mut Stopwatch)>) {
         let (mut a, mut b, mut empty) = (f64::MAX, f64::MAX, f64::MAX);
         let turn = |call: &mut dyn FnMut(&mut Stopwatch)| {
             let mut watch = Stopwatch::new();
@@ -50,17 +57,34 @@ impl Table {
         };
         for _ in 0..TURNS {
             a = a.min(turn(&mut ours));
-            b = b.min(turn(&mut original));
+            if let Some(original) = &mut original {
+                b = b.min(turn(original));
+            }
             empty = empty.min(turn(&mut |watch| watch.around(|| {})));
         }
-        self.rows.push((name.to_string(), a - empty, b - empty));
+        self.rows.push((name.to_string(), a - empty, original.map(|_| b - empty)));
     }
 
     pub fn print(&self) {
         println!("machine: {}", machine());
-        println!("| call | ns | original's ns | ratio |\n|---|---|---|---|");
+        println!("| Call | ns | Original's ns | Ratio |\n|---|---|---|---|");
         for (name, a, b) in &self.rows {
-            println!("| {} | {:.1} | {:.1} | {:.2} |", name, a, b, a / b);
+            match b {
+                Some(b) => println!("| {name} | {} | {} | {:.2} |", shown(*a), shown(*b), a / b),
+                None => println!("| {name} | {} | it has none | |", shown(*a)),
+            }
         }
     }
+}
+
+// Three digits are enough; thousands are set apart.
+fn shown(ns: f64) -> String {
+    if ns < 99.95 {
+        return format!("{ns:.1}");
+    }
+    let whole = ns.round() as u64;
+    if whole < 1000 {
+        return whole.to_string();
+    }
+    format!("{},{:03}", whole / 1000, whole % 1000)
 }

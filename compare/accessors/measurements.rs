@@ -367,10 +367,29 @@ impl Timed {
             base: Instant::now(),
         }
     }
+    /// With a monitor that waits for a second.
+    pub fn watched(copies: u16) -> Self {
+        let mut timed = Self::new(copies);
+        let monitor = super::session_state::Monitor::new(3, Duration::from_secs(1));
+        timed.inner.monitor = Some(monitor);
+        timed
+    }
+    #[inline(never)]
+    pub fn fresh(&mut self, copies: u16) {
+        self.inner = Measurements::new(copies);
+    }
     #[inline(never)]
     pub fn sent(&mut self, sequence: u32, ordinal: u32, tag: u64) {
         let packet = PendingPacket::new(self.base, tag);
         self.inner.sent(sequence, packet, ordinal);
+    }
+    #[inline(never)]
+    pub fn answered(&self, sequence: u32) -> bool {
+        self.inner.answered(sequence)
+    }
+    #[inline(never)]
+    pub fn needs_burst_wait(&self) -> bool {
+        self.inner.needs_burst_wait()
     }
     /// Whether the reply is unique.
     #[inline(never)]
@@ -382,7 +401,7 @@ impl Timed {
         };
         self.inner.accept(key, None).is_some()
     }
-    /// The words of bench/ledger/observe.rt.txt.
+    /// The words of bench/ledger.rs.
     #[inline(never)]
     pub fn observe(&mut self, w: &[u64; 12]) {
         let wires = w[11];
@@ -398,12 +417,12 @@ impl Timed {
             reference: w[4] as i64,
             offset: 0,
             ordinal: Some(w[5] as u32),
-            dm: Some(DirectMeasurementTlv {
+            dm: (w[10] == 0).then_some(DirectMeasurementTlv {
                 sender_tx_count: w[6] as u32,
                 reflector_rx_count: (w[6] >> 32) as u32,
                 reflector_tx_count: w[7] as u32,
             }),
-            follow: Some(FollowUpTelemetryTlv {
+            follow: (w[10] == 0).then_some(FollowUpTelemetryTlv {
                 sequence_number: w[8] as u32,
                 follow_up_timestamp: w[9],
                 timestamp_mode: TimestampMethod::HardwareAssist,
@@ -414,6 +433,7 @@ impl Timed {
             )),
         });
     }
+    #[inline(never)]
     pub fn snapshot(&self) -> MeasurementSummary {
         self.inner.snapshot()
     }

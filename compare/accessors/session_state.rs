@@ -83,3 +83,59 @@ pub(super) fn watched(monitor: &Monitor, base: Instant) -> (Summary, bool, Vec<(
     });
     (monitor.summary(), monitor.transmitting, queue.collect())
 }
+
+/// A monitor of the original for bench/, with a moment at hand so that none is made inside a call: `early` and what comes after it.
+pub struct Timing {
+    monitor: Monitor,
+    base: Instant,
+    later: Instant,
+}
+
+impl Timing {
+    #[allow(clippy::new_without_default)]
+    pub fn new() -> Self {
+        let base = Instant::now();
+        Self {
+            monitor: Monitor::new(3, Duration::from_secs(1)),
+            base,
+            later: base + Duration::from_nanos(1),
+        }
+    }
+    #[inline(never)]
+    pub fn fresh(&mut self) {
+        self.monitor = Monitor::new(3, Duration::from_secs(1));
+    }
+    /// A probe is due 1 ns after it was sent.
+    pub fn at_once(&mut self) {
+        self.monitor = Monitor::new(3, Duration::from_nanos(1));
+    }
+    #[inline(never)]
+    pub fn sent(&mut self, seq: u32, _: u64) {
+        self.monitor.sent(seq, self.base);
+    }
+    #[inline(never)]
+    pub fn reply(&mut self, seq: u32) {
+        self.monitor.reply(seq, self.base);
+    }
+    #[inline(never)]
+    pub fn advance(&mut self, _: u64) {
+        self.monitor.advance(self.later);
+    }
+    #[inline(never)]
+    pub fn idle(&mut self) {
+        self.monitor.idle();
+    }
+    #[inline(never)]
+    pub fn deadline(&self) -> Option<Instant> {
+        self.monitor.deadline()
+    }
+    #[inline(never)]
+    pub fn summary(&self) -> Summary {
+        self.monitor.summary()
+    }
+    /// The state, and how often it became active.
+    pub fn shown(&self) -> (u64, u64) {
+        let s = self.monitor.summary();
+        (s.state as u64, s.active_notifications)
+    }
+}
