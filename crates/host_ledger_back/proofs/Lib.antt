@@ -1,0 +1,4 @@
+pub mod Accept
+pub mod Observe
+pub mod Sent
+pub mod Spelled
