@@ -16,6 +16,10 @@ pub const ALL: &[Part] = &[
     ledger::PART,
     #[cfg(feature = "host")]
     ledger::hosted::HOSTED,
+    #[cfg(feature = "host")]
+    monitor::hosted::HOSTED,
+    #[cfg(feature = "host")]
+    quantiles::hosted::HOSTED,
 ];
 
 /// Document 01: a count at this or beyond is refused.

@@ -1,4 +1,6 @@
 //! The monitor (session_state.rs).
+#[cfg(feature = "host")]
+pub mod hosted;
 mod scripts;
 
 use super::{CAPACITY, COUNTS_FULL, COUNT_BOUND, DEADLINE_PASSES, QUEUE_FULL};

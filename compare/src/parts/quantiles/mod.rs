@@ -1,4 +1,6 @@
 //! Quantiles (quantiles.rs), unsigned and signed.
+#[cfg(feature = "host")]
+pub mod hosted;
 mod scripts;
 
 use super::WRONG_ROOM;

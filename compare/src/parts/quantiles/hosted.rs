@@ -1,0 +1,99 @@
+//! The same scripts through the library that hosts link, in this process: the port's side of part `host_quantiles`.
+use super::{BUCKET, DIGEST, FRESH, LOAD, PART, PERCENTILE, PERCENTILE_SHORT, RECORD, RECORD_SHORT};
+use crate::{digest::Digest, part::Part};
+use ambrulicciu::{calls, Value};
+
+pub const HOSTED: Part = Part {
+    name: "host_quantiles",
+    program: "-",
+    here: Some(play),
+    ..PART
+};
+
+/// The words of a series (signed, count, minimum, maximum) and its room.
+struct Series {
+    words: [u64; 4],
+    room: Vec<u64>,
+}
+
+impl Series {
+    fn fresh(signed: bool) -> Self {
+        let size = if signed {
+            <i64 as Value>::ROOM
+        } else {
+            <u64 as Value>::ROOM
+        };
+        let mut words = [u64::MAX; 4];
+        calls::quantiles_fresh(&mut words, signed.into());
+        // A room may hold anything.
+        let room = vec![u64::MAX; size];
+        Self { words, room }
+    }
+
+    /// The refusal, whether it was recorded or shows a value, and the value.
+    fn play(&mut self, call: &[u64]) -> [u64; 3] {
+        let lent = self.room.len() - if call[0] >= RECORD_SHORT { call[2] as usize } else { 0 };
+        match call[0] {
+            FRESH => *self = Self::fresh(call[1] != 0),
+            RECORD | RECORD_SHORT => {
+                let mut recorded = [0];
+                let room = &mut self.room[..lent];
+                let number = calls::quantiles_record(&mut self.words, room, call[1], &mut recorded);
+                return [number.into(), recorded[0], 0];
+            }
+            PERCENTILE | PERCENTILE_SHORT => {
+                let (percents, room) = ([f64::from_bits(call[1])], &self.room[..lent]);
+                let (mut shown, mut present) = ([0], [0]);
+                let number = calls::quantiles_percentiles(
+                    &self.words,
+                    room,
+                    &percents,
+                    &mut shown,
+                    &mut present,
+                );
+                return [number.into(), present[0], shown[0]];
+            }
+            LOAD => {
+                self.room[4096..].fill(0);
+                self.words[1..].copy_from_slice(&call[1..4]);
+            }
+            BUCKET => self.room[4096 + call[1] as usize] = call[2],
+            _ => panic!("no operation {}", call[0]),
+        }
+        [0; 3]
+    }
+
+    /// Of the samples in their order, or of each bucket that is not empty with its place.
+    fn digest(&self) -> Digest {
+        let count = self.words[1] as usize;
+        if self.words[1] <= 4096 {
+            return self.room[..count].iter().copied().collect();
+        }
+        let filled = self.room[4096..].iter().enumerate();
+        filled
+            .filter(|(_, n)| **n > 0)
+            .fold(Digest::default(), |d, (i, n)| d.then(i as u64).then(*n))
+    }
+}
+
+fn play(given: &[u8]) -> Vec<u8> {
+    let mut series = Series::fresh(false);
+    let mut written = Vec::with_capacity(given.len());
+    for bytes in given.chunks_exact(64) {
+        let words = bytes.chunks_exact(8);
+        let call: Vec<u64> = words
+            .map(|b| u64::from_le_bytes(b.try_into().unwrap()))
+            .collect();
+        let [refusal, flag, value] = series.play(&call);
+        let d = if call[DIGEST] == 1 {
+            series.digest()
+        } else {
+            Digest::default()
+        };
+        let [_, count, min, max] = series.words;
+        for word in [refusal, flag, value, count, min, max, d.first, d.second] {
+            written.extend_from_slice(&word.to_le_bytes());
+        }
+    }
+    written
+}
