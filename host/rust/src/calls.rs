@@ -54,6 +54,43 @@ pub struct Queued {
 
 const _: () = assert!(std::mem::size_of::<Queued>() == 24);
 
+/// What a record of a log says was told to `sent`.
+#[repr(C)]
+#[derive(Clone, Copy, Debug, Default, PartialEq, Eq)]
+pub struct SentCall {
+    pub time: u64,
+    pub tag: u64,
+    pub sequence: u32,
+    pub ordinal: u32,
+}
+
+/// And to `accept`.
+#[repr(C)]
+#[derive(Clone, Copy, Debug, Default, PartialEq, Eq)]
+pub struct AcceptCall {
+    pub t3: u64,
+    pub time: u64,
+    pub tag: u64,
+    pub sender: u32,
+    pub reflector: u32,
+    pub pending: u32,
+    pub unused: u32,
+}
+
+/// A record of a log: its kind (0 sent, 1 accept, 2 observe, 3 advance, 4 idle) and what that call was told; the others are zeros.
+#[repr(C)]
+#[derive(Clone, Copy, Debug, Default, PartialEq, Eq)]
+pub struct Call {
+    pub kind: u32,
+    pub unused: u32,
+    pub sent: SentCall,
+    pub accept: AcceptCall,
+    pub observation: Observation,
+    pub now: u64,
+}
+
+const _: () = assert!(std::mem::size_of::<Call>() == 44 * 4);
+
 extern "C" {
     fn ambrulicciu_ledger_fresh(ledger: &mut [u64; 72], copies: u16, secret: &[u32; 8]) -> u8;
     fn ambrulicciu_sent(
@@ -190,10 +227,10 @@ extern "C" {
         shown_length: usize,
         present: &mut [u64; 1],
     ) -> u8;
-    fn ambrulicciu_log_write_sent(record: *mut u8, record_length: usize, sequence: u32, ordinal: u32, time: u64, tag: u64) -> u8;
+    fn ambrulicciu_log_write_sent(bytes: *mut u8, bytes_length: usize, sequence: u32, ordinal: u32, time: u64, tag: u64) -> u8;
     fn ambrulicciu_log_write_accept(
-        record: *mut u8,
-        record_length: usize,
+        bytes: *mut u8,
+        bytes_length: usize,
         sender: u32,
         reflector: u32,
         t3: u64,
@@ -201,12 +238,13 @@ extern "C" {
         time: u64,
         tag: u64,
     ) -> u8;
-    fn ambrulicciu_log_write_observe(record: *mut u8, record_length: usize, observation: &Observation) -> u8;
-    fn ambrulicciu_log_write_advance(record: *mut u8, record_length: usize, now: u64) -> u8;
-    fn ambrulicciu_log_write_idle(record: *mut u8, record_length: usize) -> u8;
-    fn ambrulicciu_log_write_trailer(trailer: *mut u8, trailer_length: usize, count: u32, copies: u16, threshold: u16, timeout: u64) -> u8;
+    fn ambrulicciu_log_write_observe(bytes: *mut u8, bytes_length: usize, observation: &Observation) -> u8;
+    fn ambrulicciu_log_write_advance(bytes: *mut u8, bytes_length: usize, time: u64) -> u8;
+    fn ambrulicciu_log_write_idle(bytes: *mut u8, bytes_length: usize) -> u8;
+    fn ambrulicciu_log_write_trailer(bytes: *mut u8, bytes_length: usize, count: u32, copies: u16, threshold: u16, timeout: u64) -> u8;
     fn ambrulicciu_log_check(log: *const u8, log_length: usize, answer: &mut [u64; 4]) -> u8;
     fn ambrulicciu_log_first_bad(log: *const u8, log_length: usize, answer: &mut [u64; 1]) -> u8;
+    fn ambrulicciu_log_read(log: *const u8, log_length: usize, at: u32, call: &mut Call) -> u8;
     fn ambrulicciu_report_log(
         log: *const u8,
         log_length: usize,
@@ -513,28 +551,28 @@ pub fn quantiles_percentiles(quantiles: &[u64; 4], room: &[u64], percents: &[f64
     }
 }
 
-pub fn log_write_sent(record: &mut [u8], sequence: u32, ordinal: u32, time: u64, tag: u64) -> u8 {
-    unsafe { ambrulicciu_log_write_sent(record.as_mut_ptr(), record.len(), sequence, ordinal, time, tag) }
+pub fn log_write_sent(bytes: &mut [u8], sequence: u32, ordinal: u32, time: u64, tag: u64) -> u8 {
+    unsafe { ambrulicciu_log_write_sent(bytes.as_mut_ptr(), bytes.len(), sequence, ordinal, time, tag) }
 }
 
-pub fn log_write_accept(record: &mut [u8], sender: u32, reflector: u32, t3: u64, pending: u32, time: u64, tag: u64) -> u8 {
-    unsafe { ambrulicciu_log_write_accept(record.as_mut_ptr(), record.len(), sender, reflector, t3, pending, time, tag) }
+pub fn log_write_accept(bytes: &mut [u8], sender: u32, reflector: u32, t3: u64, pending: u32, time: u64, tag: u64) -> u8 {
+    unsafe { ambrulicciu_log_write_accept(bytes.as_mut_ptr(), bytes.len(), sender, reflector, t3, pending, time, tag) }
 }
 
-pub fn log_write_observe(record: &mut [u8], observation: &Observation) -> u8 {
-    unsafe { ambrulicciu_log_write_observe(record.as_mut_ptr(), record.len(), observation) }
+pub fn log_write_observe(bytes: &mut [u8], observation: &Observation) -> u8 {
+    unsafe { ambrulicciu_log_write_observe(bytes.as_mut_ptr(), bytes.len(), observation) }
 }
 
-pub fn log_write_advance(record: &mut [u8], now: u64) -> u8 {
-    unsafe { ambrulicciu_log_write_advance(record.as_mut_ptr(), record.len(), now) }
+pub fn log_write_advance(bytes: &mut [u8], time: u64) -> u8 {
+    unsafe { ambrulicciu_log_write_advance(bytes.as_mut_ptr(), bytes.len(), time) }
 }
 
-pub fn log_write_idle(record: &mut [u8]) -> u8 {
-    unsafe { ambrulicciu_log_write_idle(record.as_mut_ptr(), record.len()) }
+pub fn log_write_idle(bytes: &mut [u8]) -> u8 {
+    unsafe { ambrulicciu_log_write_idle(bytes.as_mut_ptr(), bytes.len()) }
 }
 
-pub fn log_write_trailer(trailer: &mut [u8], count: u32, copies: u16, threshold: u16, timeout: u64) -> u8 {
-    unsafe { ambrulicciu_log_write_trailer(trailer.as_mut_ptr(), trailer.len(), count, copies, threshold, timeout) }
+pub fn log_write_trailer(bytes: &mut [u8], count: u32, copies: u16, threshold: u16, timeout: u64) -> u8 {
+    unsafe { ambrulicciu_log_write_trailer(bytes.as_mut_ptr(), bytes.len(), count, copies, threshold, timeout) }
 }
 
 /// Answer: count, copies, threshold, timeout.
@@ -544,6 +582,10 @@ pub fn log_check(log: &[u8], answer: &mut [u64; 4]) -> u8 {
 
 pub fn log_first_bad(log: &[u8], answer: &mut [u64; 1]) -> u8 {
     unsafe { ambrulicciu_log_first_bad(log.as_ptr(), log.len(), answer) }
+}
+
+pub fn log_read(log: &[u8], at: u32, call: &mut Call) -> u8 {
+    unsafe { ambrulicciu_log_read(log.as_ptr(), log.len(), at, call) }
 }
 
 pub fn report_log(

@@ -71,6 +71,13 @@ impl Log {
         Ok([&self.bytes[..], &trailer].concat())
     }
 
+    /// Record `at` of a log, from 0.
+    pub fn read(bytes: &[u8], at: u32) -> Result<calls::Call, Refusal> {
+        let mut call = calls::Call::default();
+        served(calls::log_read(bytes, at, &mut call))?;
+        Ok(call)
+    }
+
     /// Whether bytes are a log: its settings and how many records it has.
     pub fn check(bytes: &[u8]) -> Result<(Settings, u64), Refusal> {
         let mut answer = [0; 4];
