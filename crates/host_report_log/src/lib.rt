@@ -1,0 +1,37 @@
+// The report of a log (document 01, 'Log and program') for a host: the text that the program linkreport prints.
+ghost use mathlib.Core.Path.{_≡_};
+ghost use Rattle.link_play.specs.Played.{roomsOf};
+ghost use Rattle.host_told.specs.Told.{told};
+ghost use Rattle.host_report_log.specs.LogTold.{left, reportLogTo};
+
+// The report of a log at the start of `text`, and its length. The rooms and the text may hold anything; 5 where one has another size.
+// A log that is refused is served: the text then says whether it is 9, 7 or 8, and no room is changed.
+#[no_mangle]
+pub extern "C" fn ambrulicciu_report_log(
+    log: &[u8],
+    secret: &[u32; 8],
+    keys: &mut [[u64; 2]],
+    slots: &mut [[u64; 3]],
+    probes: &mut [[u64; 4]],
+    offsets: &mut [u32],
+    links: &mut [[u16; 8]],
+    text: &mut [u8],
+    length: &mut [u64; 1],
+) -> u8
+    ensures { λ r. ⌜ left (told r (now (text .exit)) (now (length .exit))) (roomsOf (now (keys .exit)) (now (slots .exit)) (now (probes .exit)) (now (offsets .exit)) (now (links .exit))) ≡ reportLogTo (now (log .entry)) (now (secret .entry)) (roomsOf (now (keys .entry)) (now (slots .entry)) (now (probes .entry)) (now (offsets .entry)) (now (links .entry))) (now (text .entry)) (now (length .entry)) ⌝ }
+{
+    let words = *secret;
+    let queue = [probe_queue::absent(); 4096];
+    let answer = link_report::report_log(
+        log,
+        words,
+        queue,
+        keys,
+        slots,
+        probes,
+        offsets,
+        links,
+        text,
+    );
+    host_told::tell(answer, length)
+}
