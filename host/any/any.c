@@ -431,7 +431,7 @@ static void try_writers(void) {
     n = bytes_of(AMBRULICCIU_TRAILER);
     bytes = lend(n, 0);
     ready();
-    done("log_write_trailer", ambrulicciu_log_write_trailer(bytes, n, (uint32_t)(drawn() % 690), (uint16_t)number(), (uint16_t)number(), number()), "59");
+    done("log_write_trailer", ambrulicciu_log_write_trailer(bytes, n, (uint32_t)(drawn() % 4 ? drawn() % 690 : number()), (uint16_t)number(), (uint16_t)number(), number()), "59");
 }
 
 /* A log of some records by the library's writers, of which a byte may be changed. */
