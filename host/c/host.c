@@ -218,7 +218,7 @@ int main(int argc, char **argv) {
     network_start(&net, seed);
     for (int i = 0; i < 8; i++)
         secret[i] = (uint32_t)drawn(&seed); /* a real host asks its system for random bytes */
-    start(&h, (uint16_t)below(&seed, 3), (uint16_t)below(&seed, 4), 100 * MS, secret);
+    start(&h, (uint16_t)net.kind.copies, (uint16_t)below(&seed, 4), 100 * MS, secret);
 
     /* a probe each 20 ms; its sequence may pass 2^32 */
     uint32_t first = below(&seed, 2) ? 0xffffffc0u : 0;

@@ -39,6 +39,7 @@ void network_start(network *net, uint64_t seed) {
     net->kind.ptp = below(&net->seed, 2);
     net->kind.silent_from = below(&net->seed, 200);
     net->kind.silent_to = net->kind.silent_from + below(&net->seed, 2) * 9;
+    net->kind.copies = 1 + below(&net->seed, 2);
 }
 
 static int happens(network *net, uint32_t share) {
@@ -52,14 +53,10 @@ static void fly(network *net, packet reply, uint64_t arrives) {
     net->flying[net->count++] = reply;
 }
 
-void network_send(network *net, uint64_t now, uint32_t sequence, uint32_t s_txc) {
-    uint64_t there = now + 8 * MS + below(&net->seed, 4 * MS);
+/* The reflector sends one reply, and the network loses, delays or repeats it. */
+static void reflect(network *net, uint64_t there, uint32_t sequence, uint32_t s_txc) {
     uint64_t back = there + 8 * MS + below(&net->seed, 4 * MS);
-    int silent = s_txc >= net->kind.silent_from && s_txc < net->kind.silent_to;
     packet reply = {0};
-    if (silent || happens(net, net->kind.lost))
-        return;
-    net->received++;
     reply.sender = sequence;
     reply.reflector = net->kind.own_count ? net->transmitted : sequence;
     net->transmitted++;
@@ -80,6 +77,16 @@ void network_send(network *net, uint64_t now, uint32_t sequence, uint32_t s_txc)
     fly(net, reply, back);
     if (happens(net, net->kind.repeated))
         fly(net, reply, back + below(&net->seed, 30) * (uint64_t)MS);
+}
+
+void network_send(network *net, uint64_t now, uint32_t sequence, uint32_t s_txc) {
+    uint64_t there = now + 8 * MS + below(&net->seed, 4 * MS);
+    int silent = s_txc >= net->kind.silent_from && s_txc < net->kind.silent_to;
+    if (silent || happens(net, net->kind.lost))
+        return;
+    net->received++;
+    for (uint32_t copy = 0; copy < net->kind.copies; copy++)
+        reflect(net, there + copy * MS, sequence, s_txc);
 }
 
 int network_receive(network *net, uint64_t now, packet *reply) {

@@ -18,6 +18,7 @@ typedef struct {
 
 /* What a link is like. Shares are of 1,000. */
 typedef struct {
+    uint32_t copies;    /* replies that the reflector sends for each probe */
     uint32_t lost;      /* of packets, each way */
     uint32_t repeated;  /* of replies */
     uint32_t delayed;   /* of replies, by up to 400 ms more */
