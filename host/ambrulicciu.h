@@ -15,6 +15,7 @@
  *   - A pointer points to as much memory as its type or its length says, aligned as C aligns that type, and is never null.
  *   - The memory lent to one call does not overlap, except where a call only reads it.
  *   - Each call on a link is given what the call before left: the state and all its rooms.
+ *   - The stack has room: 4 KB for a call, but 700 KB for ambrulicciu_report_log (measured on x86-64; more than some threads have).
  *   - There is no allocation and no global state. One link belongs to one thread at a time; different links share nothing.
  *
  * WHAT A LINK COSTS, in bytes
@@ -485,7 +486,7 @@ uint8_t ambrulicciu_log_read(const uint8_t *log, size_t log_length, uint32_t at,
  * written. The bytes behind stay as they are; there is no 0 at the end. */
 
 /* The report of a log, played from fresh in the rooms, which may hold anything; or `refused 9`, `refused 7`, `refused 8 at N` as text.
- * Refuses 5: a room or the buffer of another size. */
+ * It takes 700 KB of stack. Refuses 5: a room or the buffer of another size. */
 uint8_t ambrulicciu_report_log(const uint8_t *log, size_t log_length, const uint32_t secret[8], ambrulicciu_key *keys,
                                size_t keys_length, ambrulicciu_slot *slots, size_t slots_length, ambrulicciu_probe *probes,
                                size_t probes_length, uint32_t *offsets, size_t offsets_length, ambrulicciu_chain *links,
