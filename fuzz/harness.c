@@ -2,22 +2,20 @@
 //
 // All memory that is lent ends at a page that cannot be touched, and all but the log and the text begin behind one: a word read or
 // written outside stops the run.
-#include <stdint.h>
+#include "../host/ambrulicciu.h"
+
 #include <stdio.h>
 #include <stdlib.h>
 #include <string.h>
 #include <sys/mman.h>
 
 #define PAGE 4096u
-#define CAPACITY 4096u
-#define TEXT 1024u
-#define MOST_BYTES 65536u
-#define RECORD 96u
-#define TRAILER 24u
+#define CAPACITY AMBRULICCIU_ROWS
+#define TEXT AMBRULICCIU_TEXT
+#define MOST_BYTES AMBRULICCIU_LOG
+#define RECORD AMBRULICCIU_RECORD
+#define TRAILER AMBRULICCIU_TRAILER
 
-uint64_t fuzzed_report(const uint8_t *log, size_t log_size, const uint32_t secret[8], uint64_t *keys, size_t key_rows, uint64_t *slots,
-                       size_t slot_rows, uint64_t *probes, size_t probe_rows, uint32_t *offsets, size_t offset_rows, uint16_t *links,
-                       size_t link_rows, uint8_t *text, size_t text_size);
 size_t LLVMFuzzerMutate(uint8_t *data, size_t size, size_t most);
 
 static void fail(const char *why) {
@@ -99,9 +97,12 @@ static size_t run(const uint8_t *data, size_t size, uint64_t seed, int small, ui
     uint8_t before[PAGE];
     memcpy(before, text_page, PAGE);
 
-    uint64_t answer = fuzzed_report(log, size, secret, (uint64_t *)rooms[0], CAPACITY, (uint64_t *)rooms[1], CAPACITY,
-                                    (uint64_t *)rooms[2], CAPACITY, (uint32_t *)rooms[3], CAPACITY, (uint16_t *)rooms[4], CAPACITY,
-                                    text, TEXT);
+    uint64_t answer = ~seed;
+    uint8_t number = ambrulicciu_report_log(log, size, secret, (ambrulicciu_key *)rooms[0], CAPACITY, (ambrulicciu_slot *)rooms[1],
+                                            CAPACITY, (ambrulicciu_probe *)rooms[2], CAPACITY, (uint32_t *)rooms[3], CAPACITY,
+                                            (ambrulicciu_chain *)rooms[4], CAPACITY, text, TEXT, &answer);
+    if (number != AMBRULICCIU_SERVED)
+        fail("rooms of the right size were refused");
     if (answer > TEXT)
         fail("the answer is no length of a text");
     if (answer == 0 || text[answer - 1] != '\n')
