@@ -1,4 +1,5 @@
 pub mod Accept
+pub mod Fresh
 pub mod Observe
 pub mod Sent
 pub mod Spelled

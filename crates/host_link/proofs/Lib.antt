@@ -1,0 +1,6 @@
+pub mod Accept
+pub mod Agreeing
+pub mod Link
+pub mod Sent
+pub mod Shows
+pub mod Watch

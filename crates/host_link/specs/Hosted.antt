@@ -1,0 +1,150 @@
+-- A link as a host holds it: the words of the ledger, those of the monitor where it has one, the rooms and the queue. And the host's calls, as numbers,
+-- each given what the last one left: the definitions are those that the contracts of the exported calls cite.
+-- Assumes nothing.
+use mathlib.Core.List.{List, [], _∷_}
+use Prim.Native.Nat.{ℕ, _<_, _^_}
+use lib.ListN.{getD}
+use Rattle.calls.specs.declared.Call.{Call}
+use Rattle.calls.specs.declared.Call.the-variants.{Sent, Accept, Advance, Idle}
+use Rattle.probe_queue.specs.declared.Probe.{Probe}
+use Rattle.ledger_steps.specs.Rooms.{Rooms}
+use Rattle.link_steps.specs.declared.Watch.{Watch}
+use Rattle.link_steps.specs.declared.Watch.the-variants.{Absent, Present}
+use Rattle.link_steps.specs.Steps.{Standing}
+use Rattle.link_history.specs.Fresh.{Watching, Making}
+use Rattle.link_history.specs.Fresh as history
+use Rattle.host_calls.specs.Calls.{probeOf, replyOf}
+use Rattle.host_ledger.specs.Words.{ledgerAt}
+use Rattle.host_fresh.specs.Fresh.{freshOf}
+use Rattle.host_sent.specs.Sent.{SentLeft, sentOf}
+use Rattle.host_accept.specs.Accept.{AcceptLeft, acceptOf}
+use Rattle.host_monitor_words.specs.Words.{monitorAt}
+use Rattle.host_monitor.specs.Calls as monitor
+use Rattle.host_watched_sent.specs.Calls as watchedSent
+use Rattle.host_watched_accept.specs.Calls as watchedAccept
+
+-- without a monitor, or with the words of one
+pub data HostWatch : Type 0 where
+  alone : HostWatch
+  watching : List ℕ → HostWatch
+
+pub record HostLink : Type 0 where
+  pub ledger : List ℕ
+  pub watch : HostWatch
+  pub rooms : Rooms
+  pub queue : List Probe
+
+abbrev pub hostLink : List ℕ → HostWatch → Rooms → List Probe → HostLink
+hostLink ledger watch rooms queue = record { ledger = ledger; watch = watch; rooms = rooms; queue = queue }
+
+-- the link that the words say
+abbrev pub watchSaid : HostWatch → Watch
+watchSaid alone = Absent
+watchSaid (watching words) = Present (monitorAt words)
+
+abbrev pub said : HostLink → Standing
+said x = record { link = record { ledger = ledgerAt (x .ledger); watch = watchSaid (x .watch) }; rooms = x .rooms; queue = x .queue }
+
+-- a call, as the numbers that the host hands over
+pub data HostCall : Type 0 where
+  sent : (sequence ordinal time tag : ℕ) → HostCall
+  accept : (sender reflector t3 pending time tag : ℕ) → HostCall
+  advance : ℕ → HostCall
+  idle : HostCall
+
+abbrev pub told : HostCall → Call
+told (sent sequence ordinal time tag) = Sent (probeOf sequence ordinal time tag)
+told (accept sender reflector t3 pending time tag) = Accept (replyOf sender reflector t3 pending time tag)
+told (advance time) = Advance time
+told idle = Idle
+
+-- its number, and what it leaves
+pub record HostStep : Type 0 where
+  pub number : ℕ
+  pub next : HostLink
+
+abbrev pub step : ℕ → HostLink → HostStep
+step n x = record { number = n; next = x }
+
+abbrev pub sentRooms : Rooms → (probes links : List (List ℕ)) → Rooms
+sentRooms r probes links = record { keys = r .keys; slots = r .slots; probes = probes; offsets = r .offsets; links = links }
+
+abbrev pub acceptRooms : Rooms → (keys slots probes links : List (List ℕ)) → Rooms
+acceptRooms r keys slots probes links = record { keys = keys; slots = slots; probes = probes; offsets = r .offsets; links = links }
+
+-- `ambrulicciu_sent`, and `ambrulicciu_watched_sent` where there is a monitor
+abbrev pub leftSent : HostLink → SentLeft → HostStep
+leftSent x r = step (r .number) (hostLink (r .ledger) alone (sentRooms (x .rooms) (r .probes) (r .links)) (x .queue))
+
+abbrev pub leftWatchedSent : HostLink → watchedSent.Left → HostStep
+leftWatchedSent x r = step (r .number) (hostLink (r .ledger) (watching (r .monitor)) (sentRooms (x .rooms) (r .probes) (r .links)) (r .queue))
+
+abbrev pub sends : HostWatch → HostLink → (sequence ordinal time tag : ℕ) → HostStep
+sends alone x sequence ordinal time tag = leftSent x (sentOf (x .ledger) (x .rooms .probes) (x .rooms .links) (probeOf sequence ordinal time tag))
+sends (watching words) x sequence ordinal time tag =
+    leftWatchedSent x (watchedSent.watchedSentTo (x .ledger) words (x .rooms .probes) (x .rooms .links) (x .queue) sequence ordinal time tag)
+
+-- `ambrulicciu_accept`, and `ambrulicciu_watched_accept`; the words of its answer stand in no link
+abbrev pub leftAccept : HostLink → AcceptLeft → HostStep
+leftAccept x r = step (r .number) (hostLink (r .ledger) alone (acceptRooms (x .rooms) (r .keys) (r .slots) (r .probes) (r .links)) (x .queue))
+
+abbrev pub leftWatchedAccept : HostLink → watchedAccept.Left → HostStep
+leftWatchedAccept x r = step (r .number) (hostLink (r .ledger) (watching (r .monitor)) (acceptRooms (x .rooms) (r .keys) (r .slots) (r .probes) (r .links)) (r .queue))
+
+abbrev pub accepts : HostWatch → HostLink → (sender reflector t3 pending time tag : ℕ) → HostStep
+accepts alone x sender reflector t3 pending time tag =
+    leftAccept x (acceptOf (x .ledger) (x .rooms .keys) (x .rooms .slots) (x .rooms .probes) (x .rooms .links) [] (replyOf sender reflector t3 pending time tag))
+accepts (watching words) x sender reflector t3 pending time tag =
+    leftWatchedAccept x
+    (watchedAccept.watchedAcceptTo (x .ledger) words (x .rooms .keys) (x .rooms .slots) (x .rooms .probes) (x .rooms .links) (x .queue) sender reflector t3 pending time tag [])
+
+-- `ambrulicciu_monitor_advance` and `ambrulicciu_monitor_idle`; without a monitor there is nothing to call
+abbrev pub advances : HostWatch → HostLink → ℕ → HostStep
+advances alone x time = step 0 x
+advances (watching words) x time =
+    step (monitor.advanceTo words (x .queue) time .number)
+    (hostLink (x .ledger) (watching (monitor.advanceTo words (x .queue) time .words)) (x .rooms) (monitor.advanceTo words (x .queue) time .queue))
+
+abbrev pub idles : HostWatch → HostLink → HostStep
+idles alone x = step 0 x
+idles (watching words) x = step (monitor.idleTo words .number) (hostLink (x .ledger) (watching (monitor.idleTo words .words)) (x .rooms) (x .queue))
+
+unfoldable pub playHost : HostLink → HostCall → HostStep
+playHost x (sent sequence ordinal time tag) = sends (x .watch) x sequence ordinal time tag
+playHost x (accept sender reflector t3 pending time tag) = accepts (x .watch) x sender reflector t3 pending time tag
+playHost x (advance time) = advances (x .watch) x time
+playHost x idle = idles (x .watch) x
+
+-- calls one after the other, newest first
+unfoldable pub hostPlayed : HostLink → List HostCall → HostLink
+hostPlayed x [] = x
+hostPlayed x (c ∷ cs) = playHost (hostPlayed x cs) c .next
+
+-- the numbers fit their types, which a host cannot break
+abbrev pub Typed : HostCall → Type 0
+Typed (sent sequence ordinal time tag) = sequence < 2 ^ 32
+Typed (accept sender reflector t3 pending time tag) = reflector < 2 ^ 32
+Typed (advance time) = Unit {0}
+Typed idle = Unit {0}
+
+abbrev pub AllTyped : List HostCall → Type 0
+AllTyped [] = Unit {0}
+AllTyped (c ∷ cs) = Typed c × AllTyped cs
+
+-- ---- a fresh link: `ambrulicciu_ledger_fresh` and `ambrulicciu_monitor_fresh`, over any rooms
+
+abbrev pub freshWatch : Watching → HostWatch
+freshWatch history.alone = alone
+freshWatch (history.watching threshold timeout) = watching (monitor.freshTo threshold timeout .words)
+
+abbrev pub hostFresh : Making → HostLink
+hostFresh m = hostLink (freshOf (m .copies) (m .secret) .ledger) (freshWatch (m .monitor)) (m .rooms) (m .queue)
+
+-- the threshold and the words of the hash fit their types
+abbrev pub ThresholdFits : Watching → Type 0
+ThresholdFits history.alone = Unit {0}
+ThresholdFits (history.watching threshold timeout) = threshold < 2 ^ 16
+
+pub record HostFits (m : Making) : Type 0 where
+  pub threshold : ThresholdFits (m .monitor)
+  pub secret : (i : ℕ) → getD (m .secret) i 0 < 2 ^ 32
