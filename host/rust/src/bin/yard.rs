@@ -60,7 +60,7 @@ struct Network {
 
 /// A moment of the host's clock as a PTP timestamp of 64 bits.
 fn timestamp(now: u64) -> u64 {
-    (START as u64 + now / 1_000_000_000) << 32 | now % 1_000_000_000
+    ((START as u64 + now / 1_000_000_000) << 32) | (now % 1_000_000_000)
 }
 
 impl Network {
