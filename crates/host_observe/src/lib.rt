@@ -1,0 +1,31 @@
+// `observe` of src/sender/measurements.rs for a host.
+ghost use mathlib.Core.Path.{_≡_};
+ghost use Rattle.host_observe.specs.Observe.{left, observeLeaves};
+use ledger_steps::Answer;
+
+// `flags` are those of document 01's observe record: 1 T4, 2 ordinal, 4 counters, 8 follow-up, 16 converted T3, 32 estimates, 64 PTP, 128
+// unknown mode; 16 and 128 count only with 8, other bits are ignored.
+// Words of `observation`: 0 t3 (u64), 2 round_trip (u64), 4 t4 (i64), 6 reference (i64), 8 converted_t3 (i64), 10 follow_timestamp (u64),
+// 12 sender, 13 reflector, 14 ordinal, 15 sender_transmitted, 16 reflector_received, 17 reflector_transmitted, 18 follow_sequence,
+// 19 offset (i32), 20 sender_estimate (u16), reflector_estimate (u16), 21 flags, 22 unused (2).
+#[no_mangle]
+pub extern "C" fn ambrulicciu_observe(
+    ledger: &mut [u64; 72],
+    keys: &[[u64; 2]],
+    slots: &mut [[u64; 3]],
+    offsets: &mut [u32],
+    links: &mut [[u16; 8]],
+    observation: &[u32; 24],
+) -> u8
+    ensures { λ r. ⌜ left r (now (ledger .exit)) (now (slots .exit)) (now (offsets .exit)) (now (links .exit)) ≡ observeLeaves (now (ledger .entry)) (now (keys .entry)) (now (slots .entry)) (now (offsets .entry)) (now (links .entry)) (now (observation .entry)) ⌝ }
+{
+    let state = host_ledger::load(ledger);
+    let told = host_observation::observation_of(observation);
+    match ledger_observe::observe(state, keys, slots, offsets, links, told) {
+        Answer::Refused(number) => number,
+        Answer::Served(next) => {
+            host_ledger::store_observed(ledger, next);
+            0
+        }
+    }
+}
