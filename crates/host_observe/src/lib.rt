@@ -5,9 +5,9 @@ use ledger_steps::Answer;
 
 // `flags` are those of document 01's observe record: 1 T4, 2 ordinal, 4 counters, 8 follow-up, 16 converted T3, 32 estimates, 64 PTP, 128
 // unknown mode; 16 and 128 count only with 8, other bits are ignored.
-// Words of `observation`: 0 t3 (u64), 2 round_trip (u64), 4 t4 (i64), 6 reference (i64), 8 converted_t3 (i64), 10 follow_timestamp (u64),
-// 12 sender, 13 reflector, 14 ordinal, 15 sender_transmitted, 16 reflector_received, 17 reflector_transmitted, 18 follow_sequence,
-// 19 offset (i32), 20 sender_estimate (u16), reflector_estimate (u16), 21 flags, 22 unused (2).
+// Words of `observation`: 0 t3 (u64), 2 round_trip (u64), 4 t4 (i64), 6 reference (i64), 8 converted_t3 (i64), 10 follow_up_timestamp (u64),
+// 12 sender, 13 reflector, 14 ordinal, 15 s_txc, 16 r_rxc, 17 r_txc, 18 follow_up_sequence, 19 offset (i32),
+// 20 sender_estimate (u16), reflector_estimate (u16), 21 flags, 22 unused (2).
 #[no_mangle]
 pub extern "C" fn ambrulicciu_observe(
     ledger: &mut [u64; 72],
