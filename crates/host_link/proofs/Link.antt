@@ -6,16 +6,18 @@ use mathlib.Core.List.{List, [], _∷_, map}
 use Prim.Native.Nat.{ℕ}
 use lib.ListN.{length}
 use Rattle.link_steps.specs.Steps.{Standing, refuses, after, played}
-use Rattle.host_link.specs.Hosted.{HostLink, HostCall, sent, accept, advance, idle, said, told, playHost, hostPlayed, Typed, AllTyped}
+use Rattle.host_link.specs.Hosted.{HostLink, HostCall, sent, accept, observe, advance, idle, said, told, playHost, hostPlayed, Typed, AllTyped}
 use Rattle.host_link.proofs.Agreeing.{Agrees}
 use Rattle.host_link.proofs.Sent.{sent-agrees}
 use Rattle.host_link.proofs.Accept.{accept-agrees}
+use Rattle.host_link.proofs.Observe.{observe-agrees}
 use Rattle.host_link.proofs.Watch.{advance-agrees, idle-agrees}
 
 -- ---- one call
 agrees : (x : HostLink) (c : HostCall) → length (x .ledger) ≡ 72 → Typed c → Agrees x c
 agrees x (sent sequence ordinal time tag) long h = sent-agrees (x .ledger) long (x .watch) (x .rooms) (x .queue) sequence ordinal time tag h
 agrees x (accept sender reflector t3 pending time tag) long h = accept-agrees (x .ledger) long (x .watch) (x .rooms) (x .queue) sender reflector t3 pending time tag h
+agrees x (observe words) long h = observe-agrees (x .ledger) long (x .watch) (x .rooms) (x .queue) words h
 agrees x (advance time) long h = advance-agrees (x .ledger) long (x .watch) (x .rooms) (x .queue) time
 agrees x idle long h = idle-agrees (x .ledger) long (x .watch) (x .rooms) (x .queue)
 

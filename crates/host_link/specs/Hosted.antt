@@ -5,7 +5,7 @@ use mathlib.Core.List.{List, [], _∷_}
 use Prim.Native.Nat.{ℕ, _<_, _^_}
 use lib.ListN.{getD}
 use Rattle.calls.specs.declared.Call.{Call}
-use Rattle.calls.specs.declared.Call.the-variants.{Sent, Accept, Advance, Idle}
+use Rattle.calls.specs.declared.Call.the-variants.{Sent, Accept, Observe, Advance, Idle}
 use Rattle.probe_queue.specs.declared.Probe.{Probe}
 use Rattle.ledger_steps.specs.Rooms.{Rooms}
 use Rattle.link_steps.specs.declared.Watch.{Watch}
@@ -18,6 +18,8 @@ use Rattle.host_ledger.specs.Words.{ledgerAt}
 use Rattle.host_fresh.specs.Fresh.{freshOf}
 use Rattle.host_sent.specs.Sent.{SentLeft, sentOf}
 use Rattle.host_accept.specs.Accept.{AcceptLeft, acceptOf}
+use Rattle.host_observation.specs.Observation.{observationAt}
+use Rattle.host_observe.specs.Observe as observed
 use Rattle.host_monitor_words.specs.Words.{monitorAt}
 use Rattle.host_monitor.specs.Calls as monitor
 use Rattle.host_watched_sent.specs.Calls as watchedSent
@@ -49,12 +51,14 @@ said x = record { link = record { ledger = ledgerAt (x .ledger); watch = watchSa
 pub data HostCall : Type 0 where
   sent : (sequence ordinal time tag : ℕ) → HostCall
   accept : (sender reflector t3 pending time tag : ℕ) → HostCall
+  observe : (words : List ℕ) → HostCall
   advance : ℕ → HostCall
   idle : HostCall
 
 abbrev pub told : HostCall → Call
 told (sent sequence ordinal time tag) = Sent (probeOf sequence ordinal time tag)
 told (accept sender reflector t3 pending time tag) = Accept (replyOf sender reflector t3 pending time tag)
+told (observe words) = Observe (observationAt words)
 told (advance time) = Advance time
 told idle = Idle
 
@@ -98,6 +102,16 @@ accepts (watching words) x sender reflector t3 pending time tag =
     leftWatchedAccept x
     (watchedAccept.watchedAcceptTo (x .ledger) words (x .rooms .keys) (x .rooms .slots) (x .rooms .probes) (x .rooms .links) (x .queue) sender reflector t3 pending time tag [])
 
+-- `ambrulicciu_observe`, with a monitor and without
+abbrev pub observeRooms : Rooms → List (List ℕ) → List ℕ → List (List ℕ) → Rooms
+observeRooms r slots offsets links = record { keys = r .keys; slots = slots; probes = r .probes; offsets = offsets; links = links }
+
+abbrev pub leftObserve : HostLink → observed.Left → HostStep
+leftObserve x r = step (r .number) (hostLink (r .ledger) (x .watch) (observeRooms (x .rooms) (r .slots) (r .offsets) (r .links)) (x .queue))
+
+abbrev pub observes : HostLink → List ℕ → HostStep
+observes x words = leftObserve x (observed.observeLeaves (x .ledger) (x .rooms .keys) (x .rooms .slots) (x .rooms .offsets) (x .rooms .links) words)
+
 -- `ambrulicciu_monitor_advance` and `ambrulicciu_monitor_idle`; without a monitor there is nothing to call
 abbrev pub advances : HostWatch → HostLink → ℕ → HostStep
 advances alone x time = step 0 x
@@ -112,6 +126,7 @@ idles (watching words) x = step (monitor.idleTo words .number) (hostLink (x .led
 unfoldable pub playHost : HostLink → HostCall → HostStep
 playHost x (sent sequence ordinal time tag) = sends (x .watch) x sequence ordinal time tag
 playHost x (accept sender reflector t3 pending time tag) = accepts (x .watch) x sender reflector t3 pending time tag
+playHost x (observe words) = observes x words
 playHost x (advance time) = advances (x .watch) x time
 playHost x idle = idles (x .watch) x
 
@@ -124,6 +139,7 @@ hostPlayed x (c ∷ cs) = playHost (hostPlayed x cs) c .next
 abbrev pub Typed : HostCall → Type 0
 Typed (sent sequence ordinal time tag) = sequence < 2 ^ 32
 Typed (accept sender reflector t3 pending time tag) = reflector < 2 ^ 32
+Typed (observe words) = (i : ℕ) → getD words i 0 < 2 ^ 32
 Typed (advance time) = Unit {0}
 Typed idle = Unit {0}
 
