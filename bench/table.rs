@@ -82,9 +82,12 @@ fn shown(ns: f64) -> String {
     if ns < 99.95 {
         return format!("{ns:.1}");
     }
-    let whole = ns.round() as u64;
+    thousands(ns.round() as u64)
+}
+
+fn thousands(whole: u64) -> String {
     if whole < 1000 {
         return whole.to_string();
     }
-    format!("{},{:03}", whole / 1000, whole % 1000)
+    format!("{},{:03}", thousands(whole / 1000), whole % 1000)
 }
