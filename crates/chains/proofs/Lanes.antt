@@ -14,7 +14,7 @@ use Rattle.chains.specs.Links.{wordOf, setWord, newest, older, linked, R
 use Rattle.chains.specs.Whole.{Indexed}
 use Rattle.chains.proofs.Tests.{Test, holds, fails, eq-test}
 use Rattle.chains.proofs.Places.{push-below}
-use Rattle.chains.proofs.Chains.{pushed-indexed}
+use Rattle.chains.proofs.Chains.{Ready, indexed-ready, pushed-indexed}
 
 -- ---- words of rows
 
@@ -88,25 +88,27 @@ module _ (N lane : ℕ) (links : List (List ℕ)) (fit : Rows N 8 links) (h p : 
       word-other N 8 half half-fits h h-in lane p i j a
       ∙ word-other N 8 links fit p p-in (lane + 1) (newest lane links h) i j b
 
-  -- The chains of another lane stay whole.
-  pub other-indexed : (other : ℕ) (hash : ℕ → ℕ) (head len : ℕ) → other ≢ lane → other ≢ lane + 1 → other + 1 ≢ lane
-      → Indexed N hash (newest other links) (older other links) head len
-      → Indexed N hash (newest other (linked lane links h p)) (older other (linked lane links h p)) head len
-  other-indexed other hash head len a b c x = rw (first-same, next-same) x
-    where
-      first-same : newest other (linked lane links h p) ≡ newest other links
-      first-same = λ j i. linked-elsewhere i other a b j
+  -- The chains of another lane stay as they are.
+  pub other-newest : (other : ℕ) → other ≢ lane → other ≢ lane + 1 → newest other (linked lane links h p) ≡ newest other links
+  other-newest other a b = λ j i. linked-elsewhere i other a b j
 
-      next-same : older other (linked lane links h p) ≡ older other links
-      next-same = λ j i. linked-elsewhere i (other + 1) c (λ e. omega (arith, a, e)) j
+  pub other-older : (other : ℕ) → other ≢ lane → other + 1 ≢ lane → older other (linked lane links h p) ≡ older other links
+  other-older other a c = λ j i. linked-elsewhere i (other + 1) c (λ e. omega (arith, a, e)) j
 
--- A push of an entry of hash h, linked in a lane: its chains stay whole.
-pub link-indexed : (N lane : ℕ) (links : List (List ℕ)) (ring : Ring) (hash hash′ : ℕ → ℕ) (h : ℕ) → Rows N 8 links → lane < 7 → h < N → RingFits N ring
+-- A push of an entry of hash h, linked in a lane: its chains are whole.
+pub link-ready : (N lane : ℕ) (links : List (List ℕ)) (ring : Ring) (hash hash′ : ℕ → ℕ) (h : ℕ) → Rows N 8 links → lane < 7 → h < N → RingFits N ring
     → hash′ (pushSlot N ring) ≡ h → ((i : ℕ) → i ≢ pushSlot N ring → hash′ i ≡ hash i)
-    → Indexed N hash (newest lane links) (older lane links) (ring .head) (ring .len)
+    → Ready N hash (newest lane links) (older lane links) ring
     → Indexed N hash′ (newest lane (linked lane links h (pushSlot N ring))) (older lane (linked lane links h (pushSlot N ring))) (afterPush N ring .head) (afterPush N ring .len)
-link-indexed N lane links ring hash hash′ h fit l m r here there x =
+link-ready N lane links ring hash hash′ h fit l m r here there x =
     let s : pushSlot N ring < N = push-below N ring r in
     pushed-indexed N hash _ _ hash′ _ _ ring h r here there
     (linked-newest N lane links fit h (pushSlot N ring) l m s) (linked-newest-other N lane links fit h (pushSlot N ring) l m s)
     (linked-older N lane links fit h (pushSlot N ring) l m s) (linked-older-other N lane links fit h (pushSlot N ring) l m s) x
+
+-- The same where the chains of all entries are whole.
+pub link-indexed : (N lane : ℕ) (links : List (List ℕ)) (ring : Ring) (hash hash′ : ℕ → ℕ) (h : ℕ) → Rows N 8 links → lane < 7 → h < N → RingFits N ring
+    → hash′ (pushSlot N ring) ≡ h → ((i : ℕ) → i ≢ pushSlot N ring → hash′ i ≡ hash i)
+    → Indexed N hash (newest lane links) (older lane links) (ring .head) (ring .len)
+    → Indexed N hash′ (newest lane (linked lane links h (pushSlot N ring))) (older lane (linked lane links h (pushSlot N ring))) (afterPush N ring .head) (afterPush N ring .len)
+link-indexed N lane links ring hash hash′ h fit l m r here there x = link-ready N lane links ring hash hash′ h fit l m r here there (indexed-ready N hash _ _ ring r x)

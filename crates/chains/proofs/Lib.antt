@@ -5,5 +5,6 @@ pub mod Walks
 pub mod Chains
 pub mod Scan
 pub mod Lanes
+pub mod Ends
 pub mod Loop
 pub mod Hashes

@@ -1,8 +1,10 @@
 -- The lanes of a room of links: each row has four pairs of links, and a lane is the index of a pair's first.
 -- Assumes nothing.
+use mathlib.Core.Bool.{cond}
 use mathlib.Core.List.{List, []}
 use Prim.Native.Nat.{ℕ, _+_, _<_}
 use mathlib.Core.Path.{_≡_}
+use lib.Dec.{eqb}
 use lib.ListN.{length, getD, set}
 
 -- word i of a row
@@ -24,6 +26,10 @@ older lane links p = wordOf links p (lane + 1)
 -- the entry in slot p, of hash h, as the newest of its chain
 unfoldable pub linked : ℕ → List (List ℕ) → ℕ → ℕ → List (List ℕ)
 linked lane links h p = setWord (setWord links p (lane + 1) (newest lane links h)) h lane p
+
+-- the oldest entry, in slot p and of hash h, leaves: where it is the newest of its chain, the chain leads to no slot, which N is
+unfoldable pub ended : ℕ → ℕ → List (List ℕ) → ℕ → ℕ → List (List ℕ)
+ended N lane links h p = cond (eqb (newest lane links h) p) (setWord links h lane N) links
 
 -- a room of n rows of `width` words each
 pub record Rows (n width : ℕ) (rows : List (List ℕ)) : Type 0 where

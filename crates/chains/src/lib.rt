@@ -1,14 +1,16 @@
 // Rings and chains of equal hash in lent rooms: what `HashMap`, `HashSet` and `VecDeque` of src/sender/measurements.rs stand on here.
 // A ring has 4,096 entries. A place counts from its oldest entry, a slot is where the entry of a place stands in the room.
 // A row of `links` has four lanes of two links each, at 0, 2, 4 and 6: in row h the newest slot whose entry hashes to h, in row p the slot of
-// the next older entry with the hash of the entry in slot p. Nothing is ever cleared there: a walk only goes down in place.
+// the next older entry with the hash of the entry in slot p. A walk only goes down in place, so that it ends whatever stands there, and links of
+// entries that left need not be cleared. One may be (`end_at`): the newest link of a hash whose last entry leaves. It would lead to the slot's next
+// entry, of another hash, and walks would go on through chains that are not theirs.
 ghost use mathlib.Core.Path.{_≡_};
 ghost use Prim.Native.Nat.{ℕ, _+_, _-_, _*_, _≤_, _<_};
 ghost use lib.ListN.{length};
 ghost use Rattle.scope.specs.Limits.{capacity};
 ghost use Rattle.chains.specs.Rings.{wrap, pushSlot, afterPush, RingFits};
 ghost use Rattle.chains.specs.Walk.{placeOf};
-ghost use Rattle.chains.specs.Links.{newest, older, linked};
+ghost use Rattle.chains.specs.Links.{newest, older, linked, ended};
 ghost use Rattle.chains.specs.Hash.{productsOf, keyHash, numberHash};
 use scope::CAPACITY;
 
@@ -109,6 +111,16 @@ pub fn link(links: &mut [[u16; 8]], lane: usize, hash: usize, slot: usize)
 {
     links[slot][lane + 1] = links[hash][lane];
     links[hash][lane] = narrow(slot);
+}
+
+// The oldest entry, in `slot` and with this hash, leaves. Where it is the newest of its chain, it is the only one: the chain leads to no slot, in one lane.
+pub fn end_at(links: &mut [[u16; 8]], lane: usize, hash: usize, slot: usize)
+    requires { ⌜ (length (now links) ≡ capacity) × (lane < 7) × (hash < capacity) ⌝ }
+    ensures { λ q. ⌜ now (links .exit) ≡ ended capacity lane (now (links .entry)) hash slot ⌝ }
+{
+    if wide(links[hash][lane]) == slot {
+        links[hash][lane] = 4096;
+    }
 }
 
 fn wide_word(word: u32) -> u64

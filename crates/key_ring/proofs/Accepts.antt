@@ -17,9 +17,9 @@ use Rattle.chains.proofs.Places.{Pushed, room, full, push-is, last-place, wrap-
 use Rattle.chains.proofs.Contents.{contents-same, length-contents, contents-oldest}
 use Rattle.key_ring.specs.Keys.{keyAt, keyRow, sameKey, firstIs}
 use Rattle.key_ring.specs.Rows.{noSlot, countOf, isObserved, lowered, Row, wordsOf, taken, slotIn, change, Counted, newRow}
-use Rattle.key_ring.specs.Table.{Table, tableOf, rowAt, storedAt, newestSlot, newestIs, keysOf, rowsOf, pushedKey, acceptedKey, Sound}
+use Rattle.key_ring.specs.Table.{Table, tableOf, rowAt, storedAt, newestSlot, newestIs, keysOf, rowsOf, evictedKey, pushedKey, acceptedKey, Sound}
 use Rattle.key_ring.proofs.Holders.{lowered-keeps, change-all-but-oldest, evict-slot, evict-counted, accept-slot, accept-counted, observe-slot, observe-counted}
-use Rattle.key_ring.proofs.Tables.{oldestNumber, evictedT, evict-sound, evict-rows, push-keys, push-rows, push-sound, key-here, words-here}
+use Rattle.key_ring.proofs.Tables.{oldestNumber, evict-rows, evict-ready, push-keys, push-rows, push-sound, key-here, words-here}
 
 -- ---- the newest slot
 
@@ -42,17 +42,17 @@ module _ (N : ℕ) (byKey : ReplyKey → ℕ) (byNumber : ℕ → ℕ) (key-belo
 
   pub accepted-sound : Sound N byKey byNumber after
   unfolding acceptedKey
-  accepted-sound = push-sound N byKey byNumber key-below number-below (evictedT N byKey byNumber t s) (evict-sound N byKey byNumber t s) k fits
+  accepted-sound = push-sound N byKey byNumber key-below number-below (evictedKey N byKey byNumber t) (evict-ready N byKey byNumber key-below number-below t s) k fits
 
   -- The last N keys are kept.
   pub accepted-keys : keysOf N after ≡ take N (k ∷ keysOf N t)
   unfolding acceptedKey keysOf
-  accepted-keys = push-keys N byKey byNumber key-below number-below (evictedT N byKey byNumber t s) (evict-sound N byKey byNumber t s) k fits
+  accepted-keys = push-keys N byKey byNumber key-below number-below (evictedKey N byKey byNumber t) (evict-ready N byKey byNumber key-below number-below t s) k fits
 
   accepted-rows : rowsOf N after ≡ take N (newRow (k .reflector) ∷ cond (ltb (t .ring .len) N) (rowsOf N t) (change lowered (oldestNumber N byKey byNumber t s) (rowsOf N t)))
   unfolding acceptedKey
   accepted-rows =
-      push-rows N byKey byNumber key-below number-below (evictedT N byKey byNumber t s) (evict-sound N byKey byNumber t s) k fits
+      push-rows N byKey byNumber key-below number-below (evictedKey N byKey byNumber t) (evict-ready N byKey byNumber key-below number-below t s) k fits
       ∙ ap (λ (l : List Row). take N (newRow (k .reflector) ∷ l)) (evict-rows N byKey byNumber t s)
 
   -- the key stands in the newest slot, and its row is that of a key that was not observed
@@ -60,13 +60,13 @@ module _ (N : ℕ) (byKey : ReplyKey → ℕ) (byNumber : ℕ → ℕ) (key-belo
   unfolding acceptedKey pushedKey
   accepted-newest =
       ap (keyAt (set (t .keys) (pushSlot N (t .ring)) (keyRow k))) (newest-pushed N (t .ring) (s .ring-fits))
-      ∙ key-here N byKey byNumber key-below number-below (evictedT N byKey byNumber t s) (evict-sound N byKey byNumber t s) k fits
+      ∙ key-here N byKey byNumber key-below number-below (evictedKey N byKey byNumber t) (evict-ready N byKey byNumber key-below number-below t s) k fits
 
   pub accepted-unobserved : getD (after .slots) (newestSlot N (after .ring)) [] ≡ noSlot
   unfolding acceptedKey pushedKey
   accepted-unobserved =
-      ap (λ (i : ℕ). getD (set (evictedT N byKey byNumber t s .slots) (pushSlot N (t .ring)) noSlot) i []) (newest-pushed N (t .ring) (s .ring-fits))
-      ∙ words-here N byKey byNumber key-below number-below (evictedT N byKey byNumber t s) (evict-sound N byKey byNumber t s) k fits
+      ap (λ (i : ℕ). getD (set (evictedKey N byKey byNumber t .slots) (pushSlot N (t .ring)) noSlot) i []) (newest-pushed N (t .ring) (s .ring-fits))
+      ∙ words-here N byKey byNumber key-below number-below (evictedKey N byKey byNumber t) (evict-ready N byKey byNumber key-below number-below t s) k fits
 
   -- ---- rows
 

@@ -5,23 +5,26 @@ use mathlib.Core.Path.{_≡_, refl, sym, ap, _∙_}
 use mathlib.Core.Bool.{Bool, true, false, _||_, cond}
 use mathlib.Core.Logic.{_≢_}
 use mathlib.Core.List.{List, [], _∷_}
-use Prim.Native.Nat.{ℕ, _<_}
+use Prim.Native.Nat.{ℕ, suc, _-_, _≤_, _<_}
 use native.Mathlib.Omega.{arith}
 use lib.Dec.{ltb}
 use lib.ListN.{length, take, getD, set, length-set}
 use lib.Seq.{getD-set-same, getD-set-other}
 use Rattle.calls.specs.declared.ReplyKey.{ReplyKey}
-use Rattle.chains.specs.Rings.{contents, pushSlot}
-use Rattle.chains.specs.Links.{linked, Rows}
+use Rattle.chains.specs.Rings.{wrap, contents, pushSlot, RingFits}
+use Rattle.chains.specs.Links.{wordOf, newest, older, linked, ended, Rows}
 use Rattle.chains.specs.Walk.{newestOf, firstOf}
+use Rattle.chains.specs.Whole.{Indexed}
 use Rattle.chains.proofs.Tests.{Test, holds, fails, lt-test, lt-true}
 use Rattle.chains.proofs.Places.{push-below, push-fits}
 use Rattle.chains.proofs.Contents.{push-contents}
-use Rattle.chains.proofs.Lanes.{set-row, linked-fits, link-indexed, other-indexed}
+use Rattle.chains.proofs.Chains.{Ready, indexed-ready}
+use Rattle.chains.proofs.Lanes.{set-row, linked-fits, link-ready, other-newest, other-older}
+use Rattle.chains.proofs.Ends.{ended-fits, ended-elsewhere, ended-newest, ended-older, ended-indexed}
 use Rattle.chains.proofs.Scan.{walk-scans, scan-first, scan-change}
 use Rattle.key_ring.specs.Keys.{keyOf, keyAt, keyRow, sameKey, hasKey}
 use Rattle.key_ring.specs.Rows.{noSlot, lowered, holds?, wordsOf, with, change, newRow}
-use Rattle.key_ring.specs.Table.{Table, tableOf, rowAt, wordsAt, storedAt, keysOf, rowsOf, findIn, holderIn, changeAt, evictedSlots, pushedKey, Sound}
+use Rattle.key_ring.specs.Table.{Table, tableOf, rowAt, wordsAt, storedAt, keysOf, rowsOf, findIn, holderIn, changeAt, evictedSlots, endedKey, evictedLinks, evictedKey, pushedKey, Sound}
 use Rattle.key_ring.proofs.Packing.{key-of-row, same-key}
 use Rattle.key_ring.proofs.Holders.{holds-number}
 
@@ -122,19 +125,8 @@ module _ (N : ℕ) (byKey : ReplyKey → ℕ) (byNumber : ℕ → ℕ) (t : Tabl
   abbrev itsHolder : ℕ
   itsHolder = holderIn N byKey byNumber (t .keys) (t .slots) (t .links) (t .ring) oldestNumber
 
-  abbrev pub evictedT : Table
-  evictedT = tableOf (t .keys) (evictedSlots N byKey byNumber (t .keys) (t .slots) (t .links) (t .ring)) (t .links) (t .ring)
-
-  pub evict-sound : Sound N byKey byNumber evictedT
-  unfolding evictedSlots
-  evict-sound = go (ltb (t .ring .len) N)
-    where
-      go : (b : Bool) → Sound N byKey byNumber (tableOf (t .keys) (cond b (t .slots) (changeAt N byKey byNumber lowered (t .slots) itsHolder)) (t .links) (t .ring))
-      go true = s
-      go false = change-sound lowered (λ words e. length-set words 0 _ ∙ e) itsHolder
-
-  pub evict-rows : rowsOf N evictedT ≡ cond (ltb (t .ring .len) N) (rowsOf N t) (change lowered oldestNumber (rowsOf N t))
-  unfolding evictedSlots
+  pub evict-rows : rowsOf N (evictedKey N byKey byNumber t) ≡ cond (ltb (t .ring .len) N) (rowsOf N t) (change lowered oldestNumber (rowsOf N t))
+  unfolding evictedSlots rowsOf
   evict-rows = go (ltb (t .ring .len) N)
     where
       go : (b : Bool) → rowsOf N (tableOf (t .keys)
@@ -143,10 +135,104 @@ module _ (N : ℕ) (byKey : ReplyKey → ℕ) (byNumber : ℕ → ℕ) (t : Tabl
       go true = refl
       go false = change-rows lowered oldestNumber
 
+-- What a push starts from: the rooms fit, and both chains are whole but for the oldest key of a full ring, which leaves.
+pub record ReadyTable (N : ℕ) (byKey : ReplyKey → ℕ) (byNumber : ℕ → ℕ) (t : Table) : Type 0 where
+  pub ring-fits : RingFits N (t .ring)
+  pub keys-fit : Rows N 2 (t .keys)
+  pub slots-fit : Rows N 3 (t .slots)
+  pub links-fit : Rows N 8 (t .links)
+  pub by-key : Ready N (λ p. byKey (keyAt (t .keys) p)) (newest 0 (t .links)) (older 0 (t .links)) (t .ring)
+  pub by-number : Ready N (λ p. byNumber (keyAt (t .keys) p .reflector)) (newest 2 (t .links)) (older 2 (t .links)) (t .ring)
+
+-- ---- the oldest leaves its chains
+
+module _ (N : ℕ) (byKey : ReplyKey → ℕ) (byNumber : ℕ → ℕ) (key-below : (k : ReplyKey) → byKey k < N) (number-below : (r : ℕ) → byNumber r < N)
+    (t : Table) (s : Sound N byKey byNumber t) where
+  abbrev oldestKey : ReplyKey
+  oldestKey = keyAt (t .keys) (t .ring .head)
+
+  -- the links after the first chain, and after both
+  abbrev endedOnce : List (List ℕ)
+  endedOnce = ended N 0 (t .links) (byKey oldestKey) (t .ring .head)
+
+  abbrev endedTwice : List (List ℕ)
+  endedTwice = endedKey N byKey byNumber (t .links) oldestKey (t .ring .head)
+
+  once-fits : Rows N 8 endedOnce
+  once-fits = ended-fits N 0 (t .links) (s .links-fit) (byKey oldestKey) (t .ring .head) (key-below oldestKey)
+
+  twice-fits : Rows N 8 endedTwice
+  twice-fits = ended-fits N 2 endedOnce once-fits (byNumber (oldestKey .reflector)) (t .ring .head) (number-below (oldestKey .reflector))
+
+  -- the chains of the others are whole
+  twice-by-key : N ≤ t .ring .len → Indexed N (λ p. byKey (keyAt (t .keys) p)) (newest 0 endedTwice) (older 0 endedTwice) (wrap N (suc (t .ring .head))) (N - 1)
+  twice-by-key l =
+      let all : t .ring .len ≡ suc (N - 1) = omega (arith, s .ring-fits .head-in, s .ring-fits .len-in) in
+      rw (
+        ended-newest N 2 endedOnce once-fits (byNumber (oldestKey .reflector)) (t .ring .head) (number-below (oldestKey .reflector)) 0 (λ e. omega (arith, e)),
+        ended-older N 2 endedOnce once-fits (byNumber (oldestKey .reflector)) (t .ring .head) (number-below (oldestKey .reflector)) 0 (λ e. omega (arith, e)),
+      )
+      (ended-indexed N 0 (t .links) _ (byKey oldestKey) (t .ring .head) (N - 1) (s .links-fit) (key-below oldestKey) (s .ring-fits .head-in) (omega (arith, s .ring-fits .head-in)) (rw all at (s .by-key)))
+
+  once-by-number : Indexed N (λ p. byNumber (keyAt (t .keys) p .reflector)) (newest 2 endedOnce) (older 2 endedOnce) (t .ring .head) (t .ring .len)
+  once-by-number =
+      rw (
+        ended-newest N 0 (t .links) (s .links-fit) (byKey oldestKey) (t .ring .head) (key-below oldestKey) 2 (λ e. omega (arith, e)),
+        ended-older N 0 (t .links) (s .links-fit) (byKey oldestKey) (t .ring .head) (key-below oldestKey) 2 (λ e. omega (arith, e)),
+      )
+      (s .by-number)
+
+  twice-by-number : N ≤ t .ring .len → Indexed N (λ p. byNumber (keyAt (t .keys) p .reflector)) (newest 2 endedTwice) (older 2 endedTwice) (wrap N (suc (t .ring .head))) (N - 1)
+  twice-by-number l =
+      let all : t .ring .len ≡ suc (N - 1) = omega (arith, s .ring-fits .head-in, s .ring-fits .len-in) in
+      ended-indexed N 2 endedOnce _ (byNumber (oldestKey .reflector)) (t .ring .head) (N - 1) once-fits (number-below (oldestKey .reflector)) (s .ring-fits .head-in) (omega (arith, s .ring-fits .head-in))
+      (rw all at once-by-number)
+
+  slots-evicted : Rows N 3 (evictedSlots N byKey byNumber (t .keys) (t .slots) (t .links) (t .ring))
+  unfolding evictedSlots
+  slots-evicted = go (ltb (t .ring .len) N)
+    where
+      go : (b : Bool) → Rows N 3 (cond b (t .slots) (changeAt N byKey byNumber lowered (t .slots) (itsHolder N byKey byNumber t s)))
+      go true = s .slots-fit
+      go false = change-sound N byKey byNumber t s lowered (λ words e. length-set words 0 _ ∙ e) (itsHolder N byKey byNumber t s) .slots-fit
+
+  pub evict-ready : ReadyTable N byKey byNumber (evictedKey N byKey byNumber t)
+  unfolding evictedLinks
+  evict-ready = go (lt-test (t .ring .len) N)
+    where
+      go : Test (t .ring .len < N) (ltb (t .ring .len) N) → ReadyTable N byKey byNumber (evictedKey N byKey byNumber t)
+      go (holds l b) = rw b (record {
+        ring-fits = s .ring-fits;
+        keys-fit = s .keys-fit;
+        slots-fit = slots-evicted;
+        links-fit = s .links-fit;
+        by-key = indexed-ready N _ _ _ (t .ring) (s .ring-fits) (s .by-key);
+        by-number = indexed-ready N _ _ _ (t .ring) (s .ring-fits) (s .by-number);
+      })
+      go (fails l b) = rw b (record {
+        ring-fits = s .ring-fits;
+        keys-fit = s .keys-fit;
+        slots-fit = slots-evicted;
+        links-fit = twice-fits;
+        by-key = record { with-room = λ m. absurd (l m); without-oldest = twice-by-key };
+        by-number = record { with-room = λ m. absurd (l m); without-oldest = twice-by-number };
+      })
+
+  -- the words of the other lanes stay
+  pub evict-elsewhere : (i j : ℕ) → j ≢ 0 → j ≢ 2 → wordOf (evictedLinks N byKey byNumber (t .keys) (t .links) (t .ring)) i j ≡ wordOf (t .links) i j
+  unfolding evictedLinks
+  evict-elsewhere i j a b = go (ltb (t .ring .len) N)
+    where
+      go : (f : Bool) → wordOf (cond f (t .links) endedTwice) i j ≡ wordOf (t .links) i j
+      go true = refl
+      go false =
+          ended-elsewhere N 2 endedOnce once-fits (byNumber (oldestKey .reflector)) (t .ring .head) (number-below (oldestKey .reflector)) i j b
+          ∙ ended-elsewhere N 0 (t .links) (s .links-fit) (byKey oldestKey) (t .ring .head) (key-below oldestKey) i j a
+
 -- ---- a key is pushed, and accepted
 
 module _ (N : ℕ) (byKey : ReplyKey → ℕ) (byNumber : ℕ → ℕ) (key-below : (k : ReplyKey) → byKey k < N) (number-below : (r : ℕ) → byNumber r < N)
-    (t : Table) (s : Sound N byKey byNumber t) (k : ReplyKey) (fits : k .reflector < 4294967296) where
+    (t : Table) (s : ReadyTable N byKey byNumber t) (k : ReplyKey) (fits : k .reflector < 4294967296) where
   here-in : pushSlot N (t .ring) < N
   here-in = push-below N (t .ring) (s .ring-fits)
 
@@ -175,21 +261,34 @@ module _ (N : ℕ) (byKey : ReplyKey → ℕ) (byNumber : ℕ → ℕ) (key-belo
   unfolding rowsOf pushedKey
   push-rows = push-contents N (rowAt (t .keys) (t .slots)) _ (t .ring) (newRow (k .reflector)) (s .ring-fits) row-here row-there
 
+  -- the links after the first of the two
+  abbrev linkedOnce : List (List ℕ)
+  linkedOnce = linked 0 (t .links) (byKey k) (pushSlot N (t .ring))
+
   pub push-sound : Sound N byKey byNumber (pushedKey N byKey byNumber t k)
   unfolding pushedKey
   push-sound = record {
     ring-fits = push-fits N (t .ring) (s .ring-fits);
     keys-fit = set-row N 2 (t .keys) (s .keys-fit) (pushSlot N (t .ring)) here-in (keyRow k) refl;
     slots-fit = set-row N 3 (t .slots) (s .slots-fit) (pushSlot N (t .ring)) here-in noSlot refl;
-    links-fit = linked-fits N 2 _ once-fits (byNumber (k .reflector)) (pushSlot N (t .ring)) (omega arith) (number-below (k .reflector)) here-in;
-    by-key = other-indexed N 2 _ once-fits (byNumber (k .reflector)) (pushSlot N (t .ring)) (omega arith) (number-below (k .reflector)) here-in 0 _ _ _
-        (λ e. omega (arith, e)) (λ e. omega (arith, e)) (λ e. omega (arith, e))
-        (link-indexed N 0 (t .links) (t .ring) _ _ (byKey k) (s .links-fit) (omega arith) (key-below k) (s .ring-fits) (ap byKey key-here) (λ i ne. ap byKey (key-there i ne)) (s .by-key));
-    by-number = link-indexed N 2 _ (t .ring) _ _ (byNumber (k .reflector)) once-fits (omega arith) (number-below (k .reflector)) (s .ring-fits)
-        (ap (λ (x : ReplyKey). byNumber (x .reflector)) key-here) (λ i ne. ap (λ (x : ReplyKey). byNumber (x .reflector)) (key-there i ne))
-        (other-indexed N 0 (t .links) (s .links-fit) (byKey k) (pushSlot N (t .ring)) (omega arith) (key-below k) here-in 2 _ _ _
-        (λ e. omega (arith, e)) (λ e. omega (arith, e)) (λ e. omega (arith, e)) (s .by-number));
+    links-fit = linked-fits N 2 _ once-linked (byNumber (k .reflector)) (pushSlot N (t .ring)) (omega arith) (number-below (k .reflector)) here-in;
+    by-key =
+        rw (
+          other-newest N 2 linkedOnce once-linked (byNumber (k .reflector)) (pushSlot N (t .ring)) (omega arith) (number-below (k .reflector)) here-in 0 (λ e. omega (arith, e)) (λ e. omega (arith, e)),
+          other-older N 2 linkedOnce once-linked (byNumber (k .reflector)) (pushSlot N (t .ring)) (omega arith) (number-below (k .reflector)) here-in 0 (λ e. omega (arith, e)) (λ e. omega (arith, e)),
+        )
+        (link-ready N 0 (t .links) (t .ring) _ _ (byKey k) (s .links-fit) (omega arith) (key-below k) (s .ring-fits) (ap byKey key-here) (λ i ne. ap byKey (key-there i ne)) (s .by-key));
+    by-number = link-ready N 2 _ (t .ring) _ _ (byNumber (k .reflector)) once-linked (omega arith) (number-below (k .reflector)) (s .ring-fits)
+        (ap (λ (x : ReplyKey). byNumber (x .reflector)) key-here) (λ i ne. ap (λ (x : ReplyKey). byNumber (x .reflector)) (key-there i ne)) once-ready;
   }
     where
-      once-fits : Rows N 8 (linked 0 (t .links) (byKey k) (pushSlot N (t .ring)))
-      once-fits = linked-fits N 0 (t .links) (s .links-fit) (byKey k) (pushSlot N (t .ring)) (omega arith) (key-below k) here-in
+      once-linked : Rows N 8 linkedOnce
+      once-linked = linked-fits N 0 (t .links) (s .links-fit) (byKey k) (pushSlot N (t .ring)) (omega arith) (key-below k) here-in
+
+      once-ready : Ready N (λ p. byNumber (keyAt (t .keys) p .reflector)) (newest 2 linkedOnce) (older 2 linkedOnce) (t .ring)
+      once-ready =
+          rw (
+            other-newest N 0 (t .links) (s .links-fit) (byKey k) (pushSlot N (t .ring)) (omega arith) (key-below k) here-in 2 (λ e. omega (arith, e)) (λ e. omega (arith, e)),
+            other-older N 0 (t .links) (s .links-fit) (byKey k) (pushSlot N (t .ring)) (omega arith) (key-below k) here-in 2 (λ e. omega (arith, e)) (λ e. omega (arith, e)),
+          )
+          (s .by-number)

@@ -10,7 +10,7 @@ use Rattle.calls.specs.declared.ReplyKey.{ReplyKey}
 use Rattle.scope.specs.Limits.{capacity}
 use Rattle.chains.specs.declared.Ring.{Ring}
 use Rattle.chains.specs.Rings.{wrap, contents, pushSlot, afterPush, RingFits}
-use Rattle.chains.specs.Links.{newest, older, linked, Rows}
+use Rattle.chains.specs.Links.{newest, older, linked, ended, Rows}
 use Rattle.chains.specs.Walk.{walk}
 use Rattle.chains.specs.Whole.{Indexed}
 use Rattle.chains.specs.Hash.{keyHash, numberHash}
@@ -75,6 +75,14 @@ module _ (N : ℕ) (byKey : ReplyKey → ℕ) (byNumber : ℕ → ℕ) where
   evictedSlots keys slots links ring =
       cond (ltb (ring .len) N) slots (changeAt lowered slots (holderIn keys slots links ring (keyAt keys (ring .head) .reflector)))
 
+  -- the links after the oldest key, in slot p, left: a chain that it was the last of leads to no slot
+  abbrev pub endedKey : List (List ℕ) → ReplyKey → ℕ → List (List ℕ)
+  endedKey links k p = ended N 2 (ended N 0 links (byKey k) p) (byNumber (k .reflector)) p
+
+  -- the oldest key goes where the ring is full: it leaves its two chains
+  unfoldable pub evictedLinks : List (List ℕ) → List (List ℕ) → Ring → List (List ℕ)
+  evictedLinks keys links ring = cond (ltb (ring .len) N) links (endedKey links (keyAt keys (ring .head)) (ring .head))
+
   -- the links after a push into slot p
   abbrev pub linkedKey : List (List ℕ) → ReplyKey → ℕ → List (List ℕ)
   linkedKey links k p = linked 2 (linked 0 links (byKey k) p) (byNumber (k .reflector)) p
@@ -87,9 +95,13 @@ module _ (N : ℕ) (byKey : ReplyKey → ℕ) (byNumber : ℕ → ℕ) where
       (linkedKey (t .links) k (pushSlot N (t .ring)))
       (afterPush N (t .ring))
 
+  -- the rooms without the oldest key of a full ring, whose slot the push takes
+  abbrev pub evictedKey : Table → Table
+  evictedKey t = tableOf (t .keys) (evictedSlots (t .keys) (t .slots) (t .links) (t .ring)) (evictedLinks (t .keys) (t .links) (t .ring)) (t .ring)
+
   -- what an accepted key does: the oldest goes where the ring is full, and the key is the newest
   unfoldable pub acceptedKey : Table → ReplyKey → Table
-  acceptedKey t k = pushedKey (tableOf (t .keys) (evictedSlots (t .keys) (t .slots) (t .links) (t .ring)) (t .links) (t .ring)) k
+  acceptedKey t k = pushedKey (evictedKey t) k
 
   -- these keys, accepted one after the other, the last of the list first
   unfoldable pub acceptedAll : Table → List ReplyKey → Table
@@ -122,6 +134,10 @@ holder secret = holderIn capacity (hashOf secret) (numberHash secret)
 -- the words that `evict` leaves
 abbrev pub evicted : List ℕ → List (List ℕ) → List (List ℕ) → List (List ℕ) → Ring → List (List ℕ)
 evicted secret = evictedSlots capacity (hashOf secret) (numberHash secret)
+
+-- the links that `end_chains` leaves
+abbrev pub unlinked : List ℕ → List (List ℕ) → List (List ℕ) → Ring → List (List ℕ)
+unlinked secret = evictedLinks capacity (hashOf secret) (numberHash secret)
 
 -- what `push` leaves
 abbrev pub pushed : List ℕ → Table → ReplyKey → Table

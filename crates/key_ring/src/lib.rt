@@ -9,7 +9,7 @@ ghost use Rattle.scope.specs.Limits.{capacity};
 ghost use Rattle.chains.specs.Rings.{RingFits};
 ghost use Rattle.key_ring.specs.Keys.{numbersOf, keyAt, sameKey};
 ghost use Rattle.key_ring.specs.Rows.{holds?};
-ghost use Rattle.key_ring.specs.Table.{tableOf, rowAt, wordsAt, storedAt, newestIs, newestSlot, hashOf, find as findKey, holder as holderOf, evicted, pushed, accepted};
+ghost use Rattle.key_ring.specs.Table.{tableOf, rowAt, wordsAt, storedAt, newestIs, newestSlot, hashOf, find as findKey, holder as holderOf, evicted, unlinked, pushed, accepted};
 use calls::ReplyKey;
 use chains::Ring;
 use scope::CAPACITY;
@@ -170,6 +170,25 @@ fn evict(
     }
 }
 
+// The oldest key leaves its two chains where the ring is full: a chain that it is the last of leads to no slot any more.
+fn end_chains(keys: &[[u64; 2]], links: &mut [[u16; 8]], ring: Ring, secret: [u32; 8])
+    requires { ⌜ (length (now keys) ≡ capacity) × (length (now links) ≡ capacity) × RingFits capacity ring ⌝ }
+    ensures { λ q. ⌜ now (links .exit) ≡ unlinked secret (now (keys .entry)) (now (links .entry)) ring ⌝ }
+{
+    let head = ring.head;
+    if ring.len == CAPACITY {
+        let both = keys[head][0];
+        let number = (both % 4294967296) as u32;
+        chains::end_at(
+            links,
+            0,
+            chains::key_hash(secret, both, keys[head][1]),
+            head,
+        );
+        chains::end_at(links, 2, chains::number_hash(secret, number), head);
+    }
+}
+
 // The key as the newest, not observed, over the oldest where the ring is full.
 fn push(
     keys: &mut [[u64; 2]],
@@ -203,5 +222,6 @@ pub fn accept_key(
     ensures { λ q. ⌜ tableOf (now (keys .exit)) (now (slots .exit)) (now (links .exit)) q ≡ accepted secret (tableOf (now (keys .entry)) (now (slots .entry)) (now (links .entry)) ring) key ⌝ }
 {
     evict(keys, slots, links, ring, secret);
+    end_chains(keys, links, ring, secret); // after the slot fell: its holder may be the oldest key itself, found through its chain
     push(keys, slots, links, ring, secret, key)
 }

@@ -6,21 +6,22 @@ use mathlib.Core.Logic.{_≢_}
 use mathlib.Core.List.{List, [], _∷_, map}
 use Prim.Native.Nat.{ℕ, zero, suc, _+_, _-_, _<_}
 use native.Mathlib.Omega.{arith}
-use lib.Dec.{ltb}
+use lib.Dec.{eqb, ltb}
 use lib.ListN.{length, getD, set, length-set, length-map}
 use lib.Seq.{getD-set-other}
 use Rattle.calls.specs.declared.ReplyKey.{ReplyKey}
 use Rattle.calls.specs.declared.Pending.{Pending}
 use Rattle.calls.specs.declared.Ordinal.the-variants as ordinal
 use Rattle.chains.specs.Rings.{wrap, pushSlot}
-use Rattle.chains.specs.Links.{wordOf, setWord, newest, older, linked, Rows}
+use Rattle.chains.specs.Links.{wordOf, setWord, newest, older, linked, ended, Rows}
 use Rattle.chains.specs.Walk.{placeOf}
 use Rattle.chains.specs.Whole.{Indexed}
 use Rattle.probe_ring.specs.declared.Probe.{Probe}
 use Rattle.probe_ring.specs.Row.{unanswered, packetAfter}
 use Rattle.probe_ring.specs.Rooms as probes
 use Rattle.probe_ring.specs.Rooms.{Rooms, moved, moveLink, mendedLink, mendRow, mendNewest, closedUp, takenOut, pushed, rememberedAt, remembered}
-use Rattle.key_ring.specs.Table.{Table, pushedKey, acceptedKey}
+use Rattle.key_ring.specs.Keys.{keyAt}
+use Rattle.key_ring.specs.Table.{Table, endedKey, evictedLinks, linkedKey, pushedKey, acceptedKey}
 use Rattle.ledger_steps.specs.Accept.{readied, noPacket}
 
 -- the sizes and the two words of a lane are as they were
@@ -160,9 +161,38 @@ module _ (lane : ℕ) where
 
   -- ---- the keys
 
+  -- a chain of another lane ends
+  end-elsewhere : (N other : ℕ) (links : List (List ℕ)) (h p : ℕ) → lane ≢ other → lane + 1 ≢ other → Untouched lane links (ended N other links h p)
+  unfolding ended
+  end-elsewhere N other links h p a b = go (eqb (newest other links h) p)
+    where
+      go : (t : Bool) → Untouched lane links (cond t (setWord links h other N) links)
+      go true = set-elsewhere links h other N a b
+      go false = same links
+
+  module _ (N : ℕ) (byKey : ReplyKey → ℕ) (byNumber : ℕ → ℕ) (t : Table) (l : 3 < lane) where
+    evicted-elsewhere : Untouched lane (t .links) (evictedLinks N byKey byNumber (t .keys) (t .links) (t .ring))
+    unfolding evictedLinks
+    evicted-elsewhere = go (ltb (t .ring .len) N)
+      where
+        oldest : ReplyKey
+        oldest = keyAt (t .keys) (t .ring .head)
+
+        go : (f : Bool) → Untouched lane (t .links) (cond f (t .links) (endedKey N byKey byNumber (t .links) (keyAt (t .keys) (t .ring .head)) (t .ring .head)))
+        go true = same (t .links)
+        go false =
+            then (t .links) (ended N 0 (t .links) (byKey oldest) (t .ring .head)) _
+            (end-elsewhere N 0 (t .links) (byKey oldest) (t .ring .head) (λ e. omega (arith, e)) (λ e. omega (arith, e)))
+            (end-elsewhere N 2 (ended N 0 (t .links) (byKey oldest) (t .ring .head)) (byNumber (oldest .reflector)) (t .ring .head) (λ e. omega (arith, e)) (λ e. omega (arith, e)))
+
+    linked-key-elsewhere : (links : List (List ℕ)) (k : ReplyKey) (p : ℕ) → Untouched lane links (linkedKey N byKey byNumber links k p)
+    linked-key-elsewhere links k p =
+        then links (linked 0 links (byKey k) p) _
+        (link-elsewhere 0 links (byKey k) p (λ e. omega (arith, e)) (λ e. omega (arith, e)) (λ e. omega (arith, e)))
+        (link-elsewhere 2 (linked 0 links (byKey k) p) (byNumber (k .reflector)) p (λ e. omega (arith, e)) (λ e. omega (arith, e)) (λ e. omega (arith, e)))
+
   pub accepted-elsewhere : (N : ℕ) (byKey : ReplyKey → ℕ) (byNumber : ℕ → ℕ) (t : Table) (k : ReplyKey) → 3 < lane → Untouched lane (t .links) (acceptedKey N byKey byNumber t k .links)
   unfolding acceptedKey pushedKey
   accepted-elsewhere N byKey byNumber t k l =
-      then (t .links) (linked 0 (t .links) (byKey k) (pushSlot N (t .ring))) _
-      (link-elsewhere 0 (t .links) (byKey k) (pushSlot N (t .ring)) (λ e. omega (arith, e)) (λ e. omega (arith, e)) (λ e. omega (arith, e)))
-      (link-elsewhere 2 (linked 0 (t .links) (byKey k) (pushSlot N (t .ring))) (byNumber (k .reflector)) (pushSlot N (t .ring)) (λ e. omega (arith, e)) (λ e. omega (arith, e)) (λ e. omega (arith, e)))
+      then (t .links) (evictedLinks N byKey byNumber (t .keys) (t .links) (t .ring)) _ (evicted-elsewhere N byKey byNumber t l)
+      (linked-key-elsewhere N byKey byNumber t l (evictedLinks N byKey byNumber (t .keys) (t .links) (t .ring)) k (pushSlot N (t .ring)))

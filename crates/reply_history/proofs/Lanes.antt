@@ -23,7 +23,8 @@ use Rattle.direct.specs.declared.Offsets.the-variants.{Kept, Begun, Added, Clea
 use Rattle.direct.specs.Outcomes.{recorded, soughtIn, seenIn}
 use Rattle.offset_set.specs.Offsets.{OffsetSet, offsetSet, added, contains}
 use Rattle.key_ring.specs.Table as key_ring
-use Rattle.key_ring.specs.Table.{Table, tableOf, acceptedKey, pushedKey, keysOf}
+use Rattle.key_ring.specs.Table.{Table, tableOf, evictedLinks, acceptedKey, pushedKey, keysOf}
+use Rattle.key_ring.proofs.Tables.{evict-ready, evict-elsewhere}
 use Rattle.probe_ring.specs.Rooms as probe_ring
 use Rattle.probe_ring.specs.Rooms.{rooms}
 use Rattle.probe_ring.proofs.Laws as probe_laws
@@ -87,15 +88,26 @@ module _ (N : ℕ) (byKey : ReplyKey → ℕ) (byNumber : ℕ → ℕ) (key-belo
   here-in : pushSlot N (t .ring) < N
   here-in = push-below N (t .ring) (s .ring-fits)
 
-  once-fits : Rows N 8 (linked 0 (t .links) (byKey k) (pushSlot N (t .ring)))
-  once-fits = linked-fits N 0 (t .links) (s .links-fit) (byKey k) (pushSlot N (t .ring)) (omega arith) (key-below k) here-in
+  -- the links without the oldest key, and after the first of the new key's two chains
+  abbrev fewer : List (List ℕ)
+  fewer = evictedLinks N byKey byNumber (t .keys) (t .links) (t .ring)
+
+  abbrev once : List (List ℕ)
+  once = linked 0 fewer (byKey k) (pushSlot N (t .ring))
+
+  fewer-fits : Rows N 8 fewer
+  fewer-fits = evict-ready N byKey byNumber key-below number-below t s .links-fit
+
+  once-fits : Rows N 8 once
+  once-fits = linked-fits N 0 fewer fewer-fits (byKey k) (pushSlot N (t .ring)) (omega arith) (key-below k) here-in
 
   pub accepted-elsewhere : (i j : ℕ) → 4 < j + 1 → wordOf (acceptedKey N byKey byNumber t k .links) i j ≡ wordOf (t .links) i j
   unfolding acceptedKey pushedKey
   accepted-elsewhere i j l =
-      linked-elsewhere N 2 (linked 0 (t .links) (byKey k) (pushSlot N (t .ring))) once-fits (byNumber (k .reflector)) (pushSlot N (t .ring)) (omega arith) (number-below (k .reflector)) here-in i j
+      linked-elsewhere N 2 once once-fits (byNumber (k .reflector)) (pushSlot N (t .ring)) (omega arith) (number-below (k .reflector)) here-in i j
       (λ e. omega (arith, e)) (λ e. omega (arith, e))
-      ∙ linked-elsewhere N 0 (t .links) (s .links-fit) (byKey k) (pushSlot N (t .ring)) (omega arith) (key-below k) here-in i j (λ e. omega (arith, e)) (λ e. omega (arith, e))
+      ∙ linked-elsewhere N 0 fewer fewer-fits (byKey k) (pushSlot N (t .ring)) (omega arith) (key-below k) here-in i j (λ e. omega (arith, e)) (λ e. omega (arith, e))
+      ∙ evict-elsewhere N byKey byNumber key-below number-below t s i j (λ e. omega (arith, e)) (λ e. omega (arith, e))
 
 -- ---- a seen offset changes only the offsets' lane
 
