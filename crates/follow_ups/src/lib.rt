@@ -57,7 +57,8 @@ pub fn wires_of(quality: Estimates) -> Wires
     }
 }
 
-fn count(class: Class, counts: FollowCounts) -> FollowCounts
+// One follow-up more, of a class.
+pub fn count(class: Class, counts: FollowCounts) -> FollowCounts
     requires { ⌜ CountsIn counts ⌝ }
     ensures { λ r. ⌜ r ≡ counted class counts ⌝ }
 {

@@ -1,12 +1,18 @@
 -- The words that each call leaves: those that it changes are those of the next ledger, and the others stay. Assumes nothing.
+use mathlib.Core.Bool.{cond}
 use mathlib.Core.List.{List, _∷_, _++_}
 use Prim.Native.Nat.{ℕ}
-use lib.ListN.{set, replicate}
+use lib.Dec.{eqb}
+use lib.ListN.{getD, set, replicate}
 use lib.Seq.{sets}
+use Rattle.calls.specs.declared.Counters.{Counters}
+use Rattle.calls.specs.declared.Counters.the-variants.{Absent, Point}
+use Rattle.direct.specs.declared.Direct.{Direct}
+use Rattle.follow_ups.specs.declared.FollowUps.{FollowUps}
 use Rattle.ledger_state.specs.declared.Secret.{Secret}
 use Rattle.ledger_state.specs.declared.Ledger.{Ledger}
 use Rattle.host_numbers.specs.Numbers.{flagWord}
-use Rattle.host_ledger.specs.Parts.{secretWords, repliesWords, delaysWords, directWords, followWords}
+use Rattle.host_ledger.specs.Parts.{secretWords, repliesWords, delaysWords, directWords, followCountsWords, followWords}
 use Rattle.host_ledger.specs.Words.{tablesWords}
 
 -- a fresh ledger: copies, the words of the hash, and all other words 0
@@ -27,8 +33,18 @@ countedWords w l = set (set (set w 5 (l .calls)) 13 (l .counts .replies .totals 
 unfoldable pub acceptedWords : List ℕ → Ledger → List ℕ
 acceptedWords w l = sets (sets (set w 5 (l .calls)) 6 (tablesWords (l .tables))) 11 (repliesWords (l .counts .replies))
 
+-- direct loss is stored where counters were told
+abbrev pub directStored : Counters → List ℕ → Direct → List ℕ
+directStored Absent w d = w
+directStored (Point c) w d = sets w 33 (directWords d)
+
+-- of the follow-ups the counts are stored; delays and clock quality only where one matched, which the count says
+abbrev pub followStored : List ℕ → FollowUps → List ℕ
+followStored w f = cond (eqb (f .counts .matched) (getD w 45 0)) (sets w 44 (followCountsWords (f .counts))) (sets w 44 (followWords f))
+
 -- `observe`: calls, that no key awaits, round trips, direct loss and follow-ups
-unfoldable pub observedWords : List ℕ → Ledger → List ℕ
-observedWords w l =
-    sets (sets (sets (set (set w 5 (l .calls)) 10 (flagWord (l .tables .awaits))) 25 (delaysWords (l .counts .rtt))) 33 (directWords (l .counts .direct)))
-    44 (followWords (l .counts .follow))
+unfoldable pub observedWords : Counters → List ℕ → Ledger → List ℕ
+observedWords told w l =
+    followStored
+    (directStored told (sets (set (set w 5 (l .calls)) 10 (flagWord (l .tables .awaits))) 25 (delaysWords (l .counts .rtt))) (l .counts .direct))
+    (l .counts .follow)

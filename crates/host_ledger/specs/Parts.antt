@@ -18,6 +18,7 @@ use Rattle.direct.specs.declared.Epoch.{Epoch}
 use Rattle.direct.specs.declared.Window.{Window}
 use Rattle.direct.specs.declared.Window.the-variants.{Closed, Open}
 use Rattle.direct.specs.declared.Direct.{Direct}
+use Rattle.follow_ups.specs.declared.FollowCounts.{FollowCounts}
 use Rattle.follow_ups.specs.declared.FollowUps.{FollowUps}
 use Rattle.ledger_state.specs.declared.Secret.{Secret}
 use Rattle.host_numbers.specs.Numbers.{lower, upper, joined, flagWord, isSet}
@@ -175,10 +176,13 @@ followAt at w = record {
   quality = qualityAt (at + 14) w;
 }
 
+-- the words of the six counts
+abbrev pub followCountsWords : FollowCounts → List ℕ
+followCountsWords n = n .observations ∷ n .matched ∷ n .repeated ∷ n .unmatched ∷ n .ambiguous ∷ n .unavailable ∷ []
+
+-- the words of all
 unfoldable pub followWords : FollowUps → List ℕ
-followWords f =
-    f .counts .observations ∷ f .counts .matched ∷ f .counts .repeated ∷ f .counts .unmatched ∷ f .counts .ambiguous ∷ f .counts .unavailable
-    ∷ (delaysWords (f .delay) ++ qualityWords (f .quality))
+followWords f = followCountsWords (f .counts) ++ (delaysWords (f .delay) ++ qualityWords (f .quality))
 
 abbrev pub FollowKept : FollowUps → Type 0
 FollowKept f = followAt 0 (followWords f) ≡ f

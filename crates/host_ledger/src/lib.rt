@@ -2,17 +2,15 @@
 // A call stores only the words that it changes: a store of all of them would cost more than a duplicate reply.
 ghost use mathlib.Core.Path.{_≡_};
 ghost use lib.Seq.{sets};
-ghost use Rattle.host_quality.specs.Words.{qualityAt, qualityWords, QualityKept};
-ghost use Rattle.host_ledger.specs.Parts.{secretAt, secretWords, SecretKept, repliesAt, repliesWords, RepliesKept, delaysWords};
-ghost use Rattle.host_ledger.specs.Parts.{windowAt, windowWords, WindowKept, directAt, directWords, DirectKept, followAt, followWords, FollowKept};
+ghost use Rattle.host_quality.specs.Words.{qualityAt};
+ghost use Rattle.host_ledger.specs.Parts.{secretAt, secretWords, SecretKept, repliesAt, repliesWords, RepliesKept, windowAt, directAt, followAt};
 ghost use Rattle.host_ledger.specs.Words.{tablesAt, tablesWords, ledgerAt};
-ghost use Rattle.host_ledger.specs.Left.{freshWords, sentWords, countedWords, acceptedWords, observedWords};
+ghost use Rattle.host_ledger.specs.Left.{freshWords, sentWords, countedWords, acceptedWords};
 
 pub mod parts;
 
 use chains::Ring;
 use clock_quality::ClockQuality;
-use delays::Delays;
 use direct::Direct;
 use direct::Window;
 use follow_ups::FollowCounts;
@@ -28,9 +26,6 @@ use ledger_state::Secret;
 use ledger_state::Tables;
 use parts::delays_of;
 use parts::epoch_of;
-use parts::epoch_words;
-use parts::extreme_kind;
-use parts::extreme_magnitude;
 use parts::reflector_of;
 use parts::reflector_word;
 use replies::Answers;
@@ -113,7 +108,7 @@ fn window_of(state: &[u64; 72]) -> Window
     Window::Closed
 }
 
-fn direct_of(state: &[u64; 72]) -> Direct
+pub fn direct_of(state: &[u64; 72]) -> Direct
     ensures { λ r. ⌜ r ≡ directAt 33 (now (state .entry)) ⌝ }
 {
     let window = window_of(state);
@@ -255,112 +250,6 @@ fn store_replies(state: &mut [u64; 72], replies: Replies)
     state[24] = evicted.replies;
 }
 
-fn store_rtt(state: &mut [u64; 72], delays: Delays)
-    ensures { λ _. ⌜ now (state .exit) ≡ sets (now (state .entry)) 25 (delaysWords delays) ⌝ }
-{
-    let sum = delays.sum;
-    let min = delays.min;
-    let max = delays.max;
-    state[25] = delays.count;
-    state[26] = flag(sum.negative);
-    state[27] = sum.high;
-    state[28] = sum.low;
-    state[29] = extreme_kind(min);
-    state[30] = extreme_magnitude(min);
-    state[31] = extreme_kind(max);
-    state[32] = extreme_magnitude(max);
-}
-
-fn store_delay(state: &mut [u64; 72], delays: Delays)
-    ensures { λ _. ⌜ now (state .exit) ≡ sets (now (state .entry)) 50 (delaysWords delays) ⌝ }
-{
-    let sum = delays.sum;
-    let min = delays.min;
-    let max = delays.max;
-    state[50] = delays.count;
-    state[51] = flag(sum.negative);
-    state[52] = sum.high;
-    state[53] = sum.low;
-    state[54] = extreme_kind(min);
-    state[55] = extreme_magnitude(min);
-    state[56] = extreme_kind(max);
-    state[57] = extreme_magnitude(max);
-}
-
-fn store_window(state: &mut [u64; 72], window: Window)
-    ensures { λ _. ⌜ (now (state .exit) ≡ sets (now (state .entry)) 38 (windowWords window)) × WindowKept window ⌝ }
-{
-    match window {
-        Window::Closed => {
-            state[38] = 0;
-            state[39] = 0;
-            state[40] = 0;
-            state[41] = 0;
-            state[42] = 0;
-            state[43] = 0;
-        }
-        Window::Open(epoch) => {
-            let words = epoch_words(epoch);
-            state[38] = 1;
-            state[39] = words.anchor;
-            state[40] = words.transmitted;
-            state[41] = words.latest;
-            state[42] = words.maxima;
-            state[43] = words.seen;
-        }
-    }
-}
-
-fn store_direct(state: &mut [u64; 72], direct: Direct)
-    ensures { λ _. ⌜ (now (state .exit) ≡ sets (now (state .entry)) 33 (directWords direct)) × DirectKept direct ⌝ }
-{
-    let counts = direct.counts;
-    let window = direct.window;
-    state[33] = counts.observations;
-    state[34] = counts.unavailable;
-    state[35] = counts.discontinuities;
-    state[36] = counts.reordered;
-    state[37] = flag(counts.exceeded);
-    store_window(state, window);
-}
-
-fn store_quality(state: &mut [u64; 72], quality: ClockQuality)
-    ensures { λ _. ⌜ (now (state .exit) ≡ sets (now (state .entry)) 58 (qualityWords quality)) × QualityKept quality ⌝ }
-{
-    let largest = quality.largest;
-    let sender = quality.sender;
-    let reflector = quality.reflector;
-    let first = host_quality::last_words(sender);
-    let second = host_quality::last_words(reflector);
-    state[58] = quality.samples;
-    state[59] = quality.both;
-    state[60] = quality.unsynchronized;
-    state[61] = quality.invalid;
-    state[62] = quality.unknown;
-    state[63] = host_quality::largest_word(largest);
-    state[64] = host_quality::largest_bits(largest);
-    state[65] = first.word;
-    state[66] = first.bits;
-    state[67] = second.word;
-    state[68] = second.bits;
-}
-
-fn store_follow(state: &mut [u64; 72], follow: FollowUps)
-    ensures { λ _. ⌜ (now (state .exit) ≡ sets (now (state .entry)) 44 (followWords follow)) × FollowKept follow ⌝ }
-{
-    let counts = follow.counts;
-    let delay = follow.delay;
-    let quality = follow.quality;
-    state[44] = counts.observations;
-    state[45] = counts.matched;
-    state[46] = counts.repeated;
-    state[47] = counts.unmatched;
-    state[48] = counts.ambiguous;
-    state[49] = counts.unavailable;
-    store_delay(state, delay);
-    store_quality(state, quality);
-}
-
 // ---- what each call stores
 
 pub fn store_sent(state: &mut [u64; 72], next: Ledger)
@@ -401,21 +290,6 @@ pub fn store_accepted(state: &mut [u64; 72], next: Ledger)
     state[5] = next.calls;
     store_tables(state, tables);
     store_replies(state, replies);
-}
-
-pub fn store_observed(state: &mut [u64; 72], next: Ledger)
-    ensures { λ _. ⌜ (now (state .exit) ≡ observedWords (now (state .entry)) next) × DirectKept (next .counts .direct) × FollowKept (next .counts .follow) ⌝ }
-{
-    let tables = next.tables;
-    let counts = next.counts;
-    let rtt = counts.rtt;
-    let direct = counts.direct;
-    let follow = counts.follow;
-    state[5] = next.calls;
-    state[10] = flag(tables.awaits);
-    store_rtt(state, rtt);
-    store_direct(state, direct);
-    store_follow(state, follow);
 }
 
 // Of a fresh ledger: every word, whatever stood there.

@@ -1,12 +1,17 @@
 -- `observe` of a host is the library's on the link that the words say, with a monitor and without.
 -- Assumes nothing.
 use mathlib.Core.Path.{_≡_, refl, _∙_}
-use mathlib.Core.Bool.{Bool, true, false}
+use mathlib.Core.Bool.{Bool, true, false, cond}
 use mathlib.Core.List.{List}
 use Prim.Native.Nat.{ℕ, zero, suc, _<_, _^_}
+use lib.Dec.{eqb}
 use lib.ListN.{length, set, getD, length-set}
 use lib.Seq.{sets, length-sets}
+use Rattle.calls.specs.declared.Counters.{Counters}
+use Rattle.calls.specs.declared.Counters.the-variants as counters
 use Rattle.calls.specs.declared.ReplyObservation.{ReplyObservation}
+use Rattle.direct.specs.declared.Direct.{Direct}
+use Rattle.follow_ups.specs.declared.FollowUps.{FollowUps}
 use Rattle.probe_queue.specs.declared.Probe.{Probe}
 use Rattle.reply_history.specs.Fits.{CountersFit}
 use Rattle.ledger_state.specs.declared.Ledger.{Ledger}
@@ -19,24 +24,32 @@ use Rattle.link_steps.specs.Steps.{ledgerOf, standing, refuses, after}
 use Rattle.record_parts.specs.Parts.{flag, countersBy}
 use Rattle.host_numbers.specs.Numbers.{flagWord}
 use Rattle.host_observation.specs.Observation.{flagsAt, observationAt}
-use Rattle.host_ledger.specs.Parts.{delaysWords, directWords, followWords}
+use Rattle.host_ledger.specs.Parts.{delaysWords, directWords, followCountsWords, followWords}
 use Rattle.host_ledger.specs.Words.{ledgerAt}
-use Rattle.host_ledger.specs.Left.{observedWords}
+use Rattle.host_ledger.specs.Left.{directStored, observedWords}
 use Rattle.host_observed_back.proofs.Observed.{observed-back}
 use Rattle.host_observe.specs.Observe.{ledgerAfter, observeLeaves}
 use Rattle.host_link.specs.Hosted.{HostWatch, watchSaid, hostLink, observe, observeRooms, playHost}
 use Rattle.host_link.proofs.Agreeing.{Agrees}
 
 -- the words that `observe` leaves are as many as before
-long-after : (w : List ℕ) (next : Ledger) → length (observedWords w next) ≡ length w
+long-direct : (told : Counters) (w : List ℕ) (d : Direct) → length (directStored told w d) ≡ length w
+long-direct counters.Absent w d = refl
+long-direct (counters.Point c) w d = length-sets w 33 (directWords d)
+
+long-follow : (b : Bool) (w : List ℕ) (f : FollowUps) → length (cond b (sets w 44 (followCountsWords (f .counts))) (sets w 44 (followWords f))) ≡ length w
+long-follow true w f = length-sets w 44 (followCountsWords (f .counts))
+long-follow false w f = length-sets w 44 (followWords f)
+
+long-after : (told : Counters) (w : List ℕ) (next : Ledger) → length (observedWords told w next) ≡ length w
 unfolding observedWords
-long-after w next =
+long-after told w next =
     let first = set w 5 (next .calls) in
     let second = set first 10 (flagWord (next .tables .awaits)) in
     let third = sets second 25 (delaysWords (next .counts .rtt)) in
-    let fourth = sets third 33 (directWords (next .counts .direct)) in
-    length-sets fourth 44 (followWords (next .counts .follow)) ∙ length-sets third 33 (directWords (next .counts .direct)) ∙ length-sets second 25 (delaysWords (next .counts .rtt))
-    ∙ length-set first 10 (flagWord (next .tables .awaits)) ∙ length-set w 5 (next .calls)
+    let fourth = directStored told third (next .counts .direct) in
+    long-follow (eqb (next .counts .follow .counts .matched) (getD fourth 45 0)) fourth (next .counts .follow) ∙ long-direct told third (next .counts .direct)
+    ∙ length-sets second 25 (delaysWords (next .counts .rtt)) ∙ length-set first 10 (flagWord (next .tables .awaits)) ∙ length-set w 5 (next .calls)
 
 -- counters that are read from words of 32 bits
 counters-by : (b : Bool) (sender received transmitted : ℕ) → sender < 2 ^ 32 → received < 2 ^ 32 → transmitted < 2 ^ 32 → CountersFit (countersBy b sender received transmitted)
@@ -51,12 +64,12 @@ module _ (w : List ℕ) (long : length w ≡ 72) (keys slots : List (List ℕ)) 
   abbrev answerBy : ℕ → Answer
   answerBy k = observeBy k (observeOn (ledgerAt w) keys slots offsets links o) slots offsets links .answer
 
-  ledger-by : (k : ℕ) → ledgerAt (ledgerAfter (answerBy k) w) ≡ ledgerOf (ledgerAt w) (answerBy k)
+  ledger-by : (k : ℕ) → ledgerAt (ledgerAfter (answerBy k) (o .counters) w) ≡ ledgerOf (ledgerAt w) (answerBy k)
   ledger-by zero = observed-back w keys slots offsets links o long f
   ledger-by (suc k) = refl
 
-  long-by : (k : ℕ) → length (ledgerAfter (answerBy k) w) ≡ 72
-  long-by zero = long-after w (observeOn (ledgerAt w) keys slots offsets links o .ledger) ∙ long
+  long-by : (k : ℕ) → length (ledgerAfter (answerBy k) (o .counters) w) ≡ 72
+  long-by zero = long-after (o .counters) w (observeOn (ledgerAt w) keys slots offsets links o .ledger) ∙ long
   long-by (suc k) = long
 
 pub observe-agrees : (ledger : List ℕ) → length ledger ≡ 72 → (v : HostWatch) (rooms : Rooms) (queue : List Probe) (words : List ℕ) → ((i : ℕ) → getD words i 0 < 2 ^ 32)

@@ -9,6 +9,7 @@ use borrow.Fn.World as World
 use borrow.Fn.Kinds as Kinds'
 use denote.Triple.Clauses as Clauses
 use denote.Ref.{now}
+use Rattle.calls.specs.declared.Counters.{Counters}
 use Rattle.ledger_steps.specs.Refusals.{refusalOfObserve}
 use Rattle.ledger_steps.specs.Observe.{ObserveOutcome, observeOn}
 use Rattle.ledger_steps.specs.Calls.{observeBy, observeTo}
@@ -31,7 +32,10 @@ observe-unique κs a r₁ r₂ s₁ s₂ p q =
 -- ---- the number, and what a refusal leaves
 
 module _ (w : List ℕ) (keys slots : List (List ℕ)) (offsets : List ℕ) (links : List (List ℕ)) (told : List ℕ) where
-  number-by : (k : ℕ) (o : ObserveOutcome) → leftBy (observeBy k o slots offsets links) w .number ≡ k
+  abbrev counters : Counters
+  counters = observationAt told .counters
+
+  number-by : (k : ℕ) (o : ObserveOutcome) → leftBy (observeBy k o slots offsets links) counters w .number ≡ k
   number-by zero o = refl
   number-by (suc k) o = refl
 
@@ -51,4 +55,4 @@ module _ (w : List ℕ) (keys slots : List (List ℕ)) (offsets : List ℕ) (lin
   observe-refused n e =
       let k = refusalOfObserve (ledgerAt w) keys (length slots) (length offsets) (length links) (observationAt told) in
       let o = observeOn (ledgerAt w) keys slots offsets links (observationAt told) in
-      ap (λ (m : ℕ). leftBy (observeBy m o slots offsets links) w) (sym (number-by k o) ∙ e)
+      ap (λ (m : ℕ). leftBy (observeBy m o slots offsets links) counters w) (sym (number-by k o) ∙ e)

@@ -1,7 +1,185 @@
-// `observe` of src/sender/measurements.rs for a host.
+// `observe` of src/sender/measurements.rs for a host: the refusals first, then one part of the ledger after the other is taken out of its
+// words, counted and stored, in the original's order. Crate ledger_observe has the same call on a ledger by value; its contract and this one
+// cite one definition, `observeTo`.
 ghost use mathlib.Core.Path.{_≡_};
-ghost use Rattle.host_observe.specs.Observe.{left, observeLeaves};
-use ledger_steps::Answer;
+ghost use mathlib.Core.Bool.{true};
+ghost use Prim.Native.Nat.{_≤_};
+ghost use lib.IntN.{pos};
+ghost use lib.ListN.{length};
+ghost use lib.Seq.{sets};
+ghost use Rattle.scope.specs.Limits.{capacity};
+ghost use Rattle.chains.specs.Hash.{numberHash};
+ghost use Rattle.chains.specs.Rings.{RingFits};
+ghost use Rattle.ranges.specs.Ranges.{followFits};
+ghost use Rattle.correlation.specs.declared.follow.Class.the-variants as classes;
+ghost use Rattle.correlation.specs.Class.{MatchedInRange, offsetInRange};
+ghost use Rattle.key_ring.specs.Table.{hashOf};
+ghost use Rattle.delays.specs.Bounds as delays;
+ghost use Rattle.delays.specs.Delays.{recordedOf};
+ghost use Rattle.delays.specs.Sums.{nanosecondsOf};
+ghost use Rattle.direct.specs.Outcomes as direct;
+ghost use Rattle.follow_ups.specs.Bounds as follow_ups;
+ghost use Rattle.follow_ups.specs.Followed.{counted, followed};
+ghost use Rattle.ledger_steps.specs.Refusals.{refusalOfObserve};
+ghost use Rattle.ledger_checks.specs.Sound.{SoundObserve};
+ghost use Rattle.ledger_steps.specs.Observe.{directOutcome, directIn, followOutcome, followIn, observeOn};
+ghost use Rattle.host_ledger.specs.Parts.{delaysAt, delaysWords, directAt, followAt, followCountsWords, followWords};
+ghost use Rattle.host_ledger.specs.Words.{ledgerAt};
+ghost use Rattle.host_ledger.specs.Left.{followStored};
+ghost use Rattle.host_observe.specs.Observe.{directLeft, directLeaves, followLeft, followLeaves, left, servedLeaves, observeLeaves};
+use calls::Counters;
+use calls::FollowUp;
+use calls::ReplyObservation;
+use chains::Ring;
+use correlation::follow::Class;
+use correlation::follow::Match;
+use host_numbers::is_set;
+use scope::CAPACITY;
+
+// Why the call is refused, or 0. The key is read only in a room and a ring that fit.
+fn refusal(
+    ledger: &[u64; 72],
+    keys: &[[u64; 2]],
+    slots: usize,
+    offsets: usize,
+    links: usize,
+    told: ReplyObservation,
+) -> u8
+    ensures { λ r. ⌜ r ≡ refusalOfObserve (ledgerAt (now (ledger .entry))) (now (keys .entry)) slots offsets links told ⌝ }
+{
+    let placed = (keys.len() == CAPACITY)
+        & (slots == CAPACITY)
+        & (offsets == CAPACITY)
+        & (links == CAPACITY)
+        & host_checks::rings_fit(ledger);
+    if !placed {
+        return scope::WRONG_ROOM;
+    }
+    let ring = host_checks::keys_ring(ledger);
+    let key = told.key;
+    let awaiting = is_set(ledger[10]) & key_ring::is_newest(keys, ring, key);
+    let ranged = ranges::in_range(told);
+    let counted = host_checks::room_for_call(ledger);
+    ledger_state::first_refusal(true, ranged, true, counted, awaiting, true)
+}
+
+fn count_round_trip(ledger: &mut [u64; 72], ns: u64)
+    requires { ⌜ delays.Bounded (delaysAt 25 (now ledger)) ⌝ }
+    ensures { λ _. ⌜ now (ledger .exit) ≡ sets (now (ledger .entry)) 25 (delaysWords (recordedOf (delaysAt 25 (now (ledger .entry))) (nanosecondsOf (pos ns)))) ⌝ }
+{
+    let before = host_observed::rtt_of(ledger);
+    host_observed::store_rtt(ledger, round_trips::recorded(before, ns));
+}
+
+// The direct counters of the reply, where it has them.
+fn count_direct(
+    ledger: &mut [u64; 72],
+    offsets: &mut [u32],
+    links: &mut [[u16; 8]],
+    secret: [u32; 8],
+    told: ReplyObservation,
+)
+    requires { ⌜ (length (now offsets) ≡ capacity) × (length (now links) ≡ capacity) × direct.InBounds (directAt 33 (now ledger) .counts) × (direct.seenIn (directAt 33 (now ledger) .window) ≤ 4096) ⌝ }
+    ensures { λ _. ⌜ directLeft (now (ledger .exit)) (now (offsets .exit)) (now (links .exit)) ≡ directLeaves (told .counters) (now (ledger .entry)) (directIn capacity (numberHash secret) (directAt 33 (now (ledger .entry))) (now (offsets .entry)) (now (links .entry)) told) ⌝ }
+{
+    let counters = told.counters;
+    match counters {
+        Counters::Absent => {}
+        Counters::Point(_) => {
+            let before = host_ledger::direct_of(ledger);
+            let after = ledger_direct::count_direct(before, offsets, links, secret, told);
+            host_observed::store_direct(ledger, after);
+        }
+    }
+}
+
+// A matched follow-up changes all that there is of follow-ups.
+fn count_matched(ledger: &mut [u64; 72], times: Match, offset: i32)
+    requires { ⌜ follow_ups.InBounds (followAt 44 (now ledger)) × MatchedInRange (classes.Matched times) × offsetInRange offset ⌝ }
+    ensures { λ _. ⌜ now (ledger .exit) ≡ sets (now (ledger .entry)) 44 (followWords (followed (followAt 44 (now (ledger .entry))) (classes.Matched times) offset)) ⌝ }
+{
+    let before = host_observed::follow_without_last(ledger);
+    host_observed::store_follow(ledger, before.follow(Class::Matched(times), offset));
+}
+
+// Any other follow-up is only counted.
+fn count_other(ledger: &mut [u64; 72], class: Class)
+    requires { ⌜ follow_ups.CountsIn (followAt 44 (now ledger) .counts) ⌝ }
+    ensures { λ _. ⌜ now (ledger .exit) ≡ sets (now (ledger .entry)) 44 (followCountsWords (counted class (followAt 44 (now (ledger .entry)) .counts))) ⌝ }
+{
+    let before = host_observed::follow_counts_of(ledger);
+    host_observed::store_follow_counts(ledger, follow_ups::count(class, before));
+}
+
+fn count_class(ledger: &mut [u64; 72], class: Class, offset: i32)
+    requires { ⌜ follow_ups.InBounds (followAt 44 (now ledger)) × MatchedInRange class × offsetInRange offset ⌝ }
+    ensures { λ _. ⌜ now (ledger .exit) ≡ followStored (now (ledger .entry)) (followed (followAt 44 (now (ledger .entry))) class offset) ⌝ }
+{
+    match class {
+        Class::Unavailable => count_other(ledger, class),
+        Class::Ambiguous => count_other(ledger, class),
+        Class::Unmatched => count_other(ledger, class),
+        Class::Repeated => count_other(ledger, class),
+        Class::Matched(times) => count_matched(ledger, times, offset),
+    }
+}
+
+// The follow-up of the reply, where it has one.
+fn count_follow_up(
+    ledger: &mut [u64; 72],
+    keys: &[[u64; 2]],
+    slots: &mut [[u64; 3]],
+    links: &[[u16; 8]],
+    ring: Ring,
+    secret: [u32; 8],
+    told: ReplyObservation,
+)
+    requires { ⌜ (length (now keys) ≡ capacity) × (length (now slots) ≡ capacity) × (length (now links) ≡ capacity) × RingFits capacity ring × follow_ups.InBounds (followAt 44 (now ledger)) × (followFits (told .follow) ≡ true) × offsetInRange (told .offset) ⌝ }
+    ensures { λ _. ⌜ followLeft (now (ledger .exit)) (now (slots .exit)) ≡ followLeaves (now (ledger .entry)) (followIn capacity (hashOf secret) (numberHash secret) (followAt 44 (now (ledger .entry))) ring (now (keys .entry)) (now (slots .entry)) (now (links .entry)) told) ⌝ }
+{
+    let follow_up = told.follow;
+    let key = told.key;
+    match follow_up {
+        FollowUp::Absent => {}
+        FollowUp::Telemetry(telemetry) => {
+            let own = key.reflector;
+            let class = ledger_follow::class_of_follow_up(
+                keys,
+                slots,
+                links,
+                ring,
+                secret,
+                own,
+                telemetry,
+            );
+            count_class(ledger, class, told.offset);
+        }
+    }
+}
+
+// An observation that is not refused: round trip, direct counters, follow-up, then the own correlation slot.
+fn observed(
+    ledger: &mut [u64; 72],
+    keys: &[[u64; 2]],
+    slots: &mut [[u64; 3]],
+    offsets: &mut [u32],
+    links: &mut [[u16; 8]],
+    told: ReplyObservation,
+)
+    requires { ⌜ SoundObserve (ledgerAt (now ledger)) (now keys) (length (now slots)) (length (now offsets)) (length (now links)) told ⌝ }
+    ensures { λ _. ⌜ left 0 (now (ledger .exit)) (now (slots .exit)) (now (offsets .exit)) (now (links .exit)) ≡ servedLeaves (told .counters) (now (ledger .entry)) (observeOn (ledgerAt (now (ledger .entry))) (now (keys .entry)) (now (slots .entry)) (now (offsets .entry)) (now (links .entry)) told) ⌝ }
+{
+    let secret = host_checks::secret_words(ledger);
+    let ring = host_checks::keys_ring(ledger);
+    let copies = (ledger[0] % 65536) as u16;
+    let calls = ledger[5];
+    ledger[5] = calls + 1;
+    ledger[10] = 0;
+    count_round_trip(ledger, told.rtt);
+    count_direct(ledger, offsets, links, secret, told);
+    count_follow_up(ledger, keys, slots, links, ring, secret, told);
+    ledger_follow::raise_own(copies, keys, slots, links, ring, secret, told);
+}
 
 // `flags` are those of document 01's observe record: 1 T4, 2 ordinal, 4 counters, 8 follow-up, 16 converted T3, 32 estimates, 64 PTP, 128
 // unknown mode; 16 and 128 count only with 8, other bits are ignored.
@@ -19,13 +197,11 @@ pub extern "C" fn ambrulicciu_observe(
 ) -> u8
     ensures { λ r. ⌜ left r (now (ledger .exit)) (now (slots .exit)) (now (offsets .exit)) (now (links .exit)) ≡ observeLeaves (now (ledger .entry)) (now (keys .entry)) (now (slots .entry)) (now (offsets .entry)) (now (links .entry)) (now (observation .entry)) ⌝ }
 {
-    let state = host_ledger::load(ledger);
     let told = host_observation::observation_of(observation);
-    match ledger_observe::observe(state, keys, slots, offsets, links, told) {
-        Answer::Refused(number) => number,
-        Answer::Served(next) => {
-            host_ledger::store_observed(ledger, next);
-            0
-        }
+    let number = refusal(ledger, keys, slots.len(), offsets.len(), links.len(), told);
+    if number == 0 {
+        observed(ledger, keys, slots, offsets, links, told);
+        return 0;
     }
+    number
 }

@@ -7,6 +7,10 @@ use borrow.Fn.Kinds as Kinds'
 use denote.Triple.Clauses as Clauses
 use denote.Ref.{now}
 use Rattle.ledger_steps.specs.Observe.{FollowOutcome}
+use Rattle.ledger_follow.specs.Class.{ClassOutcome}
+use Rattle.ledger_follow.proofs.class_of_follow_up as class-of-follow-up
+use Rattle.ledger_follow.proofs.class_of_follow_up.Kinds as class-of-follow-up-kinds
+use Rattle.ledger_follow.proofs.class_of_follow_up.Reads as class-of-follow-up-reads
 use Rattle.ledger_follow.proofs.count_follow_up as count-follow-up
 use Rattle.ledger_follow.proofs.count_follow_up.Kinds as count-follow-up-kinds
 use Rattle.ledger_follow.proofs.count_follow_up.Reads as count-follow-up-reads
@@ -16,6 +20,16 @@ use Rattle.ledger_follow.proofs.raise_own.Reads as raise-own-reads
 use Rattle.ledger_follow.proofs.shown as shown
 use Rattle.ledger_follow.proofs.shown.Kinds as shown-kinds
 use Rattle.ledger_follow.proofs.shown.Reads as shown-reads
+
+-- the class and the rows of words
+pub class-of-follow-up-unique :
+    (κs : Lfts 3) (a : World.ArgsD class-of-follow-up.signature κs) (r₁ r₂ : World.ResD class-of-follow-up.signature κs)
+    (s₁ s₂ : Clauses.AtExit (Kinds'.endedOf 3 class-of-follow-up-kinds.ps class-of-follow-up-kinds.r) κs)
+    → class-of-follow-up-reads.Post κs a r₁ s₁ → class-of-follow-up-reads.Post κs a r₂ s₂
+    → (r₁ ≡ r₂) × (now (s₁ .1 .0) ≡ now (s₂ .1 .0))
+class-of-follow-up-unique κs a r₁ r₂ s₁ s₂ p q =
+    let e = p ∙ sym q in
+    (ap (λ (x : ClassOutcome). x .class) e, ap (λ (x : ClassOutcome). x .slots) e)
 
 -- the follow-ups and the rows of words
 pub count-follow-up-unique :

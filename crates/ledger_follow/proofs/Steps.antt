@@ -1,7 +1,7 @@
 -- What the answers of the functions that are called say together: the outcome of a follow-up, of the own slot, and of the lookup. At any
 -- capacity N. Assumes nothing.
-use mathlib.Core.Path.{_≡_, sym, ap, _∙_}
-use mathlib.Core.Bool.{Bool, true}
+use mathlib.Core.Path.{_≡_, sym, ap, _∙_, subst}
+use mathlib.Core.Bool.{true}
 use mathlib.Core.List.{List}
 use Prim.Native.Nat.{ℕ}
 use lib.IntN.{ℤ}
@@ -10,7 +10,6 @@ use Rattle.calls.specs.declared.FollowUp.the-variants as follow
 use Rattle.calls.specs.declared.FollowUpTelemetry.{FollowUpTelemetry}
 use Rattle.calls.specs.declared.ReplyKey.{ReplyKey}
 use Rattle.calls.specs.declared.ReplyObservation.{ReplyObservation}
-use Rattle.calls.specs.declared.Time.{Time}
 use Rattle.chains.specs.declared.Ring.{Ring}
 use Rattle.ranges.specs.Ranges.{timeFits, followFits}
 use Rattle.correlation.specs.declared.ReplyRecord.{ReplyRecord}
@@ -29,15 +28,15 @@ use Rattle.correlation.proofs.Ranged.{found-in, class-in}
 use Rattle.key_ring.specs.Table.{wordsAt, storedAt, newestSlot}
 use Rattle.follow_ups.specs.declared.FollowUps.{FollowUps}
 use Rattle.follow_ups.specs.Followed.{wiresOf, followed}
-use Rattle.ledger_steps.specs.Observe.{correctedAt, FollowOutcome, followOutcome, followWith, holderOf, followBy, followIn, recordFrom, uniqueFrom, ownIn}
+use Rattle.ledger_steps.specs.Observe.{classAt, correctedAt, FollowOutcome, followOutcome, holderOf, followBy, followIn, recordFrom, uniqueFrom, ownIn}
 use Rattle.ledger_steps.specs.Readers.{shownIn}
+use Rattle.ledger_follow.specs.Class.{ClassOutcome, classOutcome, classWith, classIn}
 
 -- the times of a matched follow-up are in range, whatever words its slot was read from
-pub class-ranged :
-    (unknown : Bool) (timestamp sequence own : ℕ) (words : List ℕ) (slot : Slot) (found : Found) (c : Class) (t3 : Time)
-    → slot ≡ slotOf words → found ≡ foundBy unknown timestamp sequence own slot → c ≡ classOf found t3 → timeFits t3 ≡ true → MatchedInRange c
-class-ranged unknown timestamp sequence own words slot found c t3 e₁ e₂ e₃ h =
-    rw (e₃, e₂, e₁) (class-in (foundBy unknown timestamp sequence own (slotOf words)) t3 (found-in unknown timestamp sequence own words) h)
+pub class-ranged : (N : ℕ) (slots : List (List ℕ)) (p own : ℕ) (f : FollowUpTelemetry) → timeFits (f .t3) ≡ true → MatchedInRange (classAt N slots p own f)
+class-ranged N slots p own f h =
+    class-in (foundBy (f .unknown) (f .timestamp) (f .sequence) own (slotOf (wordsAt N slots p))) (f .t3)
+    (found-in (f .unknown) (f .timestamp) (f .sequence) own (wordsAt N slots p)) h
 
 -- the converted T3 of a follow-up that is there
 pub telemetry-fits : (x : FollowUp) (f : FollowUpTelemetry) → x ≡ follow.Telemetry f → followFits x ≡ true → timeFits (f .t3) ≡ true
@@ -58,18 +57,15 @@ module _ (N : ℕ) where
       → slots' ≡ correctedAt c N slots at
   corrected-as c m slots at slot corrected words slots' e₁ e₂ e₃ e₄ e₅ = rw (e₁, e₅, e₄, e₃, e₂)
 
-  -- a follow-up, of the slot that stands at a place
-  pub followed-as :
-      (fs fs' : FollowUps) (slots slots' : List (List ℕ)) (at : ℕ) (o : ReplyObservation) (f : FollowUpTelemetry)
-      (slot : Slot) (found : Found) (c : Class) (offset : ℤ)
+  -- the class of a follow-up, of the slot that stands at a place
+  pub class-as :
+      (slots slots' : List (List ℕ)) (at own : ℕ) (f : FollowUpTelemetry) (slot : Slot) (found : Found) (c : Class)
       → slot ≡ slotOf (wordsAt N slots at)
-      → found ≡ foundBy (f .unknown) (f .timestamp) (f .sequence) (o .key .reflector) slot
+      → found ≡ foundBy (f .unknown) (f .timestamp) (f .sequence) own slot
       → c ≡ classOf found (f .t3)
       → slots' ≡ correctedAt c N slots at
-      → offset ≡ o .offset
-      → fs' ≡ followed fs c offset
-      → followOutcome fs' slots' ≡ followWith N fs slots at o f
-  followed-as fs fs' slots slots' at o f slot found c offset e₁ e₂ e₃ e₄ e₅ e₆ = rw (e₆, e₅, e₄, e₃, e₂, e₁)
+      → classOutcome c slots' ≡ classWith N slots at own f
+  class-as slots slots' at own f slot found c e₁ e₂ e₃ e₄ = rw (e₄, e₃, e₂, e₁)
 
 module _ (N : ℕ) (byKey : ReplyKey → ℕ) (byNumber : ℕ → ℕ) where
   -- an observation, by its follow-up
@@ -82,10 +78,31 @@ module _ (N : ℕ) (byKey : ReplyKey → ℕ) (byNumber : ℕ → ℕ) where
 
   -- a follow-up whose slot was found
   pub found-as :
-      (fs : FollowUps) (ring : Ring) (keys slots links : List (List ℕ)) (o : ReplyObservation) (f : FollowUpTelemetry) (at : ℕ) (out : FollowOutcome)
-      → at ≡ holderOf N byKey byNumber ring keys slots links (f .sequence) → out ≡ followWith N fs slots at o f
-      → out ≡ followBy N byKey byNumber (follow.Telemetry f) fs ring keys slots links o
-  found-as fs ring keys slots links o f at out e h = h ∙ ap (λ (p : ℕ). followWith N fs slots p o f) e
+      (ring : Ring) (keys slots links : List (List ℕ)) (own : ℕ) (f : FollowUpTelemetry) (at : ℕ) (out : ClassOutcome)
+      → at ≡ holderOf N byKey byNumber ring keys slots links (f .sequence) → out ≡ classWith N slots at own f
+      → out ≡ classIn N byKey byNumber ring keys slots links own f
+  unfolding classIn
+  found-as ring keys slots links own f at out e h = h ∙ ap (λ (p : ℕ). classWith N slots p own f) e
+
+  -- its times are in range
+  pub found-ranged :
+      (ring : Ring) (keys slots slots' links : List (List ℕ)) (own : ℕ) (f : FollowUpTelemetry) (c : Class)
+      → classOutcome c slots' ≡ classIn N byKey byNumber ring keys slots links own f → timeFits (f .t3) ≡ true → MatchedInRange c
+  unfolding classIn
+  found-ranged ring keys slots slots' links own f c e h =
+      subst MatchedInRange (sym (ap (λ (x : ClassOutcome). x .class) e)) (class-ranged N slots (holderOf N byKey byNumber ring keys slots links (f .sequence)) own f h)
+
+  -- a follow-up whose class is known
+  pub counted-as :
+      (fs fs' : FollowUps) (ring : Ring) (keys slots slots' links : List (List ℕ)) (o : ReplyObservation) (f : FollowUpTelemetry) (c : Class) (offset : ℤ)
+      → classOutcome c slots' ≡ classIn N byKey byNumber ring keys slots links (o .key .reflector) f
+      → offset ≡ o .offset
+      → fs' ≡ followed fs c offset
+      → followOutcome fs' slots' ≡ followBy N byKey byNumber (follow.Telemetry f) fs ring keys slots links o
+  unfolding classIn
+  counted-as fs fs' ring keys slots slots' links o f c offset e₁ e₂ e₃ =
+      ap (λ (x : FollowUps). followOutcome x slots') (e₃ ∙ ap (followed fs c) e₂)
+      ∙ ap (λ (x : ClassOutcome). followOutcome (followed fs (x .class) (o .offset)) (x .slots)) e₁
 
   -- the own slot
   pub own-as :

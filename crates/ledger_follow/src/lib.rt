@@ -6,13 +6,14 @@ ghost use lib.ListN.{length};
 ghost use Rattle.scope.specs.Limits.{capacity};
 ghost use Rattle.chains.specs.Hash.{numberHash};
 ghost use Rattle.chains.specs.Rings.{RingFits};
-ghost use Rattle.ranges.specs.Ranges.{timeFits, followFits};
+ghost use Rattle.ranges.specs.Ranges.{followFits};
 ghost use Rattle.correlation.specs.Words.{slotOf};
 ghost use Rattle.correlation.specs.Class.{offsetInRange};
 ghost use Rattle.key_ring.specs.Table.{hashOf, wordsAt};
 ghost use Rattle.follow_ups.specs.Bounds.{InBounds};
-ghost use Rattle.ledger_steps.specs.Observe.{correctedAt, followOutcome, followWith, followIn, recordFrom, uniqueFrom, ownIn};
+ghost use Rattle.ledger_steps.specs.Observe.{correctedAt, followOutcome, followIn, recordFrom, uniqueFrom, ownIn};
 ghost use Rattle.ledger_steps.specs.Readers.{shownIn};
+ghost use Rattle.ledger_follow.specs.Class.{classOutcome, classWith, classIn};
 use calls::FollowUp;
 use calls::FollowUpTelemetry;
 use calls::ReplyObservation;
@@ -49,33 +50,45 @@ fn correct_at(class: Class, slots: &mut [[u64; 3]], at: usize, slot: Slot)
     }
 }
 
-// A follow-up, of the slot that stands at `at`: its class first, then what the class does.
-fn follow_at(
-    follow: FollowUps,
-    slots: &mut [[u64; 3]],
-    at: usize,
-    observation: ReplyObservation,
-    telemetry: FollowUpTelemetry,
-) -> FollowUps
-    requires { ⌜ (length (now slots) ≡ capacity) × InBounds follow × (timeFits (telemetry .t3) ≡ true) × offsetInRange (observation .offset) ⌝ }
-    ensures { λ q. ⌜ followOutcome q (now (slots .exit)) ≡ followWith capacity follow (now (slots .entry)) at observation telemetry ⌝ }
+// The class of a follow-up, of the slot that stands at `at`; a matched one corrects it. `own` is the reflector number of the reply that
+// carries it.
+fn class_at(slots: &mut [[u64; 3]], at: usize, own: u32, telemetry: FollowUpTelemetry) -> Class
+    requires { ⌜ length (now slots) ≡ capacity ⌝ }
+    ensures { λ q. ⌜ classOutcome q (now (slots .exit)) ≡ classWith capacity (now (slots .entry)) at own telemetry ⌝ }
 {
-    let key = observation.key;
     let t3 = telemetry.t3;
     let slot = slot_at(slots, at);
     let found = correlation::follow::look(
         telemetry.unknown,
         telemetry.timestamp,
         telemetry.sequence,
-        key.reflector,
+        own,
         slot,
     );
     let class = correlation::follow::class_of(found, t3);
     correct_at(class, slots, at, slot);
-    follow.follow(class, observation.offset)
+    class
 }
 
-// The follow-up of an observation, where it has one.
+// The class of a follow-up, of the slot of its number; a matched one corrects it.
+pub fn class_of_follow_up(
+    keys: &[[u64; 2]],
+    slots: &mut [[u64; 3]],
+    links: &[[u16; 8]],
+    ring: Ring,
+    secret: [u32; 8],
+    own: u32,
+    telemetry: FollowUpTelemetry,
+) -> Class
+    requires { ⌜ (length (now keys) ≡ capacity) × (length (now slots) ≡ capacity) × (length (now links) ≡ capacity) × RingFits capacity ring ⌝ }
+    ensures { λ q. ⌜ classOutcome q (now (slots .exit)) ≡ classIn capacity (hashOf secret) (numberHash secret) ring (now (keys .entry)) (now (slots .entry)) (now (links .entry)) own telemetry ⌝ }
+{
+    let number = telemetry.sequence;
+    let at = key_ring::holder(keys, slots, links, ring, secret, number);
+    class_at(slots, at, own, telemetry)
+}
+
+// The follow-up of an observation, where it has one: its class first, then what the class does.
 pub fn count_follow_up(
     follow: FollowUps,
     keys: &[[u64; 2]],
@@ -89,12 +102,13 @@ pub fn count_follow_up(
     ensures { λ q. ⌜ followOutcome q (now (slots .exit)) ≡ followIn capacity (hashOf secret) (numberHash secret) follow ring (now (keys .entry)) (now (slots .entry)) (now (links .entry)) observation ⌝ }
 {
     let follow_up = observation.follow;
+    let key = observation.key;
     match follow_up {
         FollowUp::Absent => follow,
         FollowUp::Telemetry(telemetry) => {
-            let number = telemetry.sequence;
-            let at = key_ring::holder(keys, slots, links, ring, secret, number);
-            follow_at(follow, slots, at, observation, telemetry)
+            let own = key.reflector;
+            let class = class_of_follow_up(keys, slots, links, ring, secret, own, telemetry);
+            follow.follow(class, observation.offset)
         }
     }
 }

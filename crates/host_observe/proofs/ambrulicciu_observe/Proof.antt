@@ -1,26 +1,23 @@
 -- `host_observe::ambrulicciu_observe` meets its contract. Assumes nothing.
+use mathlib.Core.Path.{sym, _∙_}
+use denote.Ref.{now}
+use Rattle.ledger_checks.proofs.Sound.{observe-sound}
+use Rattle.host_ledger.specs.Words.{ledgerAt}
 use Rattle.host_observe.proofs.Steps.{refused-as, served-as}
 use borrow.Author.Needs.{needs}
 use Rattle.host_observe.proofs.ambrulicciu_observe.Statement.{statement}
 use Rattle.host_observe.proofs.ambrulicciu_observe.Tie as tie
 
-load-requires : tie.Need-load-requires
-load-requires c κs = search needs
-
 observation-of-requires : tie.Need-observation-of-requires
 observation-of-requires c κs = search needs
 
-observe-requires : tie.Need-observe-requires
-observe-requires c κs = search needs
+refusal-requires : tie.Need-refusal-requires
+refusal-requires c κs = search needs
 
-enum-known-number : tie.Need-enum-known-number
-enum-known-number c = search needs
-
-enum-known-next : tie.Need-enum-known-next
-enum-known-next c = search needs
-
-store-observed-requires : tie.Need-store-observed-requires
-store-observed-requires c κs = search needs
+observed-requires : tie.Need-observed-requires
+observed-requires c κs =
+    let s = c .before .before .before .before .before .before .before .before .before in
+    observe-sound (ledgerAt (now (s .args .ledger))) (now (s .args .keys)) _ _ _ _ (sym (c .before .before .before .before .before .refusal .ensures) ∙ c .before .before .before .before .if1 .taken)
 
 same-length : tie.Need-same-length
 same-length c = search needs
@@ -32,39 +29,20 @@ same-length-3 : tie.Need-same-length-3
 same-length-3 c = search needs
 
 returns : tie.Need-returns
-returns c =
-    refused-as (c .before .before .before .before .before .before .before .before .before .before .before .before .before .before .before .args .ledger .now) (c .before .before .before .before .before .before .before .before .before .before .before .before .before .before .before .args .keys .now) (c .before .before .before .before .before .before .before .before .before .before .before .before .before .before .before .args .slots .now) (c .before .before .before .before .before .before .before .before .before .before .before .before .before .before .before .args .offsets .now) (c .before .before .before .before .before .before .before .before .before .before .before .before .before .before .before .args .links .now) (c .before .before .before .before .before .before .before .before .before .before .before .before .before .before .before .args .observation .now) _ _ _ _ _ _ _
-    (c .before .before .before .before .before .before .before .before .before .before .before .before .load .ensures) (c .before .before .before .before .before .before .before .before .before .before .before .observation-of .ensures) (c .before .number .given .1) (c .before .before .before .before .before .before .before .observe .ensures)
-
-same-length-4 : tie.Need-same-length-4
-same-length-4 c = search needs
-
-same-length-5 : tie.Need-same-length-5
-same-length-5 c = search needs
-
-same-length-6 : tie.Need-same-length-6
-same-length-6 c = search needs
+returns c = served-as (now (c .before .before .before .before .before .before .before .before .before .before .before .before .before .before .args .ledger)) (now (c .before .before .before .before .before .before .before .before .before .before .before .before .before .before .args .keys)) (now (c .before .before .before .before .before .before .before .before .before .before .before .before .before .before .args .slots)) (now (c .before .before .before .before .before .before .before .before .before .before .before .before .before .before .args .offsets)) (now (c .before .before .before .before .before .before .before .before .before .before .before .before .before .before .args .links)) (now (c .before .before .before .before .before .before .before .before .before .before .before .before .before .before .args .observation)) _ (c .before .before .before .before .before .before .before .before .before .before .before .before .observation-of .ensures) _ (sym (c .before .before .before .before .before .before .before .before .before .before .refusal .ensures) ∙ c .before .before .before .before .before .before .before .before .before .if1 .taken) (c .before .before .before .before .observed .ensures)
 
 returns-2 : tie.Need-returns-2
-returns-2 c =
-    served-as (c .before .before .before .before .before .before .before .before .before .before .before .before .before .before .before .before .before .args .ledger .now) (c .before .before .before .before .before .before .before .before .before .before .before .before .before .before .before .before .before .args .keys .now) (c .before .before .before .before .before .before .before .before .before .before .before .before .before .before .before .before .before .args .slots .now) (c .before .before .before .before .before .before .before .before .before .before .before .before .before .before .before .before .before .args .offsets .now) (c .before .before .before .before .before .before .before .before .before .before .before .before .before .before .before .before .before .args .links .now) (c .before .before .before .before .before .before .before .before .before .before .before .before .before .before .before .before .before .args .observation .now) _ _ _ _ _ _ _ _
-    (c .before .before .before .before .before .before .before .before .before .before .before .before .before .before .load .ensures) (c .before .before .before .before .before .before .before .before .before .before .before .before .before .observation-of .ensures) (c .before .before .before .next .given .1) (c .before .before .before .before .before .before .before .before .before .observe .ensures) (c .store-observed .ensures .0)
+returns-2 c = refused-as (now (c .before .before .before .before .before .args .ledger)) (now (c .before .before .before .before .before .args .keys)) (now (c .before .before .before .before .before .args .slots)) (now (c .before .before .before .before .before .args .offsets)) (now (c .before .before .before .before .before .args .links)) (now (c .before .before .before .before .before .args .observation)) _ (c .before .before .before .observation-of .ensures) _ (c .before .refusal .ensures) (c .if1 .left)
 
 pub ambrulicciu-observe-spec : {M : Type 1} → statement M
 ambrulicciu-observe-spec =
     tie.close
     (tie.spec
-    load-requires
     observation-of-requires
-    observe-requires
-    enum-known-number
-    enum-known-next
-    store-observed-requires
+    refusal-requires
+    observed-requires
     same-length
     same-length-2
     same-length-3
     returns
-    same-length-4
-    same-length-5
-    same-length-6
     returns-2)

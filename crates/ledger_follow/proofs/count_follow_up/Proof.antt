@@ -1,10 +1,13 @@
 -- `ledger_follow::count_follow_up` meets its contract.
 -- Assumes nothing.
-use mathlib.Core.Path.{refl}
+use mathlib.Core.Path.{refl, sym, subst}
+use mir.Syntax.{w32}
+use mir.ValLaws.{toZ-ofZ}
 use denote.Ref.{now}
 use Rattle.chains.specs.Hash.{numberHash}
+use Rattle.correlation.specs.Class.{offsetInRange}
 use Rattle.key_ring.specs.Table.{hashOf}
-use Rattle.ledger_follow.proofs.Steps.{telemetry-fits, follow-as, found-as}
+use Rattle.ledger_follow.proofs.Steps.{telemetry-fits, follow-as, found-ranged, counted-as}
 use borrow.Author.Needs.{needs}
 use Rattle.ledger_follow.proofs.count_follow_up.Statement.{statement}
 use Rattle.ledger_follow.proofs.count_follow_up.Tie as tie
@@ -15,17 +18,21 @@ enum-told c = search needs
 enum-known-follow-up : tie.Need-enum-known-follow-up
 enum-known-follow-up c = search needs
 
-holder-requires : tie.Need-holder-requires
-holder-requires c κs = search needs
+class-of-follow-up-requires : tie.Need-class-of-follow-up-requires
+class-of-follow-up-requires c κs = search needs
 
-follow-at-requires : tie.Need-follow-at-requires
-follow-at-requires c κs =
-    let s = c .before .before .before .before .before .before in
-    (s .pre .1, s .pre .4, telemetry-fits _ _ (c .before .before .before .before .follow-up .given .1) (s .pre .5), s .pre .6)
+follow-requires : tie.Need-follow-requires
+follow-requires c κs =
+    let s = c .before .before .before .before .before .before .before .before in (
+      s .pre .4,
+      found-ranged _ (hashOf (s .args .secret)) (numberHash (s .args .secret)) (s .args .ring) (now (s .args .keys)) (now (s .args .slots)) _ (now (s .args .links)) _ _ _
+          (c .before .before .class-of-follow-up .ensures) (telemetry-fits _ _ (c .before .before .before .before .before .follow-up .given .1) (s .pre .5)),
+      subst offsetInRange (sym (toZ-ofZ w32 (s .args .observation .offset) (record { sfits = c .struct-told .given .1 .1 .1 .1 .1 .0 .1 }))) (s .pre .6),
+    )
 
 returns : tie.Need-returns
 returns c =
-    let s = c .before .before in
+    let s = c .before .before .before in
     follow-as _ (hashOf (s .args .secret)) (numberHash (s .args .secret)) (s .args .follow) (s .args .ring) (now (s .args .keys)) (now (s .args .slots)) (now (s .args .links)) (s .args .observation) _ _ (c .enum-told .given .1) refl
 
 same-length : tie.Need-same-length
@@ -33,9 +40,10 @@ same-length c = search needs
 
 returns-2 : tie.Need-returns-2
 returns-2 c =
-    let s = c .before .before .before .before .before .before .before .before in
+    let s = c .before .before .before .before .before .before .before .before .before in
     follow-as _ (hashOf (s .args .secret)) (numberHash (s .args .secret)) (s .args .follow) (s .args .ring) (now (s .args .keys)) (now (s .args .slots)) (now (s .args .links)) (s .args .observation) _ _ (c .before .before .before .before .before .before .follow-up .given .1)
-    (found-as _ (hashOf (s .args .secret)) (numberHash (s .args .secret)) (s .args .follow) (s .args .ring) (now (s .args .keys)) (now (s .args .slots)) (now (s .args .links)) (s .args .observation) _ _ _ (c .before .before .before .holder .ensures) (c .before .follow-at .ensures))
+    (counted-as _ (hashOf (s .args .secret)) (numberHash (s .args .secret)) (s .args .follow) _ (s .args .ring) (now (s .args .keys)) (now (s .args .slots)) _ (now (s .args .links)) (s .args .observation) _ _ _
+    (c .before .before .before .class-of-follow-up .ensures) (toZ-ofZ w32 (s .args .observation .offset) (record { sfits = c .before .struct-told .given .1 .1 .1 .1 .1 .0 .1 })) (c .follow .ensures))
 
 pub count-follow-up-spec : {M : Type 1} → statement M
 count-follow-up-spec =
@@ -43,8 +51,8 @@ count-follow-up-spec =
     (tie.spec
     enum-told
     enum-known-follow-up
-    holder-requires
-    follow-at-requires
+    class-of-follow-up-requires
+    follow-requires
     returns
     same-length
     returns-2)

@@ -1,0 +1,133 @@
+-- What is stored of direct loss and of the follow-ups, by what was told and by the class. Assumes nothing.
+use mathlib.Core.Path.{_≡_, refl, sym, ap, _∙_}
+use mathlib.Core.Bool.{Bool, cond}
+use mathlib.Core.List.{List, [], _∷_}
+use Prim.Native.Nat.{ℕ, _+_}
+use native.Mathlib.Omega.{arith}
+use lib.IntN.{ℤ}
+use lib.ListN.{getD, set}
+use lib.Seq.{sets, set-getD}
+use Rattle.calls.specs.declared.Counters.the-variants as counters
+use Rattle.calls.specs.declared.CounterPoint.{CounterPoint}
+use Rattle.calls.specs.declared.Counters.{Counters}
+use Rattle.calls.specs.declared.FollowUp.{FollowUp}
+use Rattle.calls.specs.declared.FollowUp.the-variants as follow
+use Rattle.calls.specs.declared.FollowUpTelemetry.{FollowUpTelemetry}
+use Rattle.calls.specs.declared.ReplyKey.{ReplyKey}
+use Rattle.calls.specs.declared.ReplyObservation.{ReplyObservation}
+use Rattle.chains.specs.declared.Ring.{Ring}
+use Rattle.chains.proofs.Tests.{eq-true, eq-false}
+use Rattle.correlation.specs.declared.follow.Class.{Class}
+use Rattle.correlation.specs.declared.follow.Class.the-variants as class
+use Rattle.correlation.specs.declared.follow.Match.{Match}
+use Rattle.direct.specs.declared.Direct.{Direct}
+use Rattle.direct.specs.Outcomes.{seenIn}
+use Rattle.offset_set.specs.Offsets.{offsetSet}
+use Rattle.follow_ups.specs.declared.FollowUps.{FollowUps}
+use Rattle.clock_quality.specs.declared.ClockQuality.{ClockQuality}
+use Rattle.clock_quality.specs.Bounds as quality
+use Rattle.follow_ups.specs.Bounds.{InBounds}
+use Rattle.follow_ups.specs.Followed.{counted, followed}
+use Rattle.ledger_steps.specs.Observe.{DirectOutcome, directOutcome, directBy, directIn, FollowOutcome, followOutcome, followBy, followIn}
+use Rattle.ledger_follow.specs.Class.{classOutcome, classIn}
+use Rattle.ledger_follow.proofs.Steps.{follow-as, counted-as}
+use Rattle.host_ledger.specs.Parts.{directAt, directWords, followAt, followCountsWords, followWords}
+use Rattle.host_ledger.specs.Left.{directStored, followStored}
+use Rattle.host_observed.specs.Last.{qualityWithoutLast, withoutLast}
+use Rattle.host_observed.proofs.Last.{match-replaces}
+use Rattle.host_observe.specs.Observe.{directLeft, directLeaves, followLeft, followLeaves}
+
+-- ---- direct loss
+
+module _ (N : ℕ) (byNumber : ℕ → ℕ) (w offsets : List ℕ) (links : List (List ℕ)) (o : ReplyObservation) where
+  -- no counters
+  pub direct-untold : o .counters ≡ counters.Absent → directLeft w offsets links ≡ directLeaves (o .counters) w (directIn N byNumber (directAt 33 w) offsets links o)
+  unfolding directIn
+  direct-untold e =
+      sym (ap (λ (x : Counters). directLeaves x w (directBy N byNumber x (directAt 33 w) (offsetSet offsets links (seenIn (directAt 33 w .window))) (o .ordinal))) e)
+
+  -- counters that were counted
+  pub direct-told :
+      (c : CounterPoint) (before after : Direct) (w' offsets' : List ℕ) (links' : List (List ℕ))
+      → o .counters ≡ counters.Point c → before ≡ directAt 33 w
+      → directOutcome after offsets' links' ≡ directIn N byNumber before offsets links o
+      → w' ≡ sets w 33 (directWords after)
+      → directLeft w' offsets' links' ≡ directLeaves (o .counters) w (directIn N byNumber (directAt 33 w) offsets links o)
+  direct-told c before after w' offsets' links' e₁ e₂ e₃ e₄ =
+      ap (λ (v : List ℕ). directLeft v offsets' links') e₄
+      ∙ ap (directLeaves (counters.Point c) w) (e₃ ∙ ap (λ (d : Direct). directIn N byNumber d offsets links o) e₂)
+      ∙ ap (λ (x : Counters). directLeaves x w (directIn N byNumber (directAt 33 w) offsets links o)) (sym e₁)
+
+-- ---- the follow-ups
+
+module _ (w : List ℕ) where
+  -- counts as they are read are stored as they were
+  same-counts : sets w 44 (followCountsWords (followAt 44 w .counts)) ≡ w
+  unfolding followAt
+  same-counts =
+      ap (λ (v : List ℕ). sets v 45 (getD w 45 0 ∷ getD w 46 0 ∷ getD w 47 0 ∷ getD w 48 0 ∷ getD w 49 0 ∷ [])) (set-getD w 44 0)
+      ∙ ap (λ (v : List ℕ). sets v 46 (getD w 46 0 ∷ getD w 47 0 ∷ getD w 48 0 ∷ getD w 49 0 ∷ [])) (set-getD w 45 0)
+      ∙ ap (λ (v : List ℕ). sets v 47 (getD w 47 0 ∷ getD w 48 0 ∷ getD w 49 0 ∷ [])) (set-getD w 46 0)
+      ∙ ap (λ (v : List ℕ). sets v 48 (getD w 48 0 ∷ getD w 49 0 ∷ [])) (set-getD w 47 0)
+      ∙ ap (λ (v : List ℕ). sets v 49 (getD w 49 0 ∷ [])) (set-getD w 48 0)
+      ∙ set-getD w 49 0
+
+  -- none matched, so that only the counts are stored
+  unmatched : (f : FollowUps) → f .counts .matched ≡ getD w 45 0 → followStored w f ≡ sets w 44 (followCountsWords (f .counts))
+  unmatched f e = ap (λ (b : Bool). cond b (sets w 44 (followCountsWords (f .counts))) (sets w 44 (followWords f))) (eq-true (f .counts .matched) (getD w 45 0) e)
+
+  untold : followStored w (followAt 44 w) ≡ w
+  unfolding followAt
+  untold = unmatched (followAt 44 w) refl ∙ same-counts
+
+  -- a follow-up of a class that is not matched
+  pub other-as : (c d : Class) (offset : ℤ) → c ≡ d → counted d (followAt 44 w .counts) .matched ≡ getD w 45 0
+      → sets w 44 (followCountsWords (counted c (followAt 44 w .counts))) ≡ followStored w (followed (followAt 44 w) c offset)
+  unfolding followed
+  other-as c d offset e h =
+      sym (unmatched (followed (followAt 44 w) c offset) (ap (λ (x : Class). counted x (followAt 44 w .counts) .matched) e ∙ h))
+
+  -- a matched one
+  pub matched-as : (c : Class) (m : Match) (offset given : ℤ) → given ≡ offset → c ≡ class.Matched m
+      → sets w 44 (followWords (followed (followAt 44 w) (class.Matched m) given)) ≡ followStored w (followed (followAt 44 w) c offset)
+  unfolding followed followAt
+  matched-as c m offset given q e =
+      ap (λ (x : ℤ). sets w 44 (followWords (followed (followAt 44 w) (class.Matched m) x))) q
+      ∙ sym
+      (ap (λ (x : Class). followStored w (followed (followAt 44 w) x offset)) e
+      ∙ ap (λ (b : Bool). cond b (sets w 44 (followCountsWords (counted (class.Matched m) (followAt 44 w .counts)))) (sets w 44 (followWords (followed (followAt 44 w) (class.Matched m) offset))))
+      (eq-false (getD w 45 0 + 1) (getD w 45 0) (λ z. omega arith)))
+
+-- without the last estimates the counts are as bounded
+pub bounded-without : (f : FollowUps) → InBounds f → InBounds (withoutLast f)
+bounded-without f h = record { counts = h .counts; delay = h .delay; quality = quality-bounded (f .quality) (h .quality) }
+  where
+    quality-bounded : (q : ClockQuality) → quality.Bounded q → quality.Bounded (qualityWithoutLast q)
+    quality-bounded q b = record { samples = b .samples; both = b .both; unsynchronized = b .unsynchronized; invalid = b .invalid; unknown = b .unknown }
+
+-- it was counted without the last estimates
+pub replaced : (f before after : FollowUps) (m : Match) (offset given : ℤ) → given ≡ offset → before ≡ withoutLast f → after ≡ followed before (class.Matched m) given
+    → after ≡ followed f (class.Matched m) offset
+replaced f before after m offset given e₁ e₂ e₃ = e₃ ∙ (λ i. followed (e₂ i) (class.Matched m) (e₁ i)) ∙ match-replaces f m offset
+
+module _ (N : ℕ) (byKey : ReplyKey → ℕ) (byNumber : ℕ → ℕ) (w : List ℕ) (ring : Ring) (keys slots links : List (List ℕ)) (o : ReplyObservation) where
+  -- no follow-up
+  pub follow-untold : o .follow ≡ follow.Absent → followLeft w slots ≡ followLeaves w (followIn N byKey byNumber (followAt 44 w) ring keys slots links o)
+  unfolding followIn
+  follow-untold e =
+      ap (λ (v : List ℕ). followLeft v slots) (sym (untold w))
+      ∙ sym (ap (λ (x : FollowUp). followLeaves w (followBy N byKey byNumber x (followAt 44 w) ring keys slots links o)) e)
+
+  -- a follow-up whose class was counted
+  pub follow-told :
+      (f : FollowUpTelemetry) (c : Class) (offset : ℤ) (slots' : List (List ℕ)) (w' : List ℕ)
+      → o .follow ≡ follow.Telemetry f
+      → classOutcome c slots' ≡ classIn N byKey byNumber ring keys slots links (o .key .reflector) f
+      → offset ≡ o .offset
+      → w' ≡ followStored w (followed (followAt 44 w) c offset)
+      → followLeft w' slots' ≡ followLeaves w (followIn N byKey byNumber (followAt 44 w) ring keys slots links o)
+  follow-told f c offset slots' w' e₁ e₂ e₃ e₄ =
+      ap (λ (v : List ℕ). followLeft v slots') e₄
+      ∙ ap (followLeaves w)
+      (follow-as N byKey byNumber (followAt 44 w) ring keys slots links o (follow.Telemetry f) (followOutcome (followed (followAt 44 w) c offset) slots') e₁
+      (counted-as N byKey byNumber (followAt 44 w) (followed (followAt 44 w) c offset) ring keys slots slots' links o f c offset e₂ e₃ refl))

@@ -1,0 +1,105 @@
+-- `host_observe::observed` meets its contract. Assumes nothing.
+use mathlib.Core.Path.{refl, sym, subst, _∙_}
+use denote.Ref.{now}
+use Rattle.scope.specs.Limits.{capacity}
+use Rattle.chains.specs.Hash.{numberHash}
+use Rattle.chains.specs.Rings.{RingFits}
+use Rattle.host_ledger.specs.Words.{ledgerAt}
+use Rattle.host_observe.proofs.Steps.{calls-fit, rtt-bounded, direct-bounded, follow-bounded, follow-ranged, observed-as}
+use borrow.Author.Needs.{needs}
+use Rattle.host_observe.proofs.observed.Statement.{statement}
+use Rattle.host_observe.proofs.observed.Tie as tie
+
+secret-words-requires : tie.Need-secret-words-requires
+secret-words-requires c κs = search needs
+
+keys-ring-requires : tie.Need-keys-ring-requires
+keys-ring-requires c κs = search needs
+
+element-copy-out-copies : tie.Need-element-copy-out-copies
+element-copy-out-copies c = search needs
+
+cast-copies : tie.Need-cast-copies
+cast-copies c = search needs
+
+element-copy-out-calls : tie.Need-element-copy-out-calls
+element-copy-out-calls c = search needs
+
+add-ledger : tie.Need-add-ledger
+add-ledger c = calls-fit (now (c .before .before .before .before .before .before .before .args .ledger)) (now (c .before .before .before .before .before .before .before .args .keys)) _ _ _ (c .before .before .before .before .before .before .before .args .told) (c .before .before .before .before .before .before .before .pre)
+
+element-write-ledger : tie.Need-element-write-ledger
+element-write-ledger c = search needs
+
+element-write-ledger-2 : tie.Need-element-write-ledger-2
+element-write-ledger-2 c = search needs
+
+count-round-trip-requires : tie.Need-count-round-trip-requires
+count-round-trip-requires c κs = rtt-bounded (now (c .before .before .before .before .before .before .before .before .args .ledger)) (now (c .before .before .before .before .before .before .before .before .args .keys)) _ _ _ (c .before .before .before .before .before .before .before .before .args .told) (c .before .before .before .before .before .before .before .before .pre)
+
+count-direct-requires : tie.Need-count-direct-requires
+count-direct-requires c κs =
+    let s = c .before .before .before .before .before .before .before .before .before .before .before .before in
+    let bounded = direct-bounded (now (c .before .before .before .before .before .before .before .before .before .before .before .before .args .ledger)) (now (c .before .before .before .before .before .before .before .before .before .before .before .before .args .keys)) _ _ _ (c .before .before .before .before .before .before .before .before .before .before .before .before .args .told) (c .before .before .before .before .before .before .before .before .before .before .before .before .pre) _ (c .before .before .before .count-round-trip .ensures) in
+    (s .pre .offsets-size, s .pre .links-size, bounded .0, bounded .1)
+
+count-follow-up-requires : tie.Need-count-follow-up-requires
+count-follow-up-requires c κs =
+    let s = c .before .before .before .before .before .before .before .before .before .before .before .before .before .before .before .before .before .before .before in
+    let ranged = follow-ranged (s .args .told) (s .pre .ranged) in (
+      s .pre .keys-size,
+      s .pre .slots-size,
+      c .before .before .before .before .before .before .count-direct .kept .1 .1 .0 ∙ s .pre .links-size,
+      subst (RingFits capacity) (sym (c .before .before .before .before .before .before .before .before .before .before .before .before .before .before .keys-ring .ensures)) (s .pre .rings .keys-ring),
+      follow-bounded (now (c .before .before .before .before .before .before .before .before .before .before .before .before .before .before .before .before .before .before .before .args .ledger)) (now (c .before .before .before .before .before .before .before .before .before .before .before .before .before .before .before .before .before .before .before .args .keys)) _ _ _ (c .before .before .before .before .before .before .before .before .before .before .before .before .before .before .before .before .before .before .before .args .told) (c .before .before .before .before .before .before .before .before .before .before .before .before .before .before .before .before .before .before .before .pre) (numberHash (c .before .before .before .before .before .before .before .before .before .before .before .before .before .before .before .before .secret-words .result)) _ _ _ _ _ _ (c .before .before .before .before .before .before .before .before .before .before .count-round-trip .ensures) (c .before .before .before .before .before .before .count-direct .ensures),
+      ranged .0,
+      ranged .1,
+    )
+
+raise-own-requires : tie.Need-raise-own-requires
+raise-own-requires c κs =
+    let s = c .before .before .before .before .before .before .before .before .before .before .before .before .before .before .before .before .before .before .before .before .before .before .before in (
+      s .pre .keys-size,
+      c .before .before .before .count-follow-up .kept .1 .1 .0 ∙ s .pre .slots-size,
+      c .before .before .before .before .before .before .before .before .before .before .count-direct .kept .1 .1 .0 ∙ s .pre .links-size,
+      subst (RingFits capacity) (sym (c .before .before .before .before .before .before .before .before .before .before .before .before .before .before .before .before .before .before .keys-ring .ensures)) (s .pre .rings .keys-ring),
+    )
+
+same-length : tie.Need-same-length
+same-length c = search needs
+
+same-length-2 : tie.Need-same-length-2
+same-length-2 c = search needs
+
+same-length-3 : tie.Need-same-length-3
+same-length-3 c = search needs
+
+returns : tie.Need-returns
+unfolding ledgerAt
+returns c =
+    let s = c .before .before .before .before .before .before .before .before .before .before .before .before .before .before .before .before .before .before .before .before .before .before .before .before .before in
+    observed-as (now (s .args .ledger)) (now (s .args .keys)) (now (s .args .slots)) (now (s .args .offsets)) (now (s .args .links)) (s .args .told)
+    _ _ _ _ _ _ _ _ _ _
+    (c .before .before .before .before .before .before .before .before .before .before .before .before .before .before .before .before .before .before .before .before .before .before .secret-words .ensures) (c .before .before .before .before .before .before .before .before .before .before .before .before .before .before .before .before .before .before .before .before .keys-ring .ensures) refl
+    (c .before .before .before .before .before .before .before .before .before .before .before .before .before .before .before .before .count-round-trip .ensures) (c .before .before .before .before .before .before .before .before .before .before .before .before .count-direct .ensures) (c .before .before .before .before .before .count-follow-up .ensures) (c .before .raise-own .ensures)
+
+pub observed-spec : {M : Type 1} → statement M
+observed-spec =
+    tie.close
+    (tie.spec
+    secret-words-requires
+    keys-ring-requires
+    element-copy-out-copies
+    cast-copies
+    element-copy-out-calls
+    add-ledger
+    element-write-ledger
+    element-write-ledger-2
+    count-round-trip-requires
+    count-direct-requires
+    count-follow-up-requires
+    raise-own-requires
+    same-length
+    same-length-2
+    same-length-3
+    returns)
