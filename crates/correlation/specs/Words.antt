@@ -8,6 +8,7 @@ use lib.Dec.{eqb}
 use lib.ListN.{getD}
 use mir.Syntax.{w64}
 use mir.Val.{ofZ, toZ}
+use Rattle.estimate.specs.Make.{isPtp}
 use Rattle.ranges.specs.Ranges.{timeWithin}
 use Rattle.calls.specs.declared.Time.{Time}
 use Rattle.calls.specs.declared.Time.the-variants as time
@@ -42,10 +43,6 @@ abbrev pub timeWord : Time → ℕ
 timeWord time.Absent = 0
 timeWord (time.Nanoseconds z) = ofZ w64 z
 
-abbrev pub isPTP : ClockFormat → Bool
-isPTP NTP = false
-isPTP PTP = true
-
 abbrev pub estimated : Wires → Bool
 estimated wires.Absent = false
 estimated (wires.Pair s r) = true
@@ -66,7 +63,7 @@ slotFlags s = bit (s .observed) + 2 * bit (s .corrected)
 
 -- recorded, timed, PTP, estimated
 abbrev pub recordFlags : ReplyRecord → ℕ
-recordFlags r = 1 + 2 * bit (timed (r .t4)) + 4 * bit (isPTP (r .format)) + 8 * bit (estimated (r .quality))
+recordFlags r = 1 + 2 * bit (timed (r .t4)) + 4 * bit (isPtp (r .format)) + 8 * bit (estimated (r .quality))
 
 -- the first word, of a count, the slot's flags, the record's flags and the wires
 abbrev pub joined : ℕ → ℕ → ℕ → ℕ → ℕ → ℕ

@@ -149,7 +149,8 @@ impl ErrorEstimate {
     }
 }
 
-fn is_ptp(format: ClockFormat) -> bool
+// Whether timestamps are PTP and not NTP.
+pub fn is_ptp(format: ClockFormat) -> bool
     ensures { λ r. ⌜ r ≡ isPtp format ⌝ }
 {
     match format {

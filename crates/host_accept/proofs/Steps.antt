@@ -14,7 +14,8 @@ use Rattle.host_calls.specs.Calls as host_calls
 use Rattle.host_ledger.specs.Words.{ledgerAt}
 use Rattle.host_duplicate.specs.Duplicate.{isDuplicate, duplicateWords}
 use Rattle.host_duplicate.proofs.Duplicate.{duplicate-as}
-use Rattle.host_accept.specs.Accept.{servedWords, acceptLeft, acceptFrom, acceptOf}
+use Rattle.host_served.specs.Served.{servedWords}
+use Rattle.host_accept.specs.Accept.{acceptLeft, acceptFrom, acceptOf}
 
 -- w to reply: as lent and told
 module _ (w : List ℕ) (keys slots probes links : List (List ℕ)) (answer : List ℕ) (reply : Reply) where

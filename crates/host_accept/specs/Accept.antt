@@ -2,15 +2,12 @@
 use mathlib.Core.List.{List}
 use Prim.Native.Nat.{ℕ}
 use Rattle.calls.specs.declared.Reply.{Reply}
-use Rattle.ledger_state.specs.declared.Ledger.{Ledger}
-use Rattle.ledger_steps.specs.declared.Accepted.{Accepted}
-use Rattle.ledger_steps.specs.declared.Accepted.the-variants.{Duplicate, Unknown, Unique}
 use Rattle.ledger_steps.specs.declared.AcceptAnswer.{AcceptAnswer}
 use Rattle.ledger_steps.specs.declared.AcceptAnswer.the-variants as accepts
 use Rattle.ledger_steps.specs.Calls.{AcceptResult, acceptNumber, acceptTo}
 use Rattle.host_calls.specs.Calls as host_calls
 use Rattle.host_ledger.specs.Words.{ledgerAt}
-use Rattle.host_ledger.specs.Left.{countedWords, acceptedWords}
+use Rattle.host_served.specs.Served.{servedWords}
 
 -- the number returned, the words of the ledger, the four rooms and the answer's words
 pub record AcceptLeft : Type 0 where
@@ -24,12 +21,6 @@ pub record AcceptLeft : Type 0 where
 
 abbrev pub acceptLeft : ℕ → List ℕ → List (List ℕ) → List (List ℕ) → List (List ℕ) → List (List ℕ) → List ℕ → AcceptLeft
 acceptLeft number ledger keys slots probes links answer = record { number = number; ledger = ledger; keys = keys; slots = slots; probes = probes; links = links; answer = answer }
-
--- the words of the ledger after a served reply: a duplicate and an unknown one change calls and two counts
-abbrev pub servedWords : List ℕ → Ledger → Accepted → List ℕ
-servedWords w next Duplicate = countedWords w next
-servedWords w next Unknown = countedWords w next
-servedWords w next (Unique packet ordinal) = acceptedWords w next
 
 -- the words after an answer, and the answer's words: a refusal changes none
 abbrev pub wordsAfter : List ℕ → AcceptAnswer → List ℕ

@@ -1,23 +1,11 @@
 // `ambrulicciu_accept`: the ledger's `accept`, on the words and the rooms that a host lends.
 ghost use mathlib.Core.Path.{_≡_};
 ghost use Rattle.host_calls.specs.Calls.{replyOf};
-ghost use Rattle.host_accept.specs.Accept.{servedWords, acceptLeft, acceptOf};
+ghost use Rattle.host_accept.specs.Accept.{acceptLeft, acceptOf};
 use calls::Reply;
 use host_duplicate::count_if_duplicate;
-use ledger_state::Ledger;
+use host_served::store_served;
 use ledger_steps::AcceptAnswer;
-use ledger_steps::Accepted;
-
-// A duplicate and an unknown reply change two counts, and no other word is stored.
-fn store_served(ledger: &mut [u64; 72], next: Ledger, accepted: Accepted)
-    ensures { λ _. ⌜ now (ledger .exit) ≡ servedWords (now (ledger .entry)) next accepted ⌝ }
-{
-    match accepted {
-        Accepted::Duplicate => host_ledger::store_counted(ledger, next),
-        Accepted::Unknown => host_ledger::store_counted(ledger, next),
-        Accepted::Unique(_, _) => host_ledger::store_accepted(ledger, next),
-    }
-}
 
 // Any reply.
 fn accept(

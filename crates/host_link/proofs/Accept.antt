@@ -27,12 +27,13 @@ use Rattle.host_ledger.specs.Parts.{repliesWords}
 use Rattle.host_ledger.specs.Words.{tablesWords, ledgerAt}
 use Rattle.host_ledger.specs.Left.{countedWords, acceptedWords}
 use Rattle.host_ledger_back.proofs.Accept.{accept-back}
-use Rattle.host_accept.specs.Accept.{servedWords, acceptOf}
+use Rattle.host_served.specs.Served.{servedWords}
+use Rattle.host_accept.specs.Accept.{acceptOf}
 use Rattle.host_accept.specs.Accept as plain
 use Rattle.host_monitor_words.specs.Words.{monitorAt}
 use Rattle.host_monitor_words.proofs.Stored.{stored}
 use Rattle.host_monitor_words.proofs.Fitting.{fits-at, fits-reply}
-use Rattle.host_watched_accept.specs.Calls.{acceptWords, ledgerAfter, monitorAfter, watchedAcceptTo}
+use Rattle.host_watched_accept.specs.Calls.{ledgerAfter, monitorAfter, watchedAcceptTo}
 use Rattle.host_link.specs.Hosted.{HostWatch, alone, watching, hostLink, accept, acceptRooms, playHost}
 use Rattle.host_link.proofs.Agreeing.{Agrees}
 
@@ -55,11 +56,6 @@ served-long w next Duplicate = counted-long w next
 served-long w next Unknown = counted-long w next
 served-long w next (Unique packet ordinal) = accepted-long w next
 
-watched-long : (w : List ℕ) (next : Ledger) (a : Accepted) → length (acceptWords w next a) ≡ length w
-watched-long w next Duplicate = counted-long w next
-watched-long w next Unknown = counted-long w next
-watched-long w next (Unique packet ordinal) = accepted-long w next
-
 module _ (w : List ℕ) (long : length w ≡ 72) (keys slots probes links : List (List ℕ)) (a : Reply) (h : a .key .reflector < 2 ^ 32) where
   abbrev answerBy : ℕ → AcceptAnswer
   answerBy k = acceptBy k (acceptOn (ledgerAt w) keys slots probes links a) keys slots probes links .answer
@@ -74,11 +70,11 @@ module _ (w : List ℕ) (long : length w ≡ 72) (keys slots probes links : List
 
   -- with a monitor: the same answer, and the monitor that then stands
   watched-ledger-by : (k : ℕ) (m : Monitor) → ledgerAt (ledgerAfter w (watched.bothAccept (answerBy k) m)) ≡ ledgerOfAccept (ledgerAt w) (answerBy k)
-  watched-ledger-by zero m = accept-back w long (acceptWords w) (λ l. refl) (λ l. refl) (λ l p o. refl) keys slots probes links a h
+  watched-ledger-by zero m = accept-back w long (servedWords w) (λ l. refl) (λ l. refl) (λ l p o. refl) keys slots probes links a h
   watched-ledger-by (suc k) m = refl
 
   watched-long-by : (k : ℕ) (m : Monitor) → length (ledgerAfter w (watched.bothAccept (answerBy k) m)) ≡ 72
-  watched-long-by zero m = watched-long w (acceptOn (ledgerAt w) keys slots probes links a .ledger) (acceptOn (ledgerAt w) keys slots probes links a .accepted) ∙ long
+  watched-long-by zero m = served-long w (acceptOn (ledgerAt w) keys slots probes links a .ledger) (acceptOn (ledgerAt w) keys slots probes links a .accepted) ∙ long
   watched-long-by (suc k) m = long
 
   watched-number-by : (k : ℕ) (m : Monitor) → watched.acceptNumber (watched.bothAccept (answerBy k) m) ≡ acceptNumber (answerBy k)

@@ -1,11 +1,9 @@
 // The lookup for a host: what it needs to convert a follow-up's timestamp before it calls observe.
 ghost use mathlib.Core.Path.{_≡_};
-ghost use Rattle.estimate.specs.Make.{isPtp};
 ghost use Rattle.host_lookup.specs.Lookup.{telemetryOf, shownWords, left, lookupLeaves};
 use calls::FollowUpTelemetry;
 use calls::Time;
 use correlation::follow::Shown;
-use estimate::ClockFormat;
 use ledger_steps::LookupAnswer;
 
 fn telemetry_of(sequence: u32, timestamp: u64, unknown: u32) -> FollowUpTelemetry
@@ -19,15 +17,6 @@ fn telemetry_of(sequence: u32, timestamp: u64, unknown: u32) -> FollowUpTelemetr
     }
 }
 
-fn is_ptp(format: ClockFormat) -> bool
-    ensures { λ r. ⌜ r ≡ isPtp format ⌝ }
-{
-    match format {
-        ClockFormat::NTP => false,
-        ClockFormat::PTP => true,
-    }
-}
-
 fn shown_words(shown: Shown) -> [u64; 3]
     ensures { λ r. ⌜ r ≡ shownWords shown ⌝ }
 {
@@ -35,7 +24,7 @@ fn shown_words(shown: Shown) -> [u64; 3]
         Shown::Nothing => [0, 0, 0],
         Shown::Slot(format, reference) => [
             1,
-            host_numbers::flag(is_ptp(format)),
+            host_numbers::flag(estimate::is_ptp(format)),
             words::word64(reference),
         ],
     }

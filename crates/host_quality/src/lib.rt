@@ -3,7 +3,7 @@ ghost use mathlib.Core.Path.{_≡_};
 ghost use Prim.Native.Nat.{_<_};
 ghost use Rattle.host_quality.specs.Words.{errorOf, errorBits, estimateOf, estimateWord, lastOf, lastWord, lastBits, largestOf, largestWord, largestBits};
 ghost use Rattle.host_quality.specs.Words.{ErrorKept, LastKept, LargestKept};
-ghost use Rattle.estimate.specs.Make.{isPtp, formatOf};
+ghost use Rattle.estimate.specs.Make.{formatOf};
 ghost use Rattle.clock_quality.specs.Quality.{isKnown};
 use clock_quality::ClockEstimate;
 use clock_quality::LargestError;
@@ -69,15 +69,6 @@ pub fn largest_of(known: u64, bits: u64) -> LargestError
 
 // ---- and back
 
-fn is_ptp(format: ClockFormat) -> bool
-    ensures { λ r. ⌜ r ≡ isPtp format ⌝ }
-{
-    match format {
-        ClockFormat::NTP => false,
-        ClockFormat::PTP => true,
-    }
-}
-
 fn is_known(error: ErrorMs) -> bool
     ensures { λ r. ⌜ r ≡ isKnown error ⌝ }
 {
@@ -103,7 +94,7 @@ fn estimate_word(estimate: ClockEstimate) -> u64
     let error = estimate.error;
     1
         + flag(estimate.synchronized) * 2
-        + flag(is_ptp(format)) * 4
+        + flag(estimate::is_ptp(format)) * 4
         + flag(is_known(error)) * 8
         + (estimate.scale as u64) * 256
         + (estimate.multiplier as u64) * 65536

@@ -26,7 +26,6 @@ use ledger_state::snapshot::Snapshot;
 use replies::Replies;
 use values::error_bits;
 use values::error_known;
-use values::is_ptp;
 use values::ms_bits;
 use values::ms_known;
 use values::packets_known;
@@ -194,7 +193,7 @@ fn place_estimate(room: &mut [u64], at: usize, estimate: ClockEstimate)
     let words = [
         1,
         flag(estimate.synchronized),
-        flag(is_ptp(format)),
+        flag(estimate::is_ptp(format)),
         estimate.scale as u64,
         estimate.multiplier as u64,
         error_known(error),

@@ -1,12 +1,10 @@
 // Values that may be absent: whether they are known, and the value, 0 where they are not.
 ghost use mathlib.Core.Path.{_≡_};
-ghost use Rattle.estimate.specs.Make.{isPtp};
 ghost use Rattle.host_quality.specs.Words.{errorBits};
 ghost use Rattle.host_shown.specs.Words.{reflectorKnown, reflectorNumber, packetsKnown, packetsNumber, msKnown, msBits};
 ghost use Rattle.host_shown.specs.Words.{errorKnown};
 use delays::Milliseconds;
 use direct::summary::Packets;
-use estimate::ClockFormat;
 use estimate::ErrorMs;
 use host_numbers::bits_of;
 use replies::Reflector;
@@ -80,14 +78,5 @@ pub fn error_bits(error: ErrorMs) -> u64
     match error {
         ErrorMs::Invalid => 0,
         ErrorMs::Known(x) => bits_of(x),
-    }
-}
-
-pub fn is_ptp(format: ClockFormat) -> bool
-    ensures { λ r. ⌜ r ≡ isPtp format ⌝ }
-{
-    match format {
-        ClockFormat::NTP => false,
-        ClockFormat::PTP => true,
     }
 }

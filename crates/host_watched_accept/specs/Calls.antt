@@ -4,15 +4,12 @@
 use mathlib.Core.List.{List}
 use Prim.Native.Nat.{ℕ}
 use Rattle.probe_queue.specs.declared.Probe.{Probe}
-use Rattle.ledger_state.specs.declared.Ledger.{Ledger}
-use Rattle.ledger_steps.specs.declared.Accepted.{Accepted}
-use Rattle.ledger_steps.specs.declared.Accepted.the-variants.{Duplicate, Unknown, Unique}
 use Rattle.ledger_watched.specs.declared.WatchedAccept.{WatchedAccept}
 use Rattle.ledger_watched.specs.declared.WatchedAccept.the-variants.{Served, Refused}
 use Rattle.ledger_watched.specs.Watched.{AcceptResult, acceptNumber, acceptTo}
 use Rattle.host_calls.specs.Calls.{replyOf, acceptedWords}
 use Rattle.host_ledger.specs.Words.{ledgerAt}
-use Rattle.host_ledger.specs.Left as ledger
+use Rattle.host_served.specs.Served.{servedWords}
 use Rattle.host_monitor_words.specs.Words.{monitorAt, wordsOf}
 
 -- the number, and what is left of everything lent
@@ -31,15 +28,9 @@ abbrev pub left : ℕ → List ℕ → List ℕ → (keys slots probes links : L
 left n ledger monitor keys slots probes links queue answer =
     record { number = n; ledger = ledger; monitor = monitor; keys = keys; slots = slots; probes = probes; links = links; queue = queue; answer = answer }
 
--- the ledger's words, by what the reply is
-abbrev pub acceptWords : List ℕ → Ledger → Accepted → List ℕ
-acceptWords words l Duplicate = ledger.countedWords words l
-acceptWords words l Unknown = ledger.countedWords words l
-acceptWords words l (Unique packet ordinal) = ledger.acceptedWords words l
-
 -- the words of each part: of the next one, or as they were where the call was refused
 abbrev pub ledgerAfter : List ℕ → WatchedAccept → List ℕ
-ledgerAfter words (Served l m a) = acceptWords words l a
+ledgerAfter words (Served l m a) = servedWords words l a
 ledgerAfter words (Refused n) = words
 
 abbrev pub monitorAfter : List ℕ → WatchedAccept → List ℕ

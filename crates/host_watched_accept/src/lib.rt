@@ -2,33 +2,13 @@
 // A straight line of calls, so that the walk of it is short; what depends on a test is in the functions that it calls.
 ghost use mathlib.Core.Path.{_≡_};
 ghost use Rattle.ledger_watched.specs.Watched.{acceptNumber};
-ghost use Rattle.host_watched_accept.specs.Calls.{left, acceptWords, ledgerAfter, monitorAfter, answerAfter, watchedAcceptTo};
+ghost use Rattle.host_watched_accept.specs.Calls.{left, ledgerAfter, monitorAfter, answerAfter, watchedAcceptTo};
 use host_calls::accepted_words;
 use host_calls::reply_of;
-use host_ledger::store_accepted;
-use host_ledger::store_counted;
 use host_monitor_words::store;
-use ledger_state::Ledger;
-use ledger_steps::Accepted;
+use host_served::store_served;
 use ledger_watched::WatchedAccept;
 use probe_queue::Probe;
-
-// A reply that is not unique changes its count alone.
-fn store_ledger(ledger: &mut [u64; 72], next: Ledger, accepted: Accepted)
-    ensures { λ _. ⌜ now (ledger .exit) ≡ acceptWords (now (ledger .entry)) next accepted ⌝ }
-{
-    match accepted {
-        Accepted::Duplicate => {
-            store_counted(ledger, next);
-        }
-        Accepted::Unknown => {
-            store_counted(ledger, next);
-        }
-        Accepted::Unique(_, _) => {
-            store_accepted(ledger, next);
-        }
-    }
-}
 
 // The number of what `accept` gave. The words change where the call was served, and not otherwise.
 fn finish(
@@ -41,7 +21,7 @@ fn finish(
 {
     match given {
         WatchedAccept::Served(next, watch, accepted) => {
-            store_ledger(ledger, next, accepted);
+            store_served(ledger, next, accepted);
             store(monitor, watch);
             *answer = accepted_words(accepted);
             0

@@ -8,7 +8,6 @@ use calls::PendingPacket;
 use calls::Reply;
 use calls::SentProbe;
 use correlation::follow::Shown;
-use estimate::ClockFormat;
 use ledger_state::Ledger;
 use ledger_steps::AcceptAnswer;
 use ledger_steps::Accepted;
@@ -223,20 +222,13 @@ fn accept(
     }
 }
 
-fn is_ptp(format: ClockFormat) -> bool {
-    match format {
-        ClockFormat::NTP => false,
-        ClockFormat::PTP => true,
-    }
-}
-
 fn shown_words(shown: Shown) -> Looked {
     match shown {
         Shown::Nothing => not_looked(),
         Shown::Slot(format, reference) => Looked {
             refusal: 0,
             shows: 1,
-            ptp: flag(is_ptp(format)),
+            ptp: flag(estimate::is_ptp(format)),
             reference: words::word64(reference),
         },
     }

@@ -12,7 +12,6 @@ use chains::Ring;
 use correlation::Slot;
 use correlation::Unique;
 use correlation::Wires;
-use estimate::ClockFormat;
 use ledger_state::Ledger;
 use probe_ring::Probe;
 use script::Digest;
@@ -56,13 +55,6 @@ fn is_timed(t4: Time) -> bool {
     }
 }
 
-fn is_ptp(format: ClockFormat) -> bool {
-    match format {
-        ClockFormat::NTP => false,
-        ClockFormat::PTP => true,
-    }
-}
-
 fn wires_word(quality: Wires) -> u64 {
     match quality {
         Wires::Absent => 0,
@@ -101,7 +93,9 @@ fn slot_words(slot: Slot) -> SlotWords {
             let quality = reply.quality;
             let t4 = reply.t4;
             let format = reply.format;
-            let recorded = (flag(is_ptp(format)) << 33) | (flag(is_timed(t4)) << 34) | (1 << 36);
+            let recorded = (flag(estimate::is_ptp(format)) << 33)
+                | (flag(is_timed(t4)) << 34)
+                | (1 << 36);
             SlotWords {
                 count: slot.count as u64,
                 flags: corrected | recorded | wires_word(quality),

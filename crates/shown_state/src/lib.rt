@@ -11,7 +11,6 @@ use delays::Extreme;
 use delays::Milliseconds;
 use direct::summary::DirectSummary;
 use direct::summary::Packets;
-use estimate::ClockFormat;
 use estimate::ErrorMs;
 use follow_ups::FollowCounts;
 use ledger_state::Ledger;
@@ -183,13 +182,6 @@ fn error_words(error: ErrorMs) -> Words {
     }
 }
 
-fn is_ptp(format: ClockFormat) -> bool {
-    match format {
-        ClockFormat::NTP => false,
-        ClockFormat::PTP => true,
-    }
-}
-
 // The fields of an estimate in one word, and its error.
 fn seen_words(e: ClockEstimate) -> Words {
     let format = e.format;
@@ -199,7 +191,7 @@ fn seen_words(e: ClockEstimate) -> Words {
         known: 16777216
             | (ms.known << 25)
             | flag(e.synchronized)
-            | (flag(is_ptp(format)) << 1)
+            | (flag(estimate::is_ptp(format)) << 1)
             | ((e.scale as u64) << 8)
             | ((e.multiplier as u64) << 16),
         value: ms.value,

@@ -11,8 +11,8 @@ use Rattle.host_watched_accept.proofs.finish.Tie as tie
 enum-known-given : tie.Need-enum-known-given
 enum-known-given c = search needs
 
-store-ledger-requires : tie.Need-store-ledger-requires
-store-ledger-requires c κs = search needs
+store-served-requires : tie.Need-store-served-requires
+store-served-requires c κs = search needs
 
 store-requires : tie.Need-store-requires
 store-requires c κs = search needs
@@ -28,7 +28,7 @@ returns c =
     let a = c .before .before .before .before .before .before .before .before .args in
     let e = c .before .before .before .before .before .before .given .given .1 in (
       sym (ap acceptNumber e),
-      c .before .before .before .store-ledger .ensures ∙ sym (ap (ledgerAfter (now (a .ledger))) e),
+      c .before .before .before .store-served .ensures ∙ sym (ap (ledgerAfter (now (a .ledger))) e),
       c .before .store .ensures ∙ sym (ap (monitorAfter (now (a .monitor))) e),
       c .accepted-words .ensures ∙ sym (ap (answerAfter (now (a .answer))) e),
     )
@@ -41,7 +41,7 @@ finish-spec =
     tie.close
     (tie.spec
     enum-known-given
-    store-ledger-requires
+    store-served-requires
     store-requires
     accepted-words-requires
     enum-known-given-2

@@ -1,9 +1,9 @@
--- `host_accept::store_served` meets its contract. Assumes nothing.
+-- `host_served::store_served` meets its contract. Assumes nothing.
 use mathlib.Core.Path.{sym, ap, _∙_}
-use Rattle.host_accept.specs.Accept.{servedWords}
+use Rattle.host_served.specs.Served.{servedWords}
 use borrow.Author.Needs.{needs}
-use Rattle.host_accept.proofs.store_served.Statement.{statement}
-use Rattle.host_accept.proofs.store_served.Tie as tie
+use Rattle.host_served.proofs.store_served.Statement.{statement}
+use Rattle.host_served.proofs.store_served.Tie as tie
 
 enum-told : tie.Need-enum-told
 enum-told c = search needs
