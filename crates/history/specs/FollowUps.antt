@@ -54,6 +54,7 @@ correct (taken n r c) = taken n r true
 
 -- ---- the class of a follow-up
 
+-- of each follow-up exactly one, by the first that holds of the rules below
 pub data FollowClass : Type 0 where
   unavailable ambiguous unmatched repeated matched : FollowClass
 
@@ -65,6 +66,7 @@ followNumber unmatched = 2
 followNumber repeated = 3
 followNumber matched = 4
 
+-- whether both are the same class
 abbrev pub sameFollow : FollowClass → FollowClass → Bool
 sameFollow x y = eqb (followNumber x) (followNumber y)
 
@@ -99,6 +101,7 @@ observing kept own r s = cond (eqb r own) (raise kept s) s
 
 -- ---- the lookup: a slot's format and reference, exactly when no class down to repeated holds
 
+-- nothing, or the format and the reference of the record in the slot
 pub data Lookup : Type 0 where
   nothing : Lookup
   shows : ClockFormat → (reference : ℤ) → Lookup
@@ -118,11 +121,13 @@ pub record Measured : Type 0 where
   pub delay-ns : ℤ
   pub quality : Option EstimatePair
 
+-- before those measured earlier, one more where T4 and converted T3 are both there
 abbrev pub measuredBy : Option ℤ → Option ℤ → ℤ → Option EstimatePair → List Measured → List Measured
 measuredBy (some t4) (some t3) offset q ms = record { delay-ns = delay t4 t3 offset; quality = q } ∷ ms
 measuredBy (some t4) none offset q ms = ms
 measuredBy none t3 offset q ms = ms
 
+-- the same with T4 and estimates of the record in the slot; none where there is no record
 abbrev pub measuredIn : Slot → Option ℤ → ℤ → List Measured → List Measured
 measuredIn free t3 offset ms = ms
 measuredIn (taken n none c) t3 offset ms = ms
@@ -152,6 +157,7 @@ module _ (N copies : ℕ) where
 
   -- ---- the counts
 
+  -- whether there is a follow-up and its class, after the events es, is this one
   abbrev pub isClassOf : FollowClass → Option FollowUpTelemetry → (own : ℕ) → List Event → Bool
   isClassOf x none own es = false
   isClassOf x (some f) own es = sameFollow x (classAt f own es)
@@ -166,6 +172,7 @@ module _ (N copies : ℕ) where
 
   -- ---- matched follow-ups: delay and estimates
 
+  -- before those measured earlier, one more where the follow-up of o is matched after the events es
   abbrev pub measuredOf : Option FollowUpTelemetry → ReplyObservation → List Event → List Measured → List Measured
   measuredOf none o es ms = ms
   measuredOf (some f) o es ms =

@@ -25,7 +25,7 @@ timesAt ws o =
     26 (timeWord (followTime (o .follow))))
     28 (followTimestamp (o .follow))
 
--- the others
+-- words 30 to 35: sender, reflector, ordinal, then the three counters in document 01's order
 abbrev pub countsAt : List ℕ → ReplyObservation → List ℕ
 countsAt ws o =
     set
@@ -36,6 +36,7 @@ countsAt ws o =
     34 (receivedCount (o .counters)))
     35 (transmittedCount (o .counters))
 
+-- these, and words 36 to 39: follow-up sequence, offset, both estimates, flags
 abbrev pub numbersAt : List ℕ → ReplyObservation → List ℕ
 numbersAt ws o =
     set (set (set (set (countsAt ws o) 36 (followSequence (o .follow))) 37 (ofZ w32 (o .offset))) 38 (wires (o .quality))) 39 (observeFlags o)

@@ -47,13 +47,15 @@ observationWords o =
 abbrev pub observeWords : ReplyObservation → List ℕ
 observeWords o = 2 ∷ replicate 17 0 ++ observationWords o ++ 0 ∷ 0 ∷ []
 
--- kind 3: now. Kind 4: nothing.
+-- kind 3: now
 abbrev pub advanceWords : ℕ → List ℕ
 advanceWords n = 3 ∷ replicate 41 0 ++ long n []
 
+-- kind 4: no word but the kind
 abbrev pub idleWords : List ℕ
 idleWords = 4 ∷ replicate 43 0
 
+-- of a call of any kind: 44 words, the kind first
 unfoldable pub callWords : Call → List ℕ
 callWords (call.Sent p) = sentWords p
 callWords (call.Accept r) = acceptWords r

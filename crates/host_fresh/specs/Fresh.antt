@@ -9,6 +9,7 @@ pub record FreshLeft : Type 0 where
   pub number : ℕ
   pub ledger : List ℕ
 
+-- these
 abbrev pub freshLeft : ℕ → List ℕ → FreshLeft
 freshLeft number ledger = record { number = number; ledger = ledger }
 

@@ -21,19 +21,23 @@ use Rattle.host_numbers.specs.Numbers.{flagWord, isSet}
 
 -- ---- an error in ms: its bits
 
+-- those of its f64, 0 for an invalid error
 abbrev pub errorBits : ErrorMs → ℕ
 errorBits (Known x) = toBits binary64 x
 errorBits Invalid = 0
 
+-- known with these bits where the flag is set; else invalid, whatever the bits
 abbrev pub errorOf : Bool → ℕ → ErrorMs
 errorOf true bits = Known (ofBits binary64 bits)
 errorOf false bits = Invalid
 
 -- ---- an estimate: bit 0 set, 1 synchronized, 2 PTP, 3 error known; 8 to 15 the scale, 16 to 23 the multiplier; and a word of the error's bits
 
+-- the first of its two words, as above; never 0, since bit 0 is set
 unfoldable pub estimateWord : ClockEstimate → ℕ
 estimateWord e = 1 + flagWord (e .synchronized) * 2 + flagWord (isPtp (e .format)) * 4 + flagWord (isKnown (e .error)) * 8 + e .scale * 256 + e .multiplier * 65536
 
+-- what two words say: the bits named above, but bit 0 is not looked at
 unfoldable pub estimateOf : ℕ → ℕ → ClockEstimate
 estimateOf word bits = record {
   synchronized = eqb (word / 2 % 2) 1;
@@ -43,33 +47,39 @@ estimateOf word bits = record {
   error = errorOf (eqb (word / 8 % 2) 1) bits;
 }
 
--- the last estimate, if there was one
+-- the first word of the last estimate, 0 if there was none
 abbrev pub lastWord : LastEstimate → ℕ
 lastWord last.Absent = 0
 lastWord (last.Seen e) = estimateWord e
 
+-- its second word, the bits of its error; 0 if there was none
 abbrev pub lastBits : LastEstimate → ℕ
 lastBits last.Absent = 0
 lastBits (last.Seen e) = errorBits (e .error)
 
+-- what two words say: no last estimate where the first is 0
 abbrev pub lastOf : ℕ → ℕ → LastEstimate
 lastOf word bits = cond (isSet word) (last.Seen (estimateOf word bits)) last.Absent
 
 -- ---- the largest combined error, if there is one
 
+-- whether there is one, 1 or 0
 abbrev pub largestWord : LargestError → ℕ
 largestWord largest.Absent = 0
 largestWord (largest.Ms x) = 1
 
+-- the bits of its f64 in ms, 0 where there is none
 abbrev pub largestBits : LargestError → ℕ
 largestBits largest.Absent = 0
 largestBits (largest.Ms x) = toBits binary64 x
 
+-- what two words say: none where the first is 0
 abbrev pub largestOf : ℕ → ℕ → LargestError
 largestOf known bits = cond (isSet known) (largest.Ms (ofBits binary64 bits)) largest.Absent
 
 -- ---- the whole: what the eleven words from a place on say, and the words of a clock quality
 
+-- what the words from place `at` on say; words that the list does not have are 0
 unfoldable pub qualityAt : ℕ → List ℕ → ClockQuality
 qualityAt at w = record {
   samples = getD w at 0;
@@ -82,6 +92,7 @@ qualityAt at w = record {
   reflector = lastOf (getD w (at + 9) 0) (getD w (at + 10) 0);
 }
 
+-- samples, both, unsynchronized, invalid, unknown; largest; the sender's last, the reflector's last
 unfoldable pub qualityWords : ClockQuality → List ℕ
 qualityWords q =
     q .samples ∷ q .both ∷ q .unsynchronized ∷ q .invalid ∷ q .unknown ∷ largestWord (q .largest) ∷ largestBits (q .largest)
@@ -89,14 +100,18 @@ qualityWords q =
 
 -- ---- nothing is lost: what is written is read back, of every value that fits its type
 
+-- an error, from whether it is known and its bits
 abbrev pub ErrorKept : ErrorMs → Type 0
 ErrorKept e = errorOf (isKnown e) (errorBits e) ≡ e
 
+-- a last estimate or none, from its two words
 abbrev pub LastKept : LastEstimate → Type 0
 LastKept l = lastOf (lastWord l) (lastBits l) ≡ l
 
+-- a largest error or none, from its two words
 abbrev pub LargestKept : LargestError → Type 0
 LargestKept l = largestOf (largestWord l) (largestBits l) ≡ l
 
+-- a clock quality, from its eleven words
 abbrev pub QualityKept : ClockQuality → Type 0
 QualityKept q = qualityAt 0 (qualityWords q) ≡ q

@@ -15,6 +15,7 @@ pub record SentLeft : Type 0 where
   pub probes : List (List ℕ)
   pub links : List (List ℕ)
 
+-- these
 abbrev pub sentLeft : ℕ → List ℕ → List (List ℕ) → List (List ℕ) → SentLeft
 sentLeft number ledger probes links = record { number = number; ledger = ledger; probes = probes; links = links }
 
@@ -23,8 +24,10 @@ abbrev pub wordsAfter : List ℕ → Answer → List ℕ
 wordsAfter w (answer.Served next) = sentWords w next
 wordsAfter w (answer.Refused n) = w
 
+-- what the library's result leaves of the words w: its number, 0 where served, and its two rooms
 abbrev pub sentFrom : List ℕ → SentResult → SentLeft
 sentFrom w r = sentLeft (number (r .answer)) (wordsAfter w (r .answer)) (r .probes) (r .links)
 
+-- of the words of the ledger, the two rooms and the probe; no monitor refuses it
 unfoldable pub sentOf : List ℕ → List (List ℕ) → List (List ℕ) → SentProbe → SentLeft
 sentOf w probes links s = sentFrom w (sentTo 0 (ledgerAt w) probes links s)

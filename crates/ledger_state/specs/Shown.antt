@@ -10,9 +10,11 @@ use Rattle.ledger_state.specs.declared.Ledger.{Ledger}
 use Rattle.ledger_state.specs.declared.snapshot.FollowUpSummary.{FollowUpSummary}
 use Rattle.ledger_state.specs.declared.snapshot.Snapshot.{Snapshot}
 
+-- counts and clock quality as they stand; of the delays count, average, minimum and maximum
 abbrev pub followShown : FollowUps → FollowUpSummary
 followShown f = record { counts = f .counts; delay = delays.summaryOf (f .delay); quality = f .quality }
 
+-- each part of the ledger, with unobserved and its thousandths of requested
 unfoldable pub snapshotOf : Ledger → Snapshot
 snapshotOf l = record {
   replies = l .counts .replies;

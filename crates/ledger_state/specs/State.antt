@@ -18,16 +18,19 @@ use Rattle.ledger_state.specs.declared.Ledger.{Ledger}
 abbrev pub atLeastOne : ℕ → ℕ
 atLeastOne copies = cond (eqb copies 0) 1 copies
 
+-- no entries, the next at slot 0
 abbrev pub emptyRing : Ring
 emptyRing = record { head = 0; len = 0 }
 
+-- no accepted key, no held probe, and no key awaits
 abbrev pub freshTables : Tables
 freshTables = record { keys = emptyRing; probes = emptyRing; awaits = false }
 
+-- counts 0: replies, round trips, direct loss without an anchor, follow-ups
 abbrev pub freshCounts : Counts
 freshCounts = record { replies = freshReplies; rtt = delays.fresh; direct = freshDirect; follow = freshFollowUps }
 
--- the words of the hash, held one by one, and as the list that they are
+-- the eight words of the hash, held one by one; one that the list does not have is 0
 unfoldable pub secretOf : List ℕ → Secret
 secretOf words = record {
   first = getD words 0 0;
@@ -40,6 +43,7 @@ secretOf words = record {
   eighth = getD words 7 0;
 }
 
+-- the same as the list that they are, first to eighth
 unfoldable pub wordsOf : Secret → List ℕ
 wordsOf s =
     s .first ∷ s .second ∷ s .third ∷ s .fourth ∷ s .fifth ∷ s .sixth ∷ s .seventh ∷ s .eighth ∷ []
@@ -48,5 +52,6 @@ wordsOf s =
 abbrev pub hashWords : Ledger → List ℕ
 hashWords l = wordsOf (l .secret)
 
+-- with these copies and words of the hash; no call served yet
 abbrev pub freshLedger : ℕ → List ℕ → Ledger
 freshLedger copies secret = record { copies = atLeastOne copies; secret = secretOf secret; calls = 0; tables = freshTables; counts = freshCounts }

@@ -16,6 +16,7 @@ pub record Tallied : Type 0 where
   pub standing : Standing
   pub turned : ℕ
 
+-- the tally of the code, with the rooms that it is lent
 abbrev pub tallyOf : Tally → Rooms → Tallied
 tallyOf t rooms = record { standing = standingOf (t .link) (t .queue) rooms; turned = t .turned }
 

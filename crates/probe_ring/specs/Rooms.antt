@@ -20,6 +20,7 @@ pub record Rooms : Type 0 where
   pub links : List (List ℕ)
   pub ring : Ring
 
+-- of these parts
 abbrev pub rooms : List (List ℕ) → List (List ℕ) → Ring → Rooms
 rooms rows links ring = record { rows = rows; links = links; ring = ring }
 
@@ -48,10 +49,11 @@ moveRow to from rows = set rows to (getD rows from [])
 abbrev pub moveLink : (ℕ → ℕ) → ℕ → ℕ → List (List ℕ) → List (List ℕ)
 moveLink mend to from links = setWord links to (lane + 1) (mend (older lane links from))
 
--- the links to the newest of each hash, mended
+-- one row's link to the newest of its hash, mended; its other words stay
 abbrev pub mendRow : (ℕ → ℕ) → List ℕ → List ℕ
 mendRow mend row = set row lane (mend (getD row lane 0))
 
+-- the links to the newest of each hash, mended
 unfoldable pub mendNewest : (ℕ → ℕ) → List (List ℕ) → List (List ℕ)
 mendNewest mend links = map (mendRow mend) links
 
@@ -76,6 +78,7 @@ pub record Outcome : Type 0 where
   pub links : List (List ℕ)
   pub answer : Remembered
 
+-- these
 abbrev pub outcome : List (List ℕ) → List (List ℕ) → Remembered → Outcome
 outcome rows links answer = record { rows = rows; links = links; answer = answer }
 
@@ -100,6 +103,7 @@ module _ (N : ℕ) (hash : ℕ → ℕ) where
   unfoldable pub rememberedAt : Rooms → Probe → ℕ → Outcome
   rememberedAt r p slot = cond (ltb slot N) (pushed (takenOut N r slot) p) (pushed r p)
 
+  -- a probe is the newest from now on, whether its sequence was held or not
   unfoldable pub remembered : Rooms → Probe → Outcome
   remembered r p = rememberedAt r p (slotOf r (p .sequence))
 

@@ -72,10 +72,12 @@ probeOf row = record {
 
 -- ---- what the types of a probe's fields say
 
+-- a u32, where there is one
 abbrev pub OrdinalFits : Ordinal → Type 0
 OrdinalFits Absent = Unit
 OrdinalFits (Number n) = n < 2 ^ 32
 
+-- sequence u32, replies u16, ordinal u32; the words of the packet may be any
 pub record ProbeFits (p : Probe) : Type 0 where
   pub sequence-in : p .sequence < 2 ^ 32
   pub replies-in : p .replies < 2 ^ 16

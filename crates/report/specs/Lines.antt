@@ -36,21 +36,27 @@ shown word v = bytes word ++ valueText v
 abbrev pub newline : List ℕ
 newline = bytes "\n"
 
+-- how many records the log has, and how many of them were refused
 unfoldable pub playedLine : Played → List ℕ
 playedLine p = figure "records " (p .records) ++ figure " turned away " (p .«turned_away») ++ newline
 
+-- how many replies were requested, how many of them are unobserved, and these in thousandths
 unfoldable pub lossLine : Loss → List ℕ
 lossLine l = figure "requested " (l .requested) ++ figure " unobserved " (l .unobserved) ++ figure " thousandths " (l .thousandths) ++ newline
 
+-- how many replies of each class
 unfoldable pub repliesLine : Replies → List ℕ
 repliesLine r = figure "unique " (r .unique) ++ figure " duplicate " (r .duplicate) ++ figure " unknown " (r .unknown) ++ newline
 
+-- how many first replies, later ones, and first ones without a pending packet
 unfoldable pub probesLine : Probes → List ℕ
 probesLine p = figure "answered " (p .answered) ++ figure " additional " (p .additional) ++ figure " late " (p .late) ++ newline
 
+-- how many replies behind the highest reflector number, and with reflector other than sender
 unfoldable pub orderLine : Order → List ℕ
 orderLine o = figure "reordered " (o .reordered) ++ figure " independent " (o .independent) ++ newline
 
+-- how many observations with a follow-up, then how many of each class
 unfoldable pub followUpsLine : FollowUps → List ℕ
 followUpsLine f =
     figure "followup " (f .observations)
@@ -61,9 +67,11 @@ followUpsLine f =
     ++ figure " unavailable " (f .unavailable)
     ++ newline
 
+-- how many direct observations, unavailable ones (not all of them observations), discontinuities, reordered
 unfoldable pub directLine : Direct → List ℕ
 directLine d = figure "direct " (d .observations) ++ figure " unavailable " (d .unavailable) ++ figure " discontinuities " (d .discontinuities) ++ figure " reordered " (d .reordered) ++ newline
 
+-- forward and reverse missing, each `-` where absent
 unfoldable pub missingLine : Missing → List ℕ
 missingLine m = shown "missing forward " (m .forward) ++ shown " reverse " (m .reverse) ++ newline
 
@@ -74,6 +82,7 @@ sessionLine (Idle losses) = figure "state idle losses " losses ++ newline
 sessionLine (Active losses) = figure "state active losses " losses ++ newline
 sessionLine (Failed losses) = figure "state failed losses " losses ++ newline
 
+-- how many round trips, the least and the greatest in ns, `-` where there is none
 unfoldable pub roundTripLine : RoundTrip → List ℕ
 roundTripLine r = figure "rtt samples " (r .samples) ++ shown " min " (r .min) ++ shown " max " (r .max) ++ newline
 

@@ -25,6 +25,7 @@ unfoldable pub outcome : Answer → List ℕ → Outcome
 outcome (Written n) buffer = record { number = 0; values = n ∷ []; buffer = buffer }
 outcome (Refused n) buffer = record { number = n; values = []; buffer = buffer }
 
+-- the first where the test holds, else the second
 abbrev pub pickOutcome : Bool → Outcome → Outcome → Outcome
 pickOutcome true a b = a
 pickOutcome false a b = b

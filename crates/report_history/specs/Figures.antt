@@ -29,6 +29,7 @@ use Rattle.link_figures.specs.Figures.{sessionBy, followupOf, directOf, missing
 
 -- ---- the calls of a log
 
+-- what one record says, before the calls of the earlier ones; nothing adds no call
 abbrev pub callThen : Played → List Call → List Call
 callThen read.Nothing cs = cs
 callThen (read.Call c) cs = c ∷ cs
@@ -45,15 +46,18 @@ abbrev pub watchingBy : ℕ → ℕ → Watching
 watchingBy zero timeout = alone
 watchingBy (suc n) timeout = watching (suc n) timeout
 
+-- copies, threshold and timeout of the trailer, with any words of the hash, rooms and queue
 abbrev pub makingBy : Settings → List ℕ → List Probe → Rooms → Making
 makingBy s secret queue rooms = record { copies = s .copies; secret = secret; monitor = watchingBy (s .threshold) (s .timeout); rooms = rooms; queue = queue }
 
 -- ---- the figures, from the served calls h
 
+-- state and consecutive losses of the plain monitor after h; none without a monitor
 abbrev pub sessionFrom : Watching → List Call → Session
 sessionFrom alone h = session.None
 sessionFrom (watching threshold timeout) h = sessionBy (monitorFrom threshold timeout h .summary .state) (monitorFrom threshold timeout h .summary .«consecutive_losses»)
 
+-- records: how many the log has; turned: how many of them were refused
 unfoldable pub figuresFrom : (copies : ℕ) → Watching → List Call → (records turned : ℕ) → Figures
 figuresFrom copies v h records turned =
     let c = replyCounts capacity copies h in
@@ -72,9 +76,10 @@ figuresFrom copies v h records turned =
 
 -- ---- the report of a log
 
+-- of these calls, newest first, those that are served, and how many are not: these are turned away
 abbrev pub reportBy : (copies : ℕ) → Watching → List Call → ℕ → Figures
 reportBy copies v cs records = figuresFrom copies v (servedFrom v cs) records (length cs - length (servedFrom v cs))
 
--- of all of its calls those that are served, and how many are not
+-- of all of its calls, on the link that its settings ask for; copies 0 counts as 1
 abbrev pub reportFrom : List ℕ → Settings → Figures
 reportFrom log s = reportBy (copiesOf (s .copies)) (watchingBy (s .threshold) (s .timeout)) (logCalls log (s .count)) (s .count)
