@@ -67,6 +67,7 @@ delayOf t4 t3 offset = t4 -ℤ (t3 -ℤ offset *ℤ pos 1000000000)
 abbrev pub timeInRange : ℤ → Type 0
 timeInRange z = natAbs z ≤ 4000000000000000000
 
+-- an offset that refusal 1 lets through: at most 86,400 s either way
 abbrev pub offsetInRange : ℤ → Type 0
 offsetInRange z = natAbs z ≤ 86400
 

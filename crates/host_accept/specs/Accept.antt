@@ -19,6 +19,7 @@ pub record AcceptLeft : Type 0 where
   pub links : List (List ℕ)
   pub answer : List ℕ
 
+-- these
 abbrev pub acceptLeft : ℕ → List ℕ → List (List ℕ) → List (List ℕ) → List (List ℕ) → List (List ℕ) → List ℕ → AcceptLeft
 acceptLeft number ledger keys slots probes links answer = record { number = number; ledger = ledger; keys = keys; slots = slots; probes = probes; links = links; answer = answer }
 
@@ -27,12 +28,15 @@ abbrev pub wordsAfter : List ℕ → AcceptAnswer → List ℕ
 wordsAfter w (accepts.Served next x) = servedWords w next x
 wordsAfter w (accepts.Refused n) = w
 
+-- the five words of the answer: class, packet and ordinal where served, else as they were
 abbrev pub answerAfter : List ℕ → AcceptAnswer → List ℕ
 answerAfter a (accepts.Served next x) = host_calls.acceptedWords x
 answerAfter a (accepts.Refused n) = a
 
+-- what the library's result leaves of the ledger's words w and the answer's words a
 abbrev pub acceptFrom : List ℕ → List ℕ → AcceptResult → AcceptLeft
 acceptFrom w a r = acceptLeft (acceptNumber (r .answer)) (wordsAfter w (r .answer)) (r .keys) (r .slots) (r .probes) (r .links) (answerAfter a (r .answer))
 
+-- the whole call, without a monitor: no refusal of another part
 unfoldable pub acceptOf : List ℕ → List (List ℕ) → List (List ℕ) → List (List ℕ) → List (List ℕ) → List ℕ → Reply → AcceptLeft
 acceptOf w keys slots probes links a reply = acceptFrom w a (acceptTo 0 (ledgerAt w) keys slots probes links reply)

@@ -12,6 +12,7 @@ use Rattle.calls.specs.declared.SentProbe.{SentProbe}
 use Rattle.ledger_steps.specs.declared.Accepted.{Accepted}
 use Rattle.ledger_steps.specs.declared.Accepted.the-variants as accepted
 
+-- what `sent` is told: the sequence, its ordinal, and the packet's send time and tag
 abbrev pub probeOf : (sequence ordinal time tag : ℕ) → SentProbe
 probeOf sequence ordinal time tag = record { sequence = sequence; ordinal = ordinal; packet = record { time = time; tag = tag } }
 

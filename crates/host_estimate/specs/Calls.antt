@@ -21,6 +21,7 @@ pub record Left : Type 0 where
   pub number : ℕ
   pub words : List ℕ
 
+-- these
 abbrev pub left : ℕ → List ℕ → Left
 left n ws = record { number = n; words = ws }
 
@@ -52,6 +53,7 @@ pub record LeftSeconds : Type 0 where
   pub number : ℕ
   pub seconds : List Float
 
+-- these
 abbrev pub leftSeconds : ℕ → List Float → LeftSeconds
 leftSeconds n seconds = record { number = n; seconds = seconds }
 
@@ -59,6 +61,7 @@ leftSeconds n seconds = record { number = n; seconds = seconds }
 abbrev pub secondsOf : ErrorEstimate → Float
 secondsOf e = round binary64 false (e .multiplier * 2 ^ e .scale) (2 ^ 32)
 
+-- the lent word has the error in seconds of the estimate that 16 bits say; refuses nothing
 unfoldable pub secondsTo : ℕ → List Float → LeftSeconds
 secondsTo w seconds = leftSeconds 0 (set seconds 0 (secondsOf (estimateOf w)))
 
@@ -73,6 +76,7 @@ pub record LeftMs : Type 0 where
   pub known : List ℕ
   pub milliseconds : List Float
 
+-- these
 abbrev pub leftMs : ℕ → List ℕ → List Float → LeftMs
 leftMs n known ms = record { number = n; known = known; milliseconds = ms }
 
@@ -81,6 +85,7 @@ abbrev pub errorAfter : ErrorMs → List ℕ → List Float → LeftMs
 errorAfter (Known x) known ms = leftMs 0 (set known 0 1) (set ms 0 x)
 errorAfter Invalid known ms = leftMs 0 (set known 0 0) (set ms 0 (ofBits binary64 0))
 
+-- the lent words have the error in ms of the estimate that 16 bits say, or that it is invalid; refuses nothing
 unfoldable pub errorTo : ℕ → List ℕ → List Float → LeftMs
 errorTo w known ms = errorAfter (errorMs (estimateOf w)) known ms
 

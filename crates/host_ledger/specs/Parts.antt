@@ -26,6 +26,7 @@ use Rattle.host_quality.specs.Words.{qualityAt, qualityWords}
 
 -- ---- the words of the hash: eight numbers in four words
 
+-- the eight numbers in the four words from `at` on, two a word: first and second, third and fourth, and so on
 unfoldable pub secretAt : ℕ → List ℕ → Secret
 secretAt at w = record {
   first = lower (getD w at 0);
@@ -38,24 +39,30 @@ secretAt at w = record {
   eighth = upper (getD w (at + 3) 0);
 }
 
+-- their four words, in the same order
 unfoldable pub secretWords : Secret → List ℕ
 secretWords s = joined (s .first) (s .second) ∷ joined (s .third) (s .fourth) ∷ joined (s .fifth) (s .sixth) ∷ joined (s .seventh) (s .eighth) ∷ []
 
+-- these eight numbers are read back from their words
 abbrev pub SecretKept : Secret → Type 0
 SecretKept s = secretAt 0 (secretWords s) ≡ s
 
 -- ---- the counts of replies, fourteen words; a reflector number has bit 32 set, so that number 0 is not none
 
+-- a reflector number, last or highest, as its word says it: none where the word is 0, else the lower half
 abbrev pub reflectorOf : ℕ → Reflector
 reflectorOf word = cond (isSet word) (reflector.Number (lower word)) reflector.Absent
 
+-- its word: 0 for none, else the number with bit 32 set
 abbrev pub reflectorWord : Reflector → ℕ
 reflectorWord reflector.Absent = 0
 reflectorWord (reflector.Number n) = n + 2 ^ 32
 
+-- this number, or none, is read back from its word
 abbrev pub ReflectorKept : Reflector → Type 0
 ReflectorKept n = reflectorOf (reflectorWord n) ≡ n
 
+-- from `at` on: four totals, four counts of answers, four words on reflector numbers, two of evictions
 unfoldable pub repliesAt : ℕ → List ℕ → Replies
 repliesAt at w = record {
   totals = record { requested = getD w at 0; unique = getD w (at + 1) 0; duplicate = getD w (at + 2) 0; unknown = getD w (at + 3) 0 };
@@ -64,6 +71,7 @@ repliesAt at w = record {
   evicted = record { probes = getD w (at + 12) 0; replies = getD w (at + 13) 0 };
 }
 
+-- their fourteen words, in the same order
 unfoldable pub repliesWords : Replies → List ℕ
 repliesWords r =
     r .totals .requested ∷ r .totals .unique ∷ r .totals .duplicate ∷ r .totals .unknown
@@ -71,6 +79,7 @@ repliesWords r =
     ∷ reflectorWord (r .numbers .last) ∷ reflectorWord (r .numbers .highest) ∷ r .numbers .reordered ∷ r .numbers .independent
     ∷ r .evicted .probes ∷ r .evicted .replies ∷ []
 
+-- these counts are read back from their words
 abbrev pub RepliesKept : Replies → Type 0
 RepliesKept r = repliesAt 0 (repliesWords r) ≡ r
 
@@ -80,14 +89,17 @@ RepliesKept r = repliesAt 0 (repliesWords r) ≡ r
 abbrev pub extremeOf : ℕ → ℕ → Extreme
 extremeOf kind magnitude = cond (isSet kind) (extreme.At (record { negative = eqb kind 2; magnitude = magnitude })) extreme.Absent
 
+-- the kind of a smallest or largest delay: 0 where there is none, 1 not negative, 2 negative
 abbrev pub extremeKind : Extreme → ℕ
 extremeKind extreme.Absent = 0
 extremeKind (extreme.At ns) = 1 + flagWord (ns .negative)
 
+-- its magnitude in ns, 0 where there is none
 abbrev pub extremeMagnitude : Extreme → ℕ
 extremeMagnitude extreme.Absent = 0
 extremeMagnitude (extreme.At ns) = ns .magnitude
 
+-- of these eight numbers; the sum is a sign (negative where it is not 0), then the high word and the low one
 unfoldable pub delaysOf : ℕ → ℕ → ℕ → ℕ → ℕ → ℕ → ℕ → ℕ → Delays
 delaysOf count negative high low minKind min maxKind max = record {
   count = count;
@@ -96,10 +108,12 @@ delaysOf count negative high low minKind min maxKind max = record {
   max = extremeOf maxKind max;
 }
 
+-- the same of the eight words from `at` on
 abbrev pub delaysAt : ℕ → List ℕ → Delays
 delaysAt at w =
     delaysOf (getD w at 0) (getD w (at + 1) 0) (getD w (at + 2) 0) (getD w (at + 3) 0) (getD w (at + 4) 0) (getD w (at + 5) 0) (getD w (at + 6) 0) (getD w (at + 7) 0)
 
+-- their eight words, in the same order
 unfoldable pub delaysWords : Delays → List ℕ
 delaysWords d =
     d .count ∷ flagWord (d .sum .negative) ∷ d .sum .high ∷ d .sum .low
@@ -107,6 +121,7 @@ delaysWords d =
 
 -- ---- direct loss, eleven words: four counts, a flag, then six words of the window
 
+-- a point of the three counters: S_TxC, R_RxC, R_TxC
 abbrev pub pointOf : ℕ → ℕ → ℕ → CounterPoint
 pointOf sender received transmitted = record { sender = record { 0 = sender }; received = record { 0 = received }; transmitted = record { 0 = transmitted } }
 
@@ -120,6 +135,7 @@ epochOf anchor transmitted latest maxima seen = record {
   seen = seen;
 }
 
+-- the five words of what is known since the anchor, in that order
 unfoldable pub epochWords : Epoch → List ℕ
 epochWords e =
     joined (e .anchor .sender .0) (e .anchor .received .0) ∷ joined (e .anchor .transmitted .0) (e .latest .transmitted .0)
@@ -130,17 +146,21 @@ pub record EpochSaid (e : Epoch) (anchor transmitted latest maxima seen : ℕ) :
   pub said : anchor ∷ transmitted ∷ latest ∷ maxima ∷ seen ∷ [] ≡ epochWords e
   pub kept : epochOf anchor transmitted latest maxima seen ≡ e
 
+-- in six words from `at` on: 0 where there is no anchor, whatever follows; else what is known since the anchor
 unfoldable pub windowAt : ℕ → List ℕ → Window
 windowAt at w =
     cond (isSet (getD w at 0)) (Open (epochOf (getD w (at + 1) 0) (getD w (at + 2) 0) (getD w (at + 3) 0) (getD w (at + 4) 0) (getD w (at + 5) 0))) Closed
 
+-- its six words: 1 and the five of what is known since the anchor, or zeros without one
 abbrev pub windowWords : Window → List ℕ
 windowWords Closed = 0 ∷ 0 ∷ 0 ∷ 0 ∷ 0 ∷ 0 ∷ []
 windowWords (Open e) = 1 ∷ epochWords e
 
+-- what is known since the anchor, or that there is none, is read back from its words
 abbrev pub WindowKept : Window → Type 0
 WindowKept x = windowAt 0 (windowWords x) ≡ x
 
+-- from `at` on: observations, unavailable, discontinuities, reordered, history exceeded, then the window
 unfoldable pub directAt : ℕ → List ℕ → Direct
 directAt at w = record {
   counts = record {
@@ -153,15 +173,18 @@ directAt at w = record {
   window = windowAt (at + 5) w;
 }
 
+-- its eleven words, in the same order
 unfoldable pub directWords : Direct → List ℕ
 directWords d =
     d .counts .observations ∷ d .counts .unavailable ∷ d .counts .discontinuities ∷ d .counts .reordered ∷ flagWord (d .counts .exceeded) ∷ windowWords (d .window)
 
+-- this direct loss is read back from its words
 abbrev pub DirectKept : Direct → Type 0
 DirectKept d = directAt 0 (directWords d) ≡ d
 
 -- ---- follow-ups: six counts, the delays, the clock quality
 
+-- from `at` on: observations, matched, repeated, unmatched, ambiguous, unavailable, then delays, clock quality
 unfoldable pub followAt : ℕ → List ℕ → FollowUps
 followAt at w = record {
   counts = record {
@@ -184,5 +207,6 @@ followCountsWords n = n .observations ∷ n .matched ∷ n .repeated ∷ n .unma
 unfoldable pub followWords : FollowUps → List ℕ
 followWords f = followCountsWords (f .counts) ++ (delaysWords (f .delay) ++ qualityWords (f .quality))
 
+-- these follow-ups are read back from their words
 abbrev pub FollowKept : FollowUps → Type 0
 FollowKept f = followAt 0 (followWords f) ≡ f

@@ -11,6 +11,7 @@ use Rattle.ledger_state.specs.declared.Ledger.{Ledger}
 use Rattle.host_numbers.specs.Numbers.{flagWord, isSet}
 use Rattle.host_ledger.specs.Parts.{secretAt, repliesAt, delaysAt, directAt, followAt}
 
+-- in five words from `at` on: head and length of the ring of keys, those of probes, whether a key awaits
 unfoldable pub tablesAt : ℕ → List ℕ → Tables
 tablesAt at w = record {
   keys = record { head = getD w at 0; len = getD w (at + 1) 0 };
@@ -18,6 +19,7 @@ tablesAt at w = record {
   awaits = isSet (getD w (at + 4) 0);
 }
 
+-- the ledger that words say, each part at its place above; of copies the low 16 bits, a missing word is 0
 unfoldable pub ledgerAt : List ℕ → Ledger
 ledgerAt w = record {
   copies = getD w 0 0 % 2 ^ 16;

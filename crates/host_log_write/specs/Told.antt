@@ -25,5 +25,6 @@ observeTold words = call.Observe (observationAt words)
 abbrev pub advanceTold : ℕ → Call
 advanceTold time = call.Advance time
 
+-- kind 4 has no fields
 abbrev pub idleTold : Call
 idleTold = call.Idle

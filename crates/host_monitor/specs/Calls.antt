@@ -18,6 +18,7 @@ pub record Told : Type 0 where
   pub number : ℕ
   pub words : List ℕ
 
+-- these
 abbrev pub told : ℕ → List ℕ → Told
 told n words = record { number = n; words = words }
 
@@ -27,6 +28,7 @@ pub record Left : Type 0 where
   pub words : List ℕ
   pub queue : List Probe
 
+-- these
 abbrev pub left : ℕ → List ℕ → List Probe → Left
 left n words queue = record { number = n; words = words; queue = queue }
 
@@ -38,18 +40,23 @@ ended words o = left (number (o .answer)) (wordsAfter words (o .answer)) (o .roo
 unfoldable pub freshTo : ℕ → ℕ → Told
 freshTo threshold timeout = told 0 (wordsOf (fresh threshold timeout))
 
+-- `sent` of a sequence at a time, on the monitor that the words say
 unfoldable pub sentTo : List ℕ → List Probe → ℕ → ℕ → Left
 sentTo words queue sequence time = ended words (monitor.sentTo (monitorAt words) queue sequence time)
 
+-- `reply` with a sequence, on the monitor that the words say
 unfoldable pub replyTo : List ℕ → List Probe → ℕ → Left
 replyTo words queue sequence = ended words (monitor.replyTo (monitorAt words) queue sequence)
 
+-- `advance` to a time, on the monitor that the words say
 unfoldable pub advanceTo : List ℕ → List Probe → ℕ → Left
 advanceTo words queue time = ended words (monitor.advanceTo (monitorAt words) queue time)
 
+-- an answer of `idle`, which is lent no queue: its number, and the monitor's words
 abbrev pub stopped : List ℕ → Answer → Told
 stopped words a = told (number a) (wordsAfter words a)
 
+-- `idle`, on the monitor that the words say
 unfoldable pub idleTo : List ℕ → Told
 idleTo words = stopped words (monitor.idleTo (monitorAt words))
 
@@ -59,9 +66,11 @@ answerWords words Absent = 0 ∷ 0 ∷ []
 answerWords words (At time) = 1 ∷ time ∷ []
 answerWords words (Refused n) = words
 
+-- a deadline's number, and the two words lent for it: a refusal leaves them as they were
 abbrev pub answeredBy : List ℕ → Deadline → Told
 answeredBy answer d = told (deadlineNumber d) (answerWords answer d)
 
+-- the front probe's deadline, of the monitor that the words say; only the two words of the answer are written
 unfoldable pub deadlineTo : List ℕ → List Probe → List ℕ → Told
 deadlineTo words queue answer = answeredBy answer (monitor.deadlineOf (monitorAt words) queue)
 
@@ -69,5 +78,6 @@ deadlineTo words queue answer = answeredBy answer (monitor.deadlineOf (monitorAt
 abbrev pub shows : Summary → List ℕ
 shows s = stateNumber (s .state) ∷ s .«loss_threshold» ∷ s .«consecutive_losses» ∷ s .«active_notifications» ∷ s .«failed_notifications» ∷ s .«idle_notifications» ∷ []
 
+-- the summary of the monitor that the words say; it refuses nothing
 unfoldable pub summaryTo : List ℕ → Told
 summaryTo words = told 0 (shows (monitorAt words .summary))

@@ -11,6 +11,7 @@ pub record Told : Type 0 where
   pub text : List ℕ
   pub length : List ℕ
 
+-- these
 abbrev pub told : ℕ → List ℕ → List ℕ → Told
 told n text length = record { number = n; text = text; length = length }
 
@@ -25,10 +26,12 @@ toldOf o word = told (o .number) (o .buffer) (lengthAfter (o .values) word)
 
 -- ---- the same of the answer as the code has it
 
+-- 0 where the report is written, else the refusal's number
 abbrev pub numberOf : Answer → ℕ
 numberOf (Written n) = 0
 numberOf (Refused n) = n
 
+-- the word of the length: that of the report where it is written, else as it was
 abbrev pub wordAfter : Answer → List ℕ → List ℕ
 wordAfter (Written n) word = n ∷ []
 wordAfter (Refused n) word = word

@@ -30,12 +30,14 @@ pub record SoundCounts (l : Ledger) : Type 0 where
   pub direct-in : direct.InBounds (l .counts .direct .counts)
   pub follow-in : follow_ups.InBounds (l .counts .follow)
 
+-- `sent`, neither 5 nor 4: its two rooms have 4,096 entries, rings and counts are within bounds
 pub record SoundSent (l : Ledger) (probes links : ℕ) : Type 0 where
   pub probes-size : probes ≡ capacity
   pub links-size : links ≡ capacity
   pub rings : SoundRings l
   pub counts : SoundCounts l
 
+-- `accept`, neither 5 nor 4: the same with its four rooms
 pub record SoundAccept (l : Ledger) (keys slots probes links : ℕ) : Type 0 where
   pub keys-size : keys ≡ capacity
   pub slots-size : slots ≡ capacity
@@ -44,6 +46,7 @@ pub record SoundAccept (l : Ledger) (keys slots probes links : ℕ) : Type 0 whe
   pub rings : SoundRings l
   pub counts : SoundCounts l
 
+-- `observe`, none of 5, 1, 4 and 2: the same with its four rooms, what it is told is in range, its key awaits
 pub record SoundObserve (l : Ledger) (keys : List (List ℕ)) (slots offsets links : ℕ) (o : ReplyObservation) : Type 0 where
   pub keys-size : length keys ≡ capacity
   pub slots-size : slots ≡ capacity
@@ -54,12 +57,14 @@ pub record SoundObserve (l : Ledger) (keys : List (List ℕ)) (slots offsets lin
   pub counts : SoundCounts l
   pub awaiting : awaitsKey l keys (o .key) ≡ true
 
+-- the lookup, not 5: its three rooms and the rings; it only reads, so that no count is tested
 pub record SoundLookup (l : Ledger) (keys slots links : ℕ) : Type 0 where
   pub keys-size : keys ≡ capacity
   pub slots-size : slots ≡ capacity
   pub links-size : links ≡ capacity
   pub rings : SoundRings l
 
+-- `answered`, not 5: its two rooms and the rings; it only reads, so that no count is tested
 pub record SoundAnswered (l : Ledger) (probes links : ℕ) : Type 0 where
   pub probes-size : probes ≡ capacity
   pub links-size : links ≡ capacity

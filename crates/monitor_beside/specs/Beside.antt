@@ -19,10 +19,11 @@ goes refusal counts times = eqb refusal 0 && (not (eqb counts 0) && ltb 0 times)
 unfoldable pub noted : Bool → List ℕ → List ℕ → List ℕ → ℕ → List ℕ
 noted go counts times room time = choose (go && (not (eqb (length counts) 0) && not (eqb (length times) 0))) (set room 0 time) room
 
--- the whole call
+-- whether the whole call is served: the monitor refuses nothing, and each room has an entry
 abbrev pub going : Monitor → List ℕ → List ℕ → List Probe → ℕ → Bool
 going m counts times queue time = goes (refusalOfSent m (length queue) time) (length counts) (length times)
 
+-- the time in each room's first word and the monitor's `sent`, where both parts are served; else all as it was
 pub record Both (m : Monitor) (counts times : List ℕ) (queue : List Probe) (sequence time : ℕ) (r : Monitor) (counts′ times′ : List ℕ) (queue′ : List Probe) : Type 0 where
   pub first : counts′ ≡ noted (going m counts times queue time) counts times counts time
   pub second : times′ ≡ noted (going m counts times queue time) counts times times time

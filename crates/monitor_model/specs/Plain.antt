@@ -23,9 +23,11 @@ pub record Sent : Type 0 where
 abbrev pub Marks : Type 0
 Marks = ℕ → Bool
 
+-- the set with this sequence
 unfoldable pub insert : ℕ → Marks → Marks
 insert s marks x = choose (eqb s x) true (marks x)
 
+-- the set without this sequence
 unfoldable pub remove : ℕ → Marks → Marks
 remove s marks x = choose (eqb s x) false (marks x)
 
@@ -52,9 +54,11 @@ new threshold timeout =
 abbrev pub queue : Plain → ℕ → ℕ → Plain
 queue p s t = record { summary = p .summary; timeout = p .timeout; transmitting = true; probes = p .probes ++ record { sequence = s; deadline = t + p .timeout } ∷ []; received = insert s (p .received) }
 
+-- with timeout 0 it only starts transmitting
 abbrev pub start : Plain → Plain
 start p = record { summary = p .summary; timeout = p .timeout; transmitting = true; probes = p .probes; received = p .received }
 
+-- `sent` of the sequence s at time t, not refused
 abbrev pub sent : Plain → ℕ → ℕ → Plain
 sent p s t = choose (ltb 0 (p .timeout)) (queue p s t) (start p)
 
@@ -72,6 +76,7 @@ popTo s (x ∷ xs) marks = choose (eqb (x .sequence) s) (record { probes = xs; r
 abbrev pub hear : Plain → Left → Plain
 hear p l = record { summary = transition Active (losing 0 (p .summary)); timeout = p .timeout; transmitting = p .transmitting; probes = l .probes; received = l .received }
 
+-- `reply` with the sequence s, not refused: nothing while not transmitting, and no pop where s is not marked
 abbrev pub reply : Plain → ℕ → Plain
 reply p s = choose (p .transmitting) (hear p (choose (p .received s) (popTo s (p .probes) (p .received)) (record { probes = p .probes; received = p .received }))) p
 
@@ -91,9 +96,11 @@ advancing transmitting t summary [] marks = record { summary = summary; probes =
 advancing transmitting t summary (x ∷ xs) marks =
     choose (leb (x .deadline) t) (advancing transmitting t (lose transmitting summary) xs (remove (x .sequence) marks)) (record { summary = summary; probes = x ∷ xs; received = marks })
 
+-- the monitor with what `advance` left; timeout and whether it transmits stay
 abbrev pub advanceBy : Plain → Advanced → Plain
 advanceBy p a = record { summary = a .summary; timeout = p .timeout; transmitting = p .transmitting; probes = a .probes; received = a .received }
 
+-- `advance` to the time t, not refused: every front probe whose deadline is at or before t goes
 abbrev pub advance : Plain → ℕ → Plain
 advance p t = advanceBy p (advancing (p .transmitting) t (p .summary) (p .probes) (p .received))
 
@@ -106,10 +113,11 @@ abbrev pub deadline : List Sent → Deadline
 deadline [] = Absent
 deadline (x ∷ xs) = At (x .deadline)
 
--- document 01's refusals: 6, 4 and 3 in the table's order, 0 where the call is served
+-- document 01's refusals, 0 where the call is served: of `reply`, `advance` and `idle` only 4
 abbrev pub refusal : Plain → ℕ
 refusal p = choose (counted (p .summary)) countsFull 0
 
+-- of `sent` at time t: 6, 4 and 3, in the table's order
 abbrev pub sentRefusal : Plain → ℕ → ℕ
 sentRefusal p t =
     choose (leb (2 ^ 64) (t + p .timeout)) deadlinePasses (choose (counted (p .summary)) countsFull (choose (ltb 0 (p .timeout) && leb capacity (length (p .probes))) queueFull 0))

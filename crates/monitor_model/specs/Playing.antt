@@ -25,9 +25,11 @@ pub record PlainStep : Type 0 where
   pub number : ℕ
   pub plain : Plain
 
+-- of a call with this number: what it does, where the number is 0; else what stood before
 abbrev pub serve : ℕ → Plain → Plain → PlainStep
 serve n before after = record { number = n; plain = choose (eqb n 0) after before }
 
+-- one call on the plain model
 unfoldable pub playPlain : Call → Plain → PlainStep
 playPlain (sending s t) p = serve (sentRefusal p t) p (sent p s t)
 playPlain (replying s) p = serve (refusal p) p (reply p s)
@@ -39,13 +41,16 @@ pub record RingStep : Type 0 where
   pub number : ℕ
   pub stand : Stand
 
+-- what the host then holds: the monitor that is handed back, or its own where refused; the room as it was left
 abbrev pub keep : Stand → Answer → List Probe → Stand
 keep x (Served m) room = record { monitor = m; room = room }
 keep x (Refused n) room = record { monitor = x .monitor; room = room }
 
+-- a call's number, and what the host then holds
 abbrev pub take : Stand → Outcome → RingStep
 take x o = record { number = number (o .answer); stand = keep x (o .answer) (o .room) }
 
+-- one call on the monitor with its room; `idle` is lent no room
 unfoldable pub playRing : Call → Stand → RingStep
 playRing (sending s t) x = take x (sentTo (x .monitor) (x .room) s t)
 playRing (replying s) x = take x (replyTo (x .monitor) (x .room) s)
@@ -57,6 +62,7 @@ unfoldable pub plainNumbers : List Call → Plain → List ℕ
 plainNumbers [] p = []
 plainNumbers (c ∷ cs) p = playPlain c p .number ∷ plainNumbers cs (playPlain c p .plain)
 
+-- the same of the monitor with its room
 unfoldable pub ringNumbers : List Call → Stand → List ℕ
 ringNumbers [] x = []
 ringNumbers (c ∷ cs) x = playRing c x .number ∷ ringNumbers cs (playRing c x .stand)
@@ -66,6 +72,7 @@ unfoldable pub plainAfter : List Call → Plain → Plain
 plainAfter [] p = p
 plainAfter (c ∷ cs) p = plainAfter cs (playPlain c p .plain)
 
+-- the same of the monitor with its room
 unfoldable pub ringAfter : List Call → Stand → Stand
 ringAfter [] x = x
 ringAfter (c ∷ cs) x = ringAfter cs (playRing c x .stand)
@@ -74,6 +81,7 @@ ringAfter (c ∷ cs) x = ringAfter cs (playRing c x .stand)
 abbrev pub probeOf : Probe → Sent
 probeOf p = record { sequence = p .sequence; deadline = p .deadline }
 
+-- whether any of these records has the sequence s and the mark
 abbrev pub marked : ℕ → List Probe → Bool
 marked s [] = false
 marked s (p ∷ ps) = choose (eqb (p .sequence) s) (choose (isMarked p) true (marked s ps)) (marked s ps)
