@@ -14,6 +14,7 @@ use Rattle.delays.specs.Sums.{valueOf, totalOf}
 abbrev pub inMs : ℤ → Float
 inMs ns = div binary64 (ofInt binary64 ns) (ofInt binary64 (pos 1000000))
 
+-- a minimum or maximum in ms, absent where the state has none
 abbrev pub extremeMs : Extreme → Milliseconds
 extremeMs extreme.Absent = milliseconds.Absent
 extremeMs (extreme.At ns) = milliseconds.Known (inMs (valueOf ns))
@@ -27,6 +28,7 @@ abbrev pub averageMs : ℤ → ℕ → Milliseconds
 averageMs sum zero = milliseconds.Absent
 averageMs sum (suc n) = milliseconds.Known (quotientMs sum (suc n))
 
+-- how many samples there are, and their minimum, average and maximum in ms
 abbrev pub summaryOf : Delays → DelaySummary
 summaryOf d = record {
   samples = d .count;

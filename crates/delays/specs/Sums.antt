@@ -11,6 +11,7 @@ use Rattle.delays.specs.declared.Sum.{Sum}
 abbrev pub valueOf : Nanoseconds → ℤ
 valueOf n = signed (n .negative) (n .magnitude)
 
+-- the sample that says an integer: its sign and its magnitude, zero without a sign
 abbrev pub nanosecondsOf : ℤ → Nanoseconds
 nanosecondsOf (pos n) = record { negative = false; magnitude = n }
 nanosecondsOf (negsuc n) = record { negative = true; magnitude = suc n }

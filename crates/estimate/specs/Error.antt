@@ -17,6 +17,7 @@ InSeconds e x = Exactly x (e .multiplier * 2 ^ e .scale) (2 ^ 32)
 abbrev pub Thousandfold : ErrorEstimate → Float → Type 0
 Thousandfold e x = Exactly x (e .multiplier * 1000 * 2 ^ e .scale) (2 ^ 32)
 
+-- "either known with its f64 or invalid", by whether it is known
 abbrev pub knownIf : Bool → Float → ErrorMs
 knownIf true x = Known x
 knownIf false x = Invalid
@@ -30,6 +31,7 @@ abbrev pub ExactMs : ErrorEstimate → ErrorMs → Type 0
 ExactMs e (Known x) = Thousandfold e x
 ExactMs e Invalid = Unit {0}
 
+-- r is the error of e in ms, and nothing was rounded where it is known
 pub record InMs (e : ErrorEstimate) (r : ErrorMs) : Type 0 where
   pub is : r ≡ errorMs e
   pub exact : ExactMs e r

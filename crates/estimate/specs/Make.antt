@@ -16,6 +16,7 @@ abbrev pub isPtp : ClockFormat → Bool
 isPtp PTP = true
 isPtp NTP = false
 
+-- the format that Z says: set is PTP, else NTP
 abbrev pub formatOf : Bool → ClockFormat
 formatOf true = PTP
 formatOf false = NTP
@@ -29,6 +30,7 @@ abbrev pub answer : ℕ → ErrorEstimate → Made
 answer zero e = made.Estimate e
 answer (suc n) e = made.Refused (suc n)
 
+-- the estimate of these four values, or refusal 1 for the scale
 abbrev pub madeOf : Bool → Bool → ℕ → ℕ → Made
 madeOf synchronized ptp scale multiplier = answer (refusalOf scale) (record { synchronized = synchronized; ptp = ptp; scale = scale; multiplier = multiplier })
 

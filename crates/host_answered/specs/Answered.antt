@@ -12,6 +12,7 @@ pub record Left : Type 0 where
   pub number : ℕ
   pub answer : List ℕ
 
+-- these
 abbrev pub left : ℕ → List ℕ → Left
 left number answer = record { number = number; answer = answer }
 

@@ -28,6 +28,7 @@ accepted l keys links k = ltb (find (hashWords l) keys links (l .tables .keys) k
 abbrev pub served : Ledger → ℕ → ℕ → Bool
 served l slots probes = sized slots && sized probes && ringsFit l && roomForCall l
 
+-- the key was accepted and the call is served; slots and probes are the sizes of those two rooms
 unfoldable pub isDuplicate : Ledger → List (List ℕ) → List (List ℕ) → ℕ → ℕ → ReplyKey → Bool
 isDuplicate l keys links slots probes k = searchable l keys links && (accepted l keys links k && served l slots probes)
 

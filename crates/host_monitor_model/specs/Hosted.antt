@@ -22,9 +22,11 @@ pub record HostStep : Type 0 where
   pub number : ℕ
   pub lent : Lent
 
+-- what a call left, as a step
 abbrev pub stepped : Left → HostStep
 stepped x = record { number = x .number; lent = record { words = x .words; queue = x .queue } }
 
+-- one call on what is lent; `idle` is not lent the queue, which stays as it is
 unfoldable pub playHost : Call → Lent → HostStep
 playHost (sending s t) x = stepped (sentTo (x .words) (x .queue) s t)
 playHost (replying s) x = stepped (replyTo (x .words) (x .queue) s)
@@ -52,6 +54,7 @@ Typed (replying s) = Unit {0}
 Typed (advancing t) = Unit {0}
 Typed idling = Unit {0}
 
+-- the same of every call of a list
 abbrev pub AllTyped : List Call → Type 0
 AllTyped [] = Unit {0}
 AllTyped (c ∷ cs) = Typed c × AllTyped cs

@@ -32,30 +32,37 @@ use Rattle.ledger_state.specs.declared.snapshot.Snapshot.{Snapshot}
 
 -- ---- values that may be absent: whether they are known, and the value
 
+-- whether there is a last or highest reflector number: 1 or 0
 abbrev pub reflectorKnown : Reflector → ℕ
 reflectorKnown reflector.Absent = 0
 reflectorKnown (reflector.Number n) = 1
 
+-- that number, 0 if absent
 abbrev pub reflectorNumber : Reflector → ℕ
 reflectorNumber reflector.Absent = 0
 reflectorNumber (reflector.Number n) = n
 
+-- whether a number of packets is shown: 1 or 0
 abbrev pub packetsKnown : Packets → ℕ
 packetsKnown packets.Absent = 0
 packetsKnown (packets.Number n) = 1
 
+-- that number, 0 if absent
 abbrev pub packetsNumber : Packets → ℕ
 packetsNumber packets.Absent = 0
 packetsNumber (packets.Number n) = n
 
+-- whether there is a delay in ms: 1 or 0
 abbrev pub msKnown : Milliseconds → ℕ
 msKnown milliseconds.Absent = 0
 msKnown (milliseconds.Known x) = 1
 
+-- the bits of its f64, 0 if absent
 abbrev pub msBits : Milliseconds → ℕ
 msBits milliseconds.Absent = 0
 msBits (milliseconds.Known x) = toBits binary64 x
 
+-- whether the error of an estimate is known: 1, or 0 where it is invalid
 abbrev pub errorKnown : ErrorMs → ℕ
 errorKnown error.Invalid = 0
 errorKnown (error.Known x) = 1
@@ -73,6 +80,7 @@ estimateWords (last.Seen e) =
 
 -- ---- words 0 to 15
 
+-- totals, answers, last and highest reflector, reordered, independent, evicted probes and accepted keys
 abbrev pub repliesWords : Replies → List ℕ
 repliesWords r =
     r .totals .requested ∷ r .totals .unique ∷ r .totals .duplicate ∷ r .totals .unknown
@@ -83,52 +91,63 @@ repliesWords r =
 
 -- ---- words 16 and 17
 
+-- unobserved, then thousandths
 abbrev pub lossWords : Snapshot → List ℕ
 lossWords s = s .unobserved ∷ s .thousandths ∷ []
 
 -- ---- words 18 to 24, and 56 to 62
 
+-- the samples; then minimum, average and maximum in ms, each as a flag and its bits
 abbrev pub delayWords : DelaySummary → List ℕ
 delayWords d =
     d .samples ∷ msKnown (d .min) ∷ msBits (d .min) ∷ msKnown (d .average) ∷ msBits (d .average) ∷ msKnown (d .max) ∷ msBits (d .max) ∷ []
 
 -- ---- words 25 to 49
 
+-- observations, unavailable, discontinuities, reordered, and whether the history was exceeded
 abbrev pub directCountWords : Counts → List ℕ
 directCountWords c = c .observations ∷ c .unavailable ∷ c .discontinuities ∷ c .reordered ∷ flagWord (c .exceeded) ∷ []
 
+-- sender and received maximum, forward missing, highest offset, seen offsets above 0, reverse missing
 abbrev pub spanWords : Spans → List ℕ
 spanWords s =
     packetsKnown (s .sent) ∷ packetsNumber (s .sent) ∷ packetsKnown (s .received) ∷ packetsNumber (s .received)
     ∷ packetsKnown (s .forward) ∷ packetsNumber (s .forward) ∷ packetsKnown (s .transmitted) ∷ packetsNumber (s .transmitted)
     ∷ packetsKnown (s .replies) ∷ packetsNumber (s .replies) ∷ packetsKnown (s .reverse) ∷ packetsNumber (s .reverse) ∷ []
 
+-- the counts, the anchor, the point of the highest transmit offset, and the spans since the anchor
 unfoldable pub directWords : DirectSummary → List ℕ
 directWords d = directCountWords (d .counts) ++ (pointWords (d .anchor) ++ (pointWords (d .latest) ++ spanWords (d .spans)))
 
 -- ---- words 50 to 55
 
+-- observations; then each class: matched, repeated, unmatched, ambiguous, unavailable
 abbrev pub followCountWords : FollowCounts → List ℕ
 followCountWords c = c .observations ∷ c .matched ∷ c .repeated ∷ c .unmatched ∷ c .ambiguous ∷ c .unavailable ∷ []
 
 -- ---- words 63 to 83
 
+-- samples; then each class: both clocks synchronized, not both, an error invalid, no estimates
 abbrev pub qualityCountWords : ClockQuality → List ℕ
 qualityCountWords q = q .samples ∷ q .both ∷ q .unsynchronized ∷ q .invalid ∷ q .unknown ∷ []
 
+-- the largest combined error in ms: a flag and its bits
 abbrev pub largestWords : LargestError → List ℕ
 largestWords x = largestWord x ∷ largestBits x ∷ []
 
+-- the counts, the last estimate of the sender and of the reflector, the largest combined error
 unfoldable pub qualityWords : ClockQuality → List ℕ
 qualityWords q = qualityCountWords q ++ (estimateWords (q .sender) ++ (estimateWords (q .reflector) ++ largestWords (q .largest)))
 
 -- ---- words 50 to 83
 
+-- the counts of the classes, the delay of the matched ones, the clock quality
 unfoldable pub followWords : FollowUpSummary → List ℕ
 followWords f = followCountWords (f .counts) ++ (delayWords (f .delay) ++ qualityWords (f .quality))
 
 -- ---- the whole
 
+-- replies, loss, round trip, direct counters, follow-ups: 84 words
 unfoldable pub shownWords : Snapshot → List ℕ
 shownWords s =
     repliesWords (s .replies) ++ (lossWords s ++ (delayWords (s .rtt) ++ (directWords (s .direct) ++ followWords (s .follow))))

@@ -10,6 +10,7 @@ pub record Left : Type 0 where
   pub number : ℕ
   pub shown : List ℕ
 
+-- these
 abbrev pub left : ℕ → List ℕ → Left
 left number shown = record { number = number; shown = shown }
 

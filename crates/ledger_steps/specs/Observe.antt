@@ -46,6 +46,7 @@ pub record ObserveOutcome : Type 0 where
   pub offsets : List ℕ
   pub links : List (List ℕ)
 
+-- these
 abbrev pub observeOutcome : Ledger → List (List ℕ) → List ℕ → List (List ℕ) → ObserveOutcome
 observeOutcome l slots offsets links = record { ledger = l; slots = slots; offsets = offsets; links = links }
 
@@ -57,6 +58,7 @@ pub record DirectOutcome : Type 0 where
   pub offsets : List ℕ
   pub links : List (List ℕ)
 
+-- these
 abbrev pub directOutcome : Direct → List ℕ → List (List ℕ) → DirectOutcome
 directOutcome d offsets links = record { direct = d; offsets = offsets; links = links }
 
@@ -65,6 +67,7 @@ pub record FollowOutcome : Type 0 where
   pub follow : FollowUps
   pub slots : List (List ℕ)
 
+-- these
 abbrev pub followOutcome : FollowUps → List (List ℕ) → FollowOutcome
 followOutcome f slots = record { follow = f; slots = slots }
 
@@ -76,6 +79,7 @@ module _ (N : ℕ) (byNumber : ℕ → ℕ) where
   offsetsAfter (Added n) s = offset_set.added N byNumber s n
   offsetsAfter Cleared s = s
 
+  -- the measurement after a step, and the seen offsets and links with what the step says of them
   abbrev pub directWith : Step → offset_set.OffsetSet → DirectOutcome
   directWith step s = directOutcome (step .direct) (offsetsAfter (step .offsets) s .offsets) (offsetsAfter (step .offsets) s .links)
 
@@ -84,6 +88,7 @@ module _ (N : ℕ) (byNumber : ℕ → ℕ) where
   directBy counters.Absent d s o = directOutcome d (s .offsets) (s .links)
   directBy (counters.Point c) d s o = directWith (outcomes.recorded N d c o (offset_set.contains N byNumber s (outcomes.soughtIn (d .window) c))) s
 
+  -- the direct counters of an observation; one without counters changes nothing
   unfoldable pub directIn : Direct → List ℕ → List (List ℕ) → ReplyObservation → DirectOutcome
   directIn d offsets links o = directBy (o .counters) d (offset_set.offsetSet offsets links (outcomes.seenIn (d .window))) (o .ordinal)
 
@@ -145,6 +150,7 @@ module _ (N : ℕ) (byKey : ReplyKey → ℕ) (byNumber : ℕ → ℕ) where
   followBy follow.Absent fs ring keys slots links o = followOutcome fs slots
   followBy (follow.Telemetry f) fs ring keys slots links o = followWith N fs slots (holderOf ring keys slots links (f .sequence)) o f
 
+  -- the follow-up of an observation; one without a follow-up changes nothing
   unfoldable pub followIn : FollowUps → Ring → List (List ℕ) → List (List ℕ) → List (List ℕ) → ReplyObservation → FollowOutcome
   followIn fs ring keys slots links o = followBy (o .follow) fs ring keys slots links o
 
@@ -161,6 +167,7 @@ module _ (N : ℕ) (byKey : ReplyKey → ℕ) (byNumber : ℕ → ℕ) where
       (d .offsets)
       (d .links)
 
+  -- a served observe, in order: round trip and direct counters, follow-up, then the own correlation slot
   unfoldable pub observeIn : Ledger → List (List ℕ) → List (List ℕ) → List ℕ → List (List ℕ) → ReplyObservation → ObserveOutcome
   observeIn l keys slots offsets links o =
       observeWith l keys (directIn N byNumber (l .counts .direct) offsets links o)

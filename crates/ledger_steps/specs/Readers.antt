@@ -27,6 +27,7 @@ module _ (N : ℕ) (byKey : ReplyKey → ℕ) (byNumber : ℕ → ℕ) where
       shownOf (foundBy (f .unknown) (f .timestamp) (f .sequence) own
       (slotOf (wordsAt N slots (holderOf N byKey byNumber ring keys slots links (f .sequence)))))
 
+  -- the same, of the state's ring of accepted keys
   abbrev pub lookupIn : Ledger → List (List ℕ) → List (List ℕ) → List (List ℕ) → ℕ → FollowUpTelemetry → Shown
   lookupIn l keys slots links own f = shownIn (l .tables .keys) keys slots links own f
 
@@ -34,6 +35,7 @@ module _ (N : ℕ) (byKey : ReplyKey → ℕ) (byNumber : ℕ → ℕ) where
   abbrev pub answeredAt : List (List ℕ) → ℕ → Bool
   answeredAt probes slot = cond (ltb slot N) (isAnswered (probeAt probes slot)) false
 
+  -- the same, of the sequence s
   unfoldable pub answeredIn : Ledger → List (List ℕ) → List (List ℕ) → ℕ → Bool
   answeredIn l probes links s = answeredAt probes (probe_ring.slotOf N byNumber (probe_ring.rooms probes links (l .tables .probes)) s)
 
@@ -41,5 +43,6 @@ module _ (N : ℕ) (byKey : ReplyKey → ℕ) (byNumber : ℕ → ℕ) where
 abbrev pub lookupOn : Ledger → List (List ℕ) → List (List ℕ) → List (List ℕ) → ℕ → FollowUpTelemetry → Shown
 lookupOn l = lookupIn capacity (hashOf (hashWords l)) (numberHash (hashWords l)) l
 
+-- the same at 4,096, with the hashes of the code
 abbrev pub answeredOn : Ledger → List (List ℕ) → List (List ℕ) → ℕ → Bool
 answeredOn l = answeredIn capacity (hashOf (hashWords l)) (numberHash (hashWords l)) l

@@ -21,6 +21,7 @@ use Rattle.ledger_state.specs.Refusal.{firstRefusal, sized, ringsFit, roomForCa
 abbrev pub line : ℕ → ℕ
 line n = cond (eqb n wrongRoom) 0 (cond (eqb n outOfRange) 1 (cond (eqb n deadlinePasses) 2 (cond (eqb n countsFull) 3 (cond (eqb n notAwaiting) 4 (cond (eqb n queueFull) 5 6)))))
 
+-- the one with the earlier line; the first where their lines are equal
 unfoldable pub earlier : ℕ → ℕ → ℕ
 earlier a b = cond (leb (line a) (line b)) a b
 

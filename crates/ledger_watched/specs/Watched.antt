@@ -24,10 +24,12 @@ use Rattle.ledger_watched.specs.declared.WatchedAccept.the-variants as w
 
 -- ---- document 01's number of an answer, 0 where the call was served
 
+-- of `sent`
 abbrev pub number : WatchedAnswer → ℕ
 number (watched.Served l m) = 0
 number (watched.Refused n) = n
 
+-- of `accept`
 abbrev pub acceptNumber : WatchedAccept → ℕ
 acceptNumber (watchedAccept.Served l m a) = 0
 acceptNumber (watchedAccept.Refused n) = n
@@ -41,6 +43,7 @@ pub record SentResult : Type 0 where
   pub links : List (List ℕ)
   pub queue : List Probe
 
+-- these
 abbrev pub sentResult : WatchedAnswer → List (List ℕ) → List (List ℕ) → List Probe → SentResult
 sentResult r probes links queue = record { answer = r; probes = probes; links = links; queue = queue }
 
@@ -49,6 +52,7 @@ abbrev pub bothSent : Answer → Monitor → WatchedAnswer
 bothSent (answer.Served l) m = watched.Served l m
 bothSent (answer.Refused n) m = watched.Refused n
 
+-- the ledger's answer and rooms, with the monitor and its queue as they then stand
 abbrev pub sentWith : ledger.SentResult → Stand → SentResult
 sentWith r stand = sentResult (bothSent (r .answer) (stand .monitor)) (r .probes) (r .links) (stand .room)
 
@@ -62,6 +66,7 @@ sentTo l m probes links queue s = sentBy (ledger.sentTo (monitor.refusalOfSent m
 
 -- ---- `accept`
 
+-- the answer, the four rooms of the ledger, and the queue
 pub record AcceptResult : Type 0 where
   pub answer : WatchedAccept
   pub keys : List (List ℕ)
@@ -70,13 +75,16 @@ pub record AcceptResult : Type 0 where
   pub links : List (List ℕ)
   pub queue : List Probe
 
+-- these
 abbrev pub acceptResult : WatchedAccept → List (List ℕ) → List (List ℕ) → List (List ℕ) → List (List ℕ) → List Probe → AcceptResult
 acceptResult r keys slots probes links queue = record { answer = r; keys = keys; slots = slots; probes = probes; links = links; queue = queue }
 
+-- the ledger's answer, with the monitor where it was served
 abbrev pub bothAccept : AcceptAnswer → Monitor → WatchedAccept
 bothAccept (accepts.Served l a) m = watchedAccept.Served l m a
 bothAccept (accepts.Refused n) m = watchedAccept.Refused n
 
+-- the ledger's answer and rooms, with the monitor and its queue as they then stand
 abbrev pub acceptWith : ledger.AcceptResult → Stand → AcceptResult
 acceptWith r stand = acceptResult (bothAccept (r .answer) (stand .monitor)) (r .keys) (r .slots) (r .probes) (r .links) (stand .room)
 
@@ -84,6 +92,7 @@ acceptWith r stand = acceptResult (bothAccept (r .answer) (stand .monitor)) (r .
 abbrev pub acceptBy : ledger.AcceptResult → Monitor → List Probe → Reply → AcceptResult
 acceptBy r m queue a = acceptWith r (replyIf (wasUnique (r .answer)) m queue (a .key .sender))
 
+-- the ledger is refused also for the monitor's sake
 unfoldable pub acceptTo : Ledger → Monitor → List (List ℕ) → List (List ℕ) → List (List ℕ) → List (List ℕ) → List Probe → Reply → AcceptResult
 acceptTo l m keys slots probes links queue a =
     acceptBy (ledger.acceptTo (monitor.refusalOf m (length queue)) l keys slots probes links a) m queue a

@@ -32,12 +32,15 @@ mark = 0x53544c47
 abbrev pub trailerAt : List ℕ → ℕ
 trailerAt bs = length bs - 24
 
+-- from the end of the log back to the first record, as the trailer says it
 abbrev pub distanceOf : List ℕ → ℕ
 distanceOf bs = numberAt 2 bs (trailerAt bs)
 
+-- how many records the trailer says there are
 abbrev pub countOf : List ℕ → ℕ
 countOf bs = numberAt 2 bs (trailerAt bs + 4)
 
+-- the last four bytes, as one number
 abbrev pub markOf : List ℕ → ℕ
 markOf bs = numberAt 2 bs (trailerAt bs + 20)
 
@@ -55,6 +58,7 @@ settingsOf bs = record {
 abbrev pub trailerFits : List ℕ → Bool
 trailerFits bs = eqb (markOf bs) mark && eqb (distanceOf bs) (24 + 96 * countOf bs) && leb (distanceOf bs) (length bs)
 
+-- the same at any length: bad under 24 bytes
 unfoldable pub trailerGood : List ℕ → Bool
 trailerGood bs = cond (ltb (length bs) 24) false (trailerFits bs)
 
@@ -75,6 +79,7 @@ firstBad bs start i (suc n) = cond (good (recordAt bs start i)) (firstBad bs sta
 abbrev pub tooLong : ℕ
 tooLong = 9
 
+-- "7 bad trailer"
 abbrev pub badTrailer : ℕ
 badTrailer = 7
 
@@ -87,6 +92,7 @@ answer number first s =
 abbrev pub recordsNumber : (first count : ℕ) → ℕ
 recordsNumber first count = cond (eqb first count) 0 badRecord
 
+-- the answer where the trailer is good: the first bad record, or the settings where it is the count
 abbrev pub byRecords : ℕ → Settings → Log
 byRecords first s = answer (recordsNumber first (s .count)) first s
 
@@ -94,14 +100,17 @@ byRecords first s = answer (recordsNumber first (s .count)) first s
 abbrev pub numberBy : (long kept : Bool) → (records : ℕ) → ℕ
 numberBy long kept records = cond long tooLong (cond kept records badTrailer)
 
+-- the first bad record of the log, from 0; the count where all are good
 abbrev pub firstOf : List ℕ → ℕ
 firstOf bs = firstBad bs (settingsOf bs .start) 0 (countOf bs)
 
+-- the answer for any bytes: 9, 7, 8 with the first bad record, or the settings
 unfoldable pub logOf : List ℕ → Log
 logOf bs = answer (numberBy (ltb mostBytes (length bs)) (trailerGood bs) (recordsNumber (firstOf bs) (settingsOf bs .count))) (firstOf bs) (settingsOf bs)
 
 -- ---- reading record i as a call
 
+-- a good record is its call, and a bad one none
 abbrev pub playedBy : Record → Played
 playedBy (record'.Good c) = played.Call c
 playedBy (record'.Refused n) = played.Nothing
@@ -116,6 +125,7 @@ callAt bs i =
 
 -- ---- writing a trailer
 
+-- each field at its byte: distance, count, copies, threshold, timeout, `STLG`
 abbrev pub trailerTable : ℕ → ℕ → ℕ → ℕ → List Field
 trailerTable count copies threshold timeout =
     bytes4 0 (24 + 96 * count)
@@ -135,6 +145,7 @@ pub record Wrote : Type 0 where
   pub number : ℕ
   pub bytes : List ℕ
 
+-- these
 abbrev pub wrote : ℕ → List ℕ → Wrote
 wrote n bs = record { number = n; bytes = bs }
 
@@ -147,6 +158,7 @@ abbrev pub trailerAfter : ℕ → List ℕ → List ℕ → List ℕ
 trailerAfter zero t bs = t
 trailerAfter (suc n) t bs = bs
 
+-- the call: a trailer for `count` records, written over the lent bytes
 unfoldable pub trailerTo : List ℕ → ℕ → ℕ → ℕ → ℕ → Wrote
 trailerTo bs count copies threshold timeout =
     wrote (trailerNumber bs count) (trailerAfter (trailerNumber bs count) (trailerOver bs count copies threshold timeout) bs)

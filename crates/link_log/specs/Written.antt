@@ -8,6 +8,7 @@ use Rattle.log_record.specs.Records.{recordOf}
 use Rattle.link_log.specs.declared.Settings.{Settings}
 use Rattle.link_log.specs.Logs.{trailerOver}
 
+-- the records of the calls, one after another
 abbrev pub records : List Call → List ℕ
 records [] = []
 records (c ∷ cs) = recordOf c ++ records cs
@@ -21,6 +22,7 @@ AllFit (c ∷ cs) = CallFits c × AllFit cs
 abbrev pub logBytes : (before : List ℕ) → List Call → (room : List ℕ) → (copies threshold timeout : ℕ) → List ℕ
 logBytes before cs room copies threshold timeout = (before ++ records cs) ++ trailerOver room (length cs) copies threshold timeout
 
+-- what that log says besides its records, which start where `before` ends
 abbrev pub settingsBy : (before : List ℕ) → List Call → (copies threshold timeout : ℕ) → Settings
 settingsBy before cs copies threshold timeout = record {
   copies = copies;

@@ -17,26 +17,33 @@ use Rattle.calls.specs.declared.ReplyObservation.{ReplyObservation}
 abbrev pub within : ℕ → ℤ → Bool
 within bound z = leb (natAbs z) bound
 
+-- T4 or converted T3, in ns: not outside ±4·10^18
 abbrev pub timeWithin : ℤ → Bool
 timeWithin z = within 4000000000000000000 z
 
+-- the reference, in seconds: not outside ±4·10^9
 abbrev pub referenceWithin : ℤ → Bool
 referenceWithin z = within 4000000000 z
 
+-- the offset, in seconds: not outside ±86,400
 abbrev pub offsetWithin : ℤ → Bool
 offsetWithin z = within 86400 z
 
+-- T4 or converted T3, not tested where absent
 abbrev pub timeFits : Time → Bool
 timeFits time.Absent = true
 timeFits (time.Nanoseconds z) = timeWithin z
 
+-- the scale is not above 63
 abbrev pub scaleWithin : ErrorEstimate → Bool
 scaleWithin e = leb (e .scale) 63
 
+-- the sender's and the reflector's estimate, not tested where absent
 abbrev pub estimatesFit : Estimates → Bool
 estimatesFit estimates.Absent = true
 estimatesFit (estimates.Pair s r) = scaleWithin s && scaleWithin r
 
+-- the converted T3 of a follow-up, not tested without a follow-up
 abbrev pub followFits : FollowUp → Bool
 followFits follow.Absent = true
 followFits (follow.Telemetry f) = timeFits (f .t3)
