@@ -43,6 +43,7 @@ fresh = record {
 pub data Class : Type 0 where
   unknown invalid unsynchronized both : Class
 
+-- an estimate's error has its ms; an invalid one, as that of multiplier 0, has none
 abbrev pub isKnown : ErrorMs → Bool
 isKnown (Known x) = true
 isKnown Invalid = false
@@ -53,24 +54,28 @@ pairClass true true = both
 pairClass true false = unsynchronized
 pairClass false s = invalid
 
+-- the sample had no estimates
 abbrev pub isUnknown : Class → Bool
 isUnknown unknown = true
 isUnknown invalid = false
 isUnknown unsynchronized = false
 isUnknown both = false
 
+-- one of its two errors, or both, is invalid, whatever the clocks say
 abbrev pub isInvalid : Class → Bool
 isInvalid unknown = false
 isInvalid invalid = true
 isInvalid unsynchronized = false
 isInvalid both = false
 
+-- both errors are known, and a clock is not synchronized
 abbrev pub isUnsynchronized : Class → Bool
 isUnsynchronized unknown = false
 isUnsynchronized invalid = false
 isUnsynchronized unsynchronized = true
 isUnsynchronized both = false
 
+-- both errors are known, and both clocks are synchronized
 abbrev pub isBoth : Class → Bool
 isBoth unknown = false
 isBoth invalid = false

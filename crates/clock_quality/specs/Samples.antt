@@ -28,10 +28,12 @@ unfoldable pub count : (Class → Bool) → List Estimates → ℕ
 count test [] = 0
 count test (e ∷ es) = counted (test (classOf e)) (count test es)
 
+-- the first of a sample's two estimates, absent where it had none
 abbrev pub senderOf : Estimates → LastEstimate
 senderOf estimates.Absent = last.Absent
 senderOf (estimates.Pair s r) = last.Seen (clockEstimateOf s)
 
+-- the second, likewise
 abbrev pub reflectorOf : Estimates → LastEstimate
 reflectorOf estimates.Absent = last.Absent
 reflectorOf (estimates.Pair s r) = last.Seen (clockEstimateOf r)

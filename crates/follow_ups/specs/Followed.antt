@@ -18,11 +18,12 @@ use Rattle.correlation.specs.Class.{delayOf}
 use Rattle.follow_ups.specs.declared.FollowCounts.{FollowCounts}
 use Rattle.follow_ups.specs.declared.FollowUps.{FollowUps}
 
--- the estimates that the wires of a record say, and the wires of an observation's estimates
+-- the sender's and the reflector's estimate that the wires of a slot's record say
 abbrev pub estimatesOf : Wires → Estimates
 estimatesOf wires.Absent = estimates.Absent
 estimatesOf (wires.Pair s r) = estimates.Pair (estimateOf s) (estimateOf r)
 
+-- and back: the sender's and the reflector's 16 bits, as a slot's record keeps an observation's estimates
 abbrev pub wiresOf : Estimates → Wires
 wiresOf estimates.Absent = wires.Absent
 wiresOf (estimates.Pair s r) = wires.Pair (wireOf s) (wireOf r)
@@ -31,6 +32,7 @@ wiresOf (estimates.Pair s r) = wires.Pair (wireOf s) (wireOf r)
 abbrev pub counts : ℕ → ℕ → ℕ → ℕ → ℕ → ℕ → FollowCounts
 counts o m r u a n = record { observations = o; matched = m; repeated = r; unmatched = u; ambiguous = a; unavailable = n }
 
+-- one observation more, and one more of its class; the other classes stay
 abbrev pub counted : Class → FollowCounts → FollowCounts
 counted class.Unavailable n = counts (n .observations + 1) (n .matched) (n .repeated) (n .unmatched) (n .ambiguous) (n .unavailable + 1)
 counted class.Ambiguous n = counts (n .observations + 1) (n .matched) (n .repeated) (n .unmatched) (n .ambiguous + 1) (n .unavailable)
@@ -38,6 +40,7 @@ counted class.Unmatched n = counts (n .observations + 1) (n .matched) (n .repeat
 counted class.Repeated n = counts (n .observations + 1) (n .matched) (n .repeated + 1) (n .unmatched) (n .ambiguous) (n .unavailable)
 counted (class.Matched m) n = counts (n .observations + 1) (n .matched + 1) (n .repeated) (n .unmatched) (n .ambiguous) (n .unavailable)
 
+-- a matched one alone is a sample: T4 - (T3 - offset·10^9) in ns, of the converted T3 and an offset in s
 abbrev pub delayAfter : Class → ℤ → Delays → Delays
 delayAfter class.Unavailable offset d = d
 delayAfter class.Ambiguous offset d = d
@@ -45,6 +48,7 @@ delayAfter class.Unmatched offset d = d
 delayAfter class.Repeated offset d = d
 delayAfter (class.Matched m) offset d = delays.recordedOf d (nanosecondsOf (delayOf (m .t4) (m .t3) offset))
 
+-- a matched one alone is a sample: the estimates of the reply that it corrects, or none
 abbrev pub qualityAfter : Class → ClockQuality → ClockQuality
 qualityAfter class.Unavailable q = q
 qualityAfter class.Ambiguous q = q
@@ -52,6 +56,7 @@ qualityAfter class.Unmatched q = q
 qualityAfter class.Repeated q = q
 qualityAfter (class.Matched m) q = quality.recordedOf q (estimatesOf (m .quality))
 
+-- all three after one follow-up of a class, with the offset of the observation that carries it
 unfoldable pub followed : FollowUps → Class → ℤ → FollowUps
 followed f c offset = record {
   counts = counted c (f .counts);
@@ -59,5 +64,6 @@ followed f c offset = record {
   quality = qualityAfter c (f .quality);
 }
 
+-- before any follow-up: counts 0, no delay and no sample of the clock quality
 abbrev pub freshFollowUps : FollowUps
 freshFollowUps = record { counts = counts 0 0 0 0 0 0; delay = delays.fresh; quality = quality.fresh }

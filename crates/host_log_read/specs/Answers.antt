@@ -15,11 +15,13 @@ pub record Left : Type 0 where
   pub number : ℕ
   pub words : List ℕ
 
+-- these
 abbrev pub left : ℕ → List ℕ → Left
 left n ws = record { number = n; words = ws }
 
 -- ---- the check of a log
 
+-- the trailer's record count, copies, threshold and timeout, one word each in this order
 abbrev pub settingsWords : Settings → List ℕ
 settingsWords s = s .count ∷ s .copies ∷ s .threshold ∷ s .timeout ∷ []
 
@@ -30,6 +32,7 @@ checkedBy log'.BadTrailer ws = left badTrailer ws
 checkedBy (log'.BadRecord n) ws = left badRecord ws
 checkedBy (log'.Good s) ws = left 0 (settingsWords s)
 
+-- of the log's bytes, and what the four words held: only a good log, answered 0, changes them
 unfoldable pub checkTo : List ℕ → List ℕ → Left
 checkTo log ws = checkedBy (logOf log) ws
 
@@ -42,6 +45,7 @@ firstBy log'.BadTrailer ws = left badTrailer ws
 firstBy (log'.BadRecord n) ws = left 0 (n ∷ [])
 firstBy (log'.Good s) ws = left 0 (s .count ∷ [])
 
+-- of the log's bytes, and what the one word held: 9 and 7 leave it
 unfoldable pub firstBadTo : List ℕ → List ℕ → Left
 firstBadTo log ws = firstBy (logOf log) ws
 
@@ -54,9 +58,11 @@ noCall log'.BadTrailer = badTrailer
 noCall (log'.BadRecord n) = badRecord
 noCall (log'.Good s) = badRecord
 
+-- 0 and the words of the call that the record is; without one the number, and the words as they were
 abbrev pub readBy : Played → Log → List ℕ → Left
 readBy played.Nothing l ws = left (noCall l) ws
 readBy (played.Call c) l ws = left 0 (callWords c)
 
+-- of the log's bytes, the record's index from 0, and what the words held
 unfoldable pub readTo : List ℕ → ℕ → List ℕ → Left
 readTo log at ws = readBy (callAt log at) (logOf log) ws

@@ -28,9 +28,11 @@ pub record Left : Type 0 where
   pub number : ℕ
   pub answer : List ℕ
 
+-- these
 abbrev pub left : ℕ → List ℕ → Left
 left number answer = record { number = number; answer = answer }
 
+-- a served lookup returns 0 and what is shown; a refused one its number, and the answer as it was before
 abbrev pub leftBy : LookupAnswer → List ℕ → Left
 leftBy (looks.Served s) before = left 0 (shownWords s)
 leftBy (looks.Refused n) before = left n before

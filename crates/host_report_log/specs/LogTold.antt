@@ -14,6 +14,7 @@ pub record Left : Type 0 where
   pub told : Told
   pub rooms : Rooms
 
+-- these
 abbrev pub left : Told → Rooms → Left
 left t rooms = record { told = t; rooms = rooms }
 

@@ -45,10 +45,12 @@ sessionBy Idle losses = session.Idle losses
 sessionBy Active losses = session.Active losses
 sessionBy Failed losses = session.Failed losses
 
+-- `none` without a monitor, and otherwise its state and its consecutive losses
 abbrev pub sessionOf : Watch → Session
 sessionOf watch.Absent = session.None
 sessionOf (watch.Present m) = sessionBy (m .summary .state) (m .summary .«consecutive_losses»)
 
+-- the line `requested`: requested, unobserved, and the thousandths of these two
 abbrev pub lossOf : Replies → Loss
 lossOf r = record { requested = r .totals .requested; unobserved = unobserved r; thousandths = thousandthsOf (unobserved r) (r .totals .requested) }
 
@@ -63,12 +65,15 @@ followupOf n = record {
   unavailable = n .unavailable;
 }
 
+-- the same of the counts of direct loss; a history exceeded is not reported
 abbrev pub directOf : Counts → Direct
 directOf n = record { observations = n .observations; unavailable = n .unavailable; discontinuities = n .discontinuities; reordered = n .reordered }
 
+-- forward and reverse missing, each absent where it is not shown
 abbrev pub missingOf : DirectSummary → Missing
 missingOf s = record { forward = valueOf (s .spans .forward); reverse = valueOf (s .spans .reverse) }
 
+-- how many round trips, the smallest and the largest in ns; both absent where there are none
 abbrev pub roundTripOf : Delays → RoundTrip
 roundTripOf d = record { samples = d .count; min = timeOf (d .min); max = timeOf (d .max) }
 

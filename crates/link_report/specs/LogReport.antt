@@ -71,9 +71,11 @@ pub record Reported : Type 0 where
   pub outcome : Outcome
   pub rooms : Rooms
 
+-- these
 abbrev pub reported : Outcome → Rooms → Reported
 reported o rooms = record { outcome = o; rooms = rooms }
 
+-- where all sizes are right: the log's text in the buffer and its length, and the rooms after its records
 abbrev pub reportBy : Log → (Settings → Tallied) → Rooms → List ℕ → Reported
 reportBy l end rooms buffer = reported (written (textBy l end) buffer) (roomsBy l end rooms)
 
@@ -82,9 +84,11 @@ abbrev pub roomsFit : ℕ → ℕ → ℕ → ℕ → ℕ → ℕ → Bool
 roomsFit keys slots probes offsets links buffer =
     eqb keys capacity && eqb slots capacity && eqb probes capacity && eqb offsets capacity && eqb links capacity && eqb buffer reportRoom
 
+-- the same of the rooms themselves and of the buffer: 4,096 entries each, and 1,024 bytes
 abbrev pub fits : Rooms → List ℕ → Bool
 fits r buffer = roomsFit (length (r .keys)) (length (r .slots)) (length (r .probes)) (length (r .offsets)) (length (r .links)) (length buffer)
 
+-- the first where the test holds, and otherwise the second
 abbrev pub pickReported : Bool → Reported → Reported → Reported
 pickReported true a b = a
 pickReported false a b = b

@@ -25,72 +25,88 @@ use Rattle.calls.specs.declared.ReplyObservation.{ReplyObservation}
 use Rattle.calls.specs.declared.Call.{Call}
 use Rattle.calls.specs.declared.Call.the-variants as call
 
--- numbers of 2, 4 and 8 bytes
+-- a number of 2 bytes: wires of estimates, and a log's copies and threshold
 abbrev pub U16 : ℕ → Type 0
 U16 n = n < 2 ^ 16
 
+-- a number of 4 bytes: sequences, ordinals and counters
 abbrev pub U32 : ℕ → Type 0
 U32 n = n < 2 ^ 32
 
+-- a number of 8 bytes: send times, tags, T3 of a key, timestamps, round trips, now and a log's timeout
 abbrev pub U64 : ℕ → Type 0
 U64 n = n < 2 ^ 64
 
+-- the two u64 words of a packet: send time in ns and tag
 pub record PacketFits (p : PendingPacket) : Type 0 where
   pub time : U64 (p .time)
   pub tag : U64 (p .tag)
 
+-- a pending packet's two words are u64; nothing is asked where none is pending
 abbrev pub PendingFits : Pending → Type 0
 PendingFits pending.Absent = Unit
 PendingFits (pending.Held p) = PacketFits p
 
+-- sender and reflector sequence of 4 bytes, T3 of 8
 pub record KeyFits (k : ReplyKey) : Type 0 where
   pub sender : U32 (k .sender)
   pub reflector : U32 (k .reflector)
   pub t3 : U64 (k .t3)
 
+-- a T4 or converted T3 is a signed number of 64 bits; nothing is asked where it is absent
 abbrev pub TimeFits : Time → Type 0
 TimeFits time.Absent = Unit
 TimeFits (time.Nanoseconds z) = SFits w64 z
 
+-- an observation's ordinal has 4 bytes; nothing is asked where it is absent
 abbrev pub OrdinalFits : Ordinal → Type 0
 OrdinalFits ordinal.Absent = Unit
 OrdinalFits (ordinal.Number n) = U32 n
 
+-- S_TxC, R_RxC and R_TxC have 4 bytes each
 pub record PointFits (p : CounterPoint) : Type 0 where
   pub sender : U32 (p .sender .0)
   pub received : U32 (p .received .0)
   pub transmitted : U32 (p .transmitted .0)
 
+-- all three have; nothing is asked where they are absent
 abbrev pub CountersFit : Counters → Type 0
 CountersFit counters.Absent = Unit
 CountersFit (counters.Point p) = PointFits p
 
+-- a follow-up's sequence of 4 bytes, its timestamp of 8, and its converted T3 if there
 pub record TelemetryFits (f : FollowUpTelemetry) : Type 0 where
   pub sequence : U32 (f .sequence)
   pub timestamp : U64 (f .timestamp)
   pub t3 : TimeFits (f .t3)
 
+-- the same of an observation's follow-up; nothing is asked where it has none
 abbrev pub FollowFits : FollowUp → Type 0
 FollowFits follow.Absent = Unit
 FollowFits (follow.Telemetry f) = TelemetryFits f
 
+-- a scale of six bits (a larger one would lose bits in the wire) and a multiplier of eight
 pub record EstimateFits (e : ErrorEstimate) : Type 0 where
   pub scale : e .scale ≤ 63
   pub multiplier : e .multiplier < 256
 
+-- the same of the sender's and the reflector's; nothing is asked where they are absent
 abbrev pub EstimatesFit : Estimates → Type 0
 EstimatesFit estimates.Absent = Unit
 EstimatesFit (estimates.Pair s r) = EstimateFits s × EstimateFits r
 
+-- what `sent` is told: sequence and ordinal of 4 bytes, and the packet
 pub record SentFits (p : SentProbe) : Type 0 where
   pub sequence : U32 (p .sequence)
   pub ordinal : U32 (p .ordinal)
   pub packet : PacketFits (p .packet)
 
+-- what `accept` is told: the key, and the pending packet if there
 pub record ReplyFits (r : Reply) : Type 0 where
   pub key : KeyFits (r .key)
   pub pending : PendingFits (r .pending)
 
+-- what `observe` is told: each field as wide as in a record of kind 2, reference and offset signed
 pub record ObservationFits (o : ReplyObservation) : Type 0 where
   pub key : KeyFits (o .key)
   pub rtt : U64 (o .rtt)
@@ -102,6 +118,7 @@ pub record ObservationFits (o : ReplyObservation) : Type 0 where
   pub follow : FollowFits (o .follow)
   pub quality : EstimatesFit (o .quality)
 
+-- the same of a call of any kind: advance has its now, idle has no field
 abbrev pub CallFits : Call → Type 0
 CallFits (call.Sent p) = SentFits p
 CallFits (call.Accept r) = ReplyFits r

@@ -11,21 +11,27 @@ use Rattle.replies.specs.declared.Totals.{Totals}
 use Rattle.replies.specs.declared.Evicted.{Evicted}
 use Rattle.replies.specs.declared.Replies.{Replies}
 
+-- a count is below 2^63
 abbrev pub fits : ℕ → Bool
 fits n = ltb n countBound
 
+-- so are requested, unique, duplicate and unknown
 abbrev pub totalsFit : Totals → Bool
 totalsFit t = fits (t .requested) && fits (t .unique) && fits (t .duplicate) && fits (t .unknown)
 
+-- so are answered, additional, late and satisfied
 abbrev pub answersFit : Answers → Bool
 answersFit a = fits (a .answered) && fits (a .additional) && fits (a .late) && fits (a .satisfied)
 
+-- so are reordered and independent; the last and the highest reflector number are no counts
 abbrev pub numbersFit : Numbers → Bool
 numbersFit n = fits (n .reordered) && fits (n .independent)
 
+-- so are the evicted probes and the evicted keys
 abbrev pub evictedFit : Evicted → Bool
 evictedFit e = fits (e .probes) && fits (e .replies)
 
+-- so are all twelve counts: where one is not, refusal 4 applies
 abbrev pub repliesFit : Replies → Bool
 repliesFit r = totalsFit (r .totals) && answersFit (r .answers) && numbersFit (r .numbers) && evictedFit (r .evicted)
 
@@ -36,20 +42,24 @@ pub record TotalsIn (t : Totals) : Type 0 where
   pub duplicate : t .duplicate < countBound
   pub unknown : t .unknown < countBound
 
+-- the same of answered, additional, late and satisfied
 pub record AnswersIn (a : Answers) : Type 0 where
   pub answered : a .answered < countBound
   pub additional : a .additional < countBound
   pub late : a .late < countBound
   pub satisfied : a .satisfied < countBound
 
+-- the same of reordered and independent
 pub record NumbersIn (n : Numbers) : Type 0 where
   pub reordered : n .reordered < countBound
   pub independent : n .independent < countBound
 
+-- the same of the evicted probes and the evicted keys
 pub record EvictedIn (e : Evicted) : Type 0 where
   pub probes : e .probes < countBound
   pub replies : e .replies < countBound
 
+-- all twelve counts are below 2^63
 pub record InBounds (r : Replies) : Type 0 where
   pub totals : TotalsIn (r .totals)
   pub answers : AnswersIn (r .answers)

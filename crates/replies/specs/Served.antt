@@ -52,6 +52,7 @@ abbrev pub highestAfter : Reflector → ℕ → Reflector
 highestAfter Absent reflector = Number reflector
 highestAfter (Number high) reflector = highestBy (eqb (stepFrom high reflector) 0) (not (ltb (stepFrom high reflector) (2 ^ 31))) high reflector
 
+-- the step from the highest is 2^31 or more; the first reply is never reordered
 abbrev pub isReordered : Reflector → ℕ → Bool
 isReordered Absent reflector = false
 isReordered (Number high) reflector = not (ltb (stepFrom high reflector) (2 ^ 31))
@@ -65,24 +66,29 @@ numberedBy sender reflector n = record {
   independent = tally (not (eqb reflector sender)) (n .independent);
 }
 
+-- how many probes and accepted keys were evicted so far: one more of each that the call evicted
 abbrev pub evictedBy : Bool → Bool → Evicted → Evicted
 evictedBy probe key e = record { probes = tally probe (e .probes); replies = tally key (e .replies) }
 
 -- ---- the served calls
 
--- "`sent` adds copies to requested"; probe: whether a held probe was evicted
+-- "`sent` adds copies to requested"
 abbrev pub requestedBy : ℕ → Totals → Totals
 requestedBy copies t = record { requested = t .requested + copies; unique = t .unique; duplicate = t .duplicate; unknown = t .unknown }
 
+-- a unique reply counts as that alone; requested stays
 abbrev pub oneUnique : Totals → Totals
 oneUnique t = record { requested = t .requested; unique = t .unique + 1; duplicate = t .duplicate; unknown = t .unknown }
 
+-- a duplicate, likewise
 abbrev pub oneDuplicate : Totals → Totals
 oneDuplicate t = record { requested = t .requested; unique = t .unique; duplicate = t .duplicate + 1; unknown = t .unknown }
 
+-- an unknown reply, likewise
 abbrev pub oneUnknown : Totals → Totals
 oneUnknown t = record { requested = t .requested; unique = t .unique; duplicate = t .duplicate; unknown = t .unknown + 1 }
 
+-- `sent`; copies: the ledger's, where 0 has become 1; probe: whether a held probe was evicted
 unfoldable pub afterSent : ℕ → Bool → Replies → Replies
 afterSent copies probe r = record {
   totals = requestedBy copies (r .totals);
@@ -91,9 +97,11 @@ afterSent copies probe r = record {
   evicted = evictedBy probe false (r .evicted);
 }
 
+-- `accept` of a duplicate: no other count changes
 unfoldable pub afterDuplicate : Replies → Replies
 afterDuplicate r = record { totals = oneDuplicate (r .totals); answers = r .answers; numbers = r .numbers; evicted = r .evicted }
 
+-- `accept` of an unknown reply: no other count changes
 unfoldable pub afterUnknown : Replies → Replies
 afterUnknown r = record { totals = oneUnknown (r .totals); answers = r .answers; numbers = r .numbers; evicted = r .evicted }
 
@@ -120,6 +128,7 @@ unobserved r = r .totals .requested - r .answers .satisfied
 abbrev pub needsBurstWait : ℕ → Replies → Bool
 needsBurstWait copies r = ltb 1 copies && ltb (r .answers .satisfied) (r .totals .requested)
 
+-- before any call: counts 0, and no last and no highest reflector number
 abbrev pub freshReplies : Replies
 freshReplies = record {
   totals = record { requested = 0; unique = 0; duplicate = 0; unknown = 0 };
