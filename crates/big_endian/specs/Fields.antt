@@ -11,16 +11,19 @@ pub record Field : Type 0 where
   pub at : ℕ
   pub value : ℕ
 
--- fields of 1, 2, 4 and 8 bytes
+-- a field of one byte: its place, and its value
 abbrev pub byte : (at value : ℕ) → Field
 byte at v = record { width = 0; at = at; value = v }
 
+-- a field of two bytes
 abbrev pub bytes2 : (at value : ℕ) → Field
 bytes2 at v = record { width = 1; at = at; value = v }
 
+-- a field of four bytes
 abbrev pub bytes4 : (at value : ℕ) → Field
 bytes4 at v = record { width = 2; at = at; value = v }
 
+-- a field of eight bytes
 abbrev pub bytes8 : (at value : ℕ) → Field
 bytes8 at v = record { width = 3; at = at; value = v }
 
@@ -33,6 +36,7 @@ written (f ∷ fs) bs = written fs (put (f .width) bs (f .at) (f .value))
 abbrev pub apart : Field → Field → Bool
 apart f g = leb (f .at + 2 ^ f .width) (g .at) || leb (g .at + 2 ^ g .width) (f .at)
 
+-- a field shares no byte with any field of the table
 abbrev pub apartFrom : Field → List Field → Bool
 apartFrom f [] = true
 apartFrom f (g ∷ gs) = apart f g && apartFrom f gs

@@ -15,13 +15,15 @@ use Rattle.direct.specs.Shown.{summaryOf}
 abbrev pub point : ℕ → ℕ → ℕ → CounterPoint
 point s r t = record { sender = record { 0 = s }; received = record { 0 = r }; transmitted = record { 0 = t } }
 
--- what the measurement is after three replies whose probes have the ordinals that they say, and whose offsets were not seen before
+-- the fresh measurement after the counters (10,10,10) of a reply whose probe has the ordinal 10: the anchor
 abbrev pub first : Direct
 first = recorded capacity freshDirect (point 10 10 10) (ordinal.Number 10) false .direct
 
+-- then (12,12,13) of ordinal 12, whose transmit offset 3 was not seen before
 abbrev pub second : Direct
 second = recorded capacity first (point 12 12 13) (ordinal.Number 12) false .direct
 
+-- then (11,11,11) of ordinal 11, whose transmit offset 1 was not seen before
 abbrev pub third : Direct
 third = recorded capacity second (point 11 11 11) (ordinal.Number 11) false .direct
 

@@ -8,12 +8,15 @@ use Rattle.calls.specs.declared.CounterPoint.{CounterPoint}
 unfoldable pub offset : ℕ → ℕ → ℕ
 offset a b = (b + 2 ^ 32 - a) % 2 ^ 32
 
+-- of S_TxC: the second counters' offset from the first, the anchor's
 abbrev pub senderOffset : CounterPoint → CounterPoint → ℕ
 senderOffset a c = offset (a .sender .0) (c .sender .0)
 
+-- of R_RxC, likewise
 abbrev pub receivedOffset : CounterPoint → CounterPoint → ℕ
 receivedOffset a c = offset (a .received .0) (c .received .0)
 
+-- of R_TxC, likewise: of the three the one that is remembered as seen
 abbrev pub transmitOffset : CounterPoint → CounterPoint → ℕ
 transmitOffset a c = offset (a .transmitted .0) (c .transmitted .0)
 

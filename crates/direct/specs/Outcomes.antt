@@ -19,6 +19,7 @@ use Rattle.direct.specs.Offsets.{senderOffset, receivedOffset, transmitO
 
 -- ---- the counts
 
+-- one more that is unavailable
 abbrev pub oneUnavailable : Counts → Counts
 oneUnavailable n = record {
   observations = n .observations;
@@ -28,6 +29,7 @@ oneUnavailable n = record {
   exceeded = n .exceeded;
 }
 
+-- "Anything else is an observation."
 abbrev pub oneObserved : Counts → Counts
 oneObserved n = record {
   observations = n .observations + 1;
@@ -37,6 +39,7 @@ oneObserved n = record {
   exceeded = n .exceeded;
 }
 
+-- one discontinuity more
 abbrev pub oneDiscontinuity : Counts → Counts
 oneDiscontinuity n = record {
   observations = n .observations;
@@ -46,6 +49,7 @@ oneDiscontinuity n = record {
   exceeded = n .exceeded;
 }
 
+-- one more that is reordered
 abbrev pub oneReordered : Counts → Counts
 oneReordered n = record {
   observations = n .observations;
@@ -55,6 +59,7 @@ oneReordered n = record {
   exceeded = n .exceeded;
 }
 
+-- "history exceeded (stays set)"
 abbrev pub historyExceeded : Counts → Counts
 historyExceeded n = record {
   observations = n .observations;
@@ -94,10 +99,12 @@ above e c = record {
   seen = e .seen + 1;
 }
 
+-- by whether the transmit offset is below the highest
 abbrev pub movedBy : Bool → Epoch → CounterPoint → Epoch
 movedBy true e c = below e c
 movedBy false e c = above e c
 
+-- these counts and this window, and what becomes of the seen offsets
 abbrev pub step : Counts → Window → Offsets → Step
 step n w o = record { direct = record { counts = n; window = w }; offsets = o }
 
@@ -127,14 +134,17 @@ seenAgain n = step (oneDiscontinuity (oneUnavailable (oneObserved n))) Closed Cl
 abbrev pub full : Counts → Step
 full n = step (historyExceeded (oneObserved n)) Closed Cleared
 
+-- "Else an offset below the highest is reordered": it is an observation, and its offset is seen
 abbrev pub wasReordered : Counts → Epoch → CounterPoint → Step
 wasReordered n e c = step (oneReordered (oneObserved n)) (Open (below e c)) (Added (transmitOffset (e .anchor) c))
 
+-- "one above": it is an observation, the latest point, and its offset is seen
 abbrev pub advanced : Counts → Epoch → CounterPoint → Step
 advanced n e c = step (oneObserved n) (Open (above e c)) (Added (transmitOffset (e .anchor) c))
 
 -- ---- which of them
 
+-- without an anchor, by whether both reflector counts are 0
 abbrev pub withoutAnchor : Bool → Counts → CounterPoint → Step
 withoutAnchor true n c = zeros n
 withoutAnchor false n c = anchored n c
@@ -152,11 +162,13 @@ abbrev pub bothZero : CounterPoint → Bool
 bothZero c = eqb (c .received .0) 0 && eqb (c .transmitted .0) 0
 
 module _ (N : ℕ) where
+  -- by whether there is an anchor, for a sender count that is the ordinal; again: its offset was seen
   abbrev pub inWindow : Counts → Window → CounterPoint → Bool → Step
   inWindow n Closed c again = withoutAnchor (bothZero c) n c
   inWindow n (Open e) c again =
       withAnchor (jumps (e .anchor) c) again (eqb (e .seen) N) (ltb (transmitOffset (e .anchor) c) (highest e)) n e c
 
+  -- by whether the sender count is the ordinal
   abbrev pub byOrdinal : Bool → Counts → Window → CounterPoint → Bool → Step
   byOrdinal true n w c again = inWindow n w c again
   byOrdinal false n w c again = mismatched n w

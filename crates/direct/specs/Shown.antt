@@ -22,9 +22,11 @@ abbrev pub lessBy : Bool → ℕ → ℕ → Packets
 lessBy true a b = Absent
 lessBy false a b = Number (a - b)
 
+-- the same, where negative means that a is below b
 abbrev pub less : ℕ → ℕ → Packets
 less a b = lessBy (ltb a b) a b
 
+-- nothing is shown: neither maximum nor offset nor missing
 abbrev pub noSpans : Spans
 noSpans = record { sent = Absent; received = Absent; forward = Absent; transmitted = Absent; replies = Absent; reverse = Absent }
 
@@ -44,17 +46,21 @@ abbrev pub spansBy : Bool → Epoch → Spans
 spansBy true e = epochSpans e
 spansBy false e = noSpans
 
+-- without an anchor nothing is shown; with one, once a second offset was seen
 abbrev pub spansOf : Window → Spans
 spansOf Closed = noSpans
 spansOf (Open e) = spansBy (ltb 1 (e .seen)) e
 
+-- the anchor's three counters, absent without an anchor
 abbrev pub anchorOf : Window → Counters
 anchorOf Closed = counters.Absent
 anchorOf (Open e) = counters.Point (e .anchor)
 
+-- the three counters that have the highest transmit offset, absent without an anchor
 abbrev pub latestOf : Window → Counters
 latestOf Closed = counters.Absent
 latestOf (Open e) = counters.Point (e .latest)
 
+-- all that is shown; the counts are as they stand, with or without an anchor
 abbrev pub summaryOf : Direct → DirectSummary
 summaryOf d = record { counts = d .counts; anchor = anchorOf (d .window); latest = latestOf (d .window); spans = spansOf (d .window) }

@@ -19,6 +19,7 @@ pub record Left : Type 0 where
   pub number : ℕ
   pub words : List ℕ
 
+-- these
 abbrev pub left : ℕ → List ℕ → Left
 left n ws = record { number = n; words = ws }
 
@@ -39,5 +40,6 @@ recordAfter (recorded.Refused n) ws = left n ws
 abbrev pub recordOf : List ℕ → ℕ → ℕ → ℕ → Recorded
 recordOf ws estimated sender reflector = answer (refusalOf (qualityAt 0 ws)) (recordedOf (qualityAt 0 ws) (estimatesFrom estimated sender reflector))
 
+-- `record`: its number, and the words after a pair of estimates, or after none where the flag's word is 0
 unfoldable pub recordTo : List ℕ → ℕ → ℕ → ℕ → Left
 recordTo ws estimated sender reflector = recordAfter (recordOf ws estimated sender reflector) ws

@@ -23,6 +23,7 @@ word words i = getD words i 0
 abbrev pub stateAt : ℕ → State
 stateAt n = choose (eqb n 0) Idle (choose (eqb n 1) Active Failed)
 
+-- the word of a state: 0 idle, 1 active, 2 failed
 abbrev pub stateNumber : State → ℕ
 stateNumber Idle = 0
 stateNumber Active = 1

@@ -25,6 +25,7 @@ pub record Started : Type 0 where
   pub number : ℕ
   pub words : List ℕ
 
+-- these
 abbrev pub started : ℕ → List ℕ → Started
 started n ws = record { number = n; words = ws }
 
@@ -41,6 +42,7 @@ pub record RecordLeft : Type 0 where
   pub room : List ℕ
   pub recorded : List ℕ
 
+-- these
 abbrev pub recordLeft : ℕ → List ℕ → List ℕ → List ℕ → RecordLeft
 recordLeft n ws room recorded = record { number = n; words = ws; room = room; recorded = recorded }
 
@@ -49,6 +51,7 @@ abbrev pub recordBy : ℕ → record-call.Outcome → List ℕ → List ℕ → 
 recordBy zero o ws room recorded = recordLeft 0 (wordsWith ws (o .state)) (o .room) (set recorded 0 (flagWord (o .answer)))
 recordBy (suc n) o ws room recorded = recordLeft (suc n) ws room recorded
 
+-- `record` of a value, signed ones in two's complement, at the state that the words say
 unfoldable pub recordTo : List ℕ → List ℕ → ℕ → List ℕ → RecordLeft
 recordTo ws room value recorded = let o = record-call.recorded (quantilesAt ws) room value in recordBy (o .number) o ws room recorded
 
@@ -60,6 +63,7 @@ pub record PercentilesLeft : Type 0 where
   pub shown : List ℕ
   pub present : List ℕ
 
+-- these
 abbrev pub percentilesLeft : ℕ → List ℕ → List ℕ → PercentilesLeft
 percentilesLeft n shown present = record { number = n; shown = shown; present = present }
 
@@ -68,6 +72,7 @@ abbrev pub percentilesBy : ℕ → percentiles-call.Outcome → List ℕ → Lis
 percentilesBy zero o shown present = percentilesLeft 0 (o .shown) (set present 0 (flagWord (o .values)))
 percentilesBy (suc n) o shown present = percentilesLeft (suc n) shown present
 
+-- `percentiles` at that state: a shown word for each percent; without samples the shown words stay
 unfoldable pub percentilesTo : List ℕ → List ℕ → List Float → List ℕ → List ℕ → PercentilesLeft
 percentilesTo ws room percents shown present =
     let o = percentiles-call.percentilesOf (quantilesAt ws) room percents shown in percentilesBy (o .number) o shown present

@@ -21,21 +21,25 @@ pub record Left : Type 0 where
   pub links : List (List ℕ)
   pub queue : List Probe
 
+-- these
 abbrev pub left : ℕ → List ℕ → List ℕ → List (List ℕ) → List (List ℕ) → List Probe → Left
 left n ledger monitor probes links queue = record { number = n; ledger = ledger; monitor = monitor; probes = probes; links = links; queue = queue }
 
--- the words of each part: of the next one, or as they were where the call was refused
+-- the ledger's words: of the next ledger, or as they were where the call was refused
 abbrev pub ledgerAfter : List ℕ → WatchedAnswer → List ℕ
 ledgerAfter words (Served l m) = sentWords words l
 ledgerAfter words (Refused n) = words
 
+-- the monitor's words, likewise
 abbrev pub monitorAfter : List ℕ → WatchedAnswer → List ℕ
 monitorAfter words (Served l m) = wordsOf m
 monitorAfter words (Refused n) = words
 
+-- what an answer leaves: its number, the words of both parts, and the rooms of its result
 abbrev pub ended : List ℕ → List ℕ → SentResult → Left
 ended ledger monitor r = left (number (r .answer)) (ledgerAfter ledger (r .answer)) (monitorAfter monitor (r .answer)) (r .probes) (r .links) (r .queue)
 
+-- `sent` of this probe, to the ledger and the monitor that the words say
 unfoldable pub watchedSentTo : List ℕ → List ℕ → List (List ℕ) → List (List ℕ) → List Probe → (sequence ordinal time tag : ℕ) → Left
 watchedSentTo ledger monitor probes links queue sequence ordinal time tag =
     ended ledger monitor (sentTo (ledgerAt ledger) (monitorAt monitor) probes links queue (probeOf sequence ordinal time tag))

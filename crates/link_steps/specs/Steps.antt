@@ -1,5 +1,5 @@
 -- A link is a ledger with its rooms and, where it has one, a monitor with the room of its queue. Here: what each call of the host does to it.
--- "With a monitor, sent and accept drive it"; "each refusal returns its number only and changes nothing": of both parts.
+-- With a monitor, `sent` and `accept` drive it. A refusal "returns its number only and changes nothing": of both parts.
 -- Assumes nothing.
 use mathlib.Core.Bool.{Bool, true, false}
 use mathlib.Core.List.{List, [], _∷_}
@@ -40,31 +40,36 @@ pub record Watched : Type 0 where
   pub watch : Watch
   pub queue : List Probe
 
+-- of a monitor that is there, with its room
 abbrev pub watched : Stands → Watched
 watched s = record { watch = Present (s .monitor); queue = s .room }
 
+-- where there is no monitor the queue stays
 abbrev pub unwatched : List Probe → Watched
 unwatched queue = record { watch = Absent; queue = queue }
 
+-- of these parts
 abbrev pub standing : Ledger → Rooms → Watched → Standing
 standing l r w = record { link = record { ledger = l; watch = w .watch }; rooms = r; queue = w .queue }
 
 -- ---- the monitor's part
 
--- its refusal of `sent`, and of its other calls, with a room of this size
+-- its refusal of `sent` with a room of this size, 0 where there is no monitor
 abbrev pub watchRefusesSent : Watch → ℕ → SentProbe → ℕ
 watchRefusesSent Absent room s = 0
 watchRefusesSent (Present m) room s = monitor.refusalOfSent m room (s .packet .time)
 
+-- its refusal of any other call, likewise
 abbrev pub watchRefuses : Watch → ℕ → ℕ
 watchRefuses Absent room = 0
 watchRefuses (Present m) room = monitor.refusalOf m room
 
--- what it does where the call goes on
+-- what it does where the call goes on: at `sent`, with the probe's sequence and send time
 abbrev pub watchSent : Bool → Watch → List Probe → SentProbe → Watched
 watchSent go Absent queue s = unwatched queue
 watchSent go (Present m) queue s = watched (sentIf go m queue (s .sequence) (s .packet .time))
 
+-- at a reply: its key's sender number is the sequence that the monitor hears
 abbrev pub watchReply : Bool → Watch → List Probe → Reply → Watched
 watchReply go Absent queue a = unwatched queue
 watchReply go (Present m) queue a = watched (replyIf go m queue (a .key .sender))
@@ -74,16 +79,19 @@ abbrev pub watchAdvance : Watch → List Probe → ℕ → Watched
 watchAdvance Absent queue time = unwatched queue
 watchAdvance (Present m) queue time = watched (advanceIf true m queue time)
 
+-- `idle` where it is served; a refusal changes nothing
 abbrev pub idleBy : Bool → Monitor → Monitor
 idleBy true m = idleOn m
 idleBy false m = m
 
+-- `idle` is lent no room: it is tested as with one of 4,096, and the queue's room stays
 abbrev pub watchIdle : Watch → List Probe → Watched
 watchIdle Absent queue = unwatched queue
 watchIdle (Present m) queue = record { watch = Present (idleBy (eqb (monitor.refusalOf m capacity) 0) m); queue = queue }
 
 -- ---- `sent`: the ledger's part with the monitor's refusal, then the monitor's where it was served
 
+-- the call was served
 abbrev pub wasServed : Answer → Bool
 wasServed (answer.Served l) = true
 wasServed (answer.Refused n) = false
@@ -93,9 +101,11 @@ abbrev pub ledgerOf : Ledger → Answer → Ledger
 ledgerOf l (answer.Served next) = next
 ledgerOf l (answer.Refused n) = l
 
+-- the ledger's answer and the rooms that it is lent; the monitor's refusal is one of its own
 abbrev pub sentResult : Standing → SentProbe → SentResult
 sentResult k s = sentTo (watchRefusesSent (k .link .watch) (length (k .queue)) s) (k .link .ledger) (k .rooms .probes) (k .rooms .links) s
 
+-- the link after it; keys, slots and offsets are not lent and stay
 abbrev pub sentLeaves : Standing → SentProbe → SentResult → Standing
 sentLeaves k s r =
     standing (ledgerOf (k .link .ledger) (r .answer))
@@ -104,23 +114,28 @@ sentLeaves k s r =
 
 -- ---- `accept`: a unique reply goes to the monitor
 
+-- neither duplicate nor unknown
 abbrev pub isUnique : Accepted → Bool
 isUnique accepted.Duplicate = false
 isUnique accepted.Unknown = false
 isUnique (accepted.Unique p o) = true
 
+-- the call was served, and its reply is unique
 abbrev pub wasUnique : AcceptAnswer → Bool
 wasUnique (accepts.Served l a) = isUnique a
 wasUnique (accepts.Refused n) = false
 
+-- the ledger of an answer, likewise: a refusal leaves it as it was
 abbrev pub ledgerOfAccept : Ledger → AcceptAnswer → Ledger
 ledgerOfAccept l (accepts.Served next a) = next
 ledgerOfAccept l (accepts.Refused n) = l
 
+-- the ledger's answer and the rooms that it is lent; the monitor's refusal is one of its own
 abbrev pub acceptResult : Standing → Reply → AcceptResult
 acceptResult k a =
     acceptTo (watchRefuses (k .link .watch) (length (k .queue))) (k .link .ledger) (k .rooms .keys) (k .rooms .slots) (k .rooms .probes) (k .rooms .links) a
 
+-- the link after it; the offsets are not lent and stay
 abbrev pub acceptLeaves : Standing → Reply → AcceptResult → Standing
 acceptLeaves k a r =
     standing (ledgerOfAccept (k .link .ledger) (r .answer))
@@ -129,9 +144,11 @@ acceptLeaves k a r =
 
 -- ---- `observe`: the ledger's alone
 
+-- the ledger's answer and the rooms that it is lent; the monitor refuses nothing
 abbrev pub observeResult : Standing → ReplyObservation → ObserveResult
 observeResult k o = observeTo (k .link .ledger) (k .rooms .keys) (k .rooms .slots) (k .rooms .offsets) (k .rooms .links) o
 
+-- the link after it; keys, probes, monitor and queue stay
 abbrev pub observeLeaves : Standing → ObserveResult → Standing
 observeLeaves k r =
     standing (ledgerOf (k .link .ledger) (r .answer))
@@ -158,24 +175,27 @@ after k Idle = standing (k .link .ledger) (k .rooms) (watchIdle (k .link .watch)
 
 -- ---- calls one after the other, newest first: each is given what the last one left
 
+-- the link after all of them; a refused one leaves it as it was
 unfoldable pub played : Standing → List Call → Standing
 played k [] = k
 played k (c ∷ cs) = after (played k cs) c
 
--- the calls that were served
+-- the call before these where its number is 0, and else these alone
 abbrev pub keptIf : ℕ → Call → List Call → List Call
 keptIf zero c cs = c ∷ cs
 keptIf (suc n) c cs = cs
 
+-- the calls that were served, newest first
 unfoldable pub served : Standing → List Call → List Call
 served k [] = []
 served k (c ∷ cs) = keptIf (refuses (played k cs) c) c (served k cs)
 
--- how many were turned away
+-- one more where the number is a refusal's
 abbrev pub oneIf : ℕ → ℕ → ℕ
 oneIf zero n = n
 oneIf (suc k) n = n + 1
 
+-- how many were turned away: refused, whatever the number
 unfoldable pub turnedAway : Standing → List Call → ℕ
 turnedAway k [] = 0
 turnedAway k (c ∷ cs) = oneIf (refuses (played k cs) c) (turnedAway k cs)

@@ -85,25 +85,31 @@ recordOf c = written (tableOf c) blank
 
 -- ---- the call that 96 bytes say
 
+-- "4 sender, 8 reflector, 12 T3"
 abbrev pub keyAt : List ℕ → ReplyKey
 keyAt r = record { sender = numberAt 2 r 4; reflector = numberAt 2 r 8; t3 = numberAt 3 r 12 }
 
+-- "4 sequence, 8 ordinal, 12 time, 20 tag"
 abbrev pub sentAt : List ℕ → SentProbe
 sentAt r = record { sequence = numberAt 2 r 4; ordinal = numberAt 2 r 8; packet = record { time = numberAt 3 r 12; tag = numberAt 3 r 20 } }
 
--- of the record's flags, and the record
+-- of the record's flags, and the record: without flag 1 nothing is pending
 abbrev pub acceptAt : ℕ → List ℕ → Reply
 acceptAt flags r = record { key = keyAt r; pending = pendingBy (flag 1 flags) (numberAt 3 r 20) (numberAt 3 r 28) }
 
+-- S_TxC, R_RxC and R_TxC from 52 on, absent without flag 4
 abbrev pub countersAt : ℕ → List ℕ → Counters
 countersAt flags r = countersBy (flag 4 flags) (numberAt 2 r 52) (numberAt 2 r 56) (numberAt 2 r 60)
 
+-- the follow-up from 64 on, absent without flag 8; flag 128 unknown mode, flag 16 converted T3 at 76
 abbrev pub followAt : ℕ → List ℕ → FollowUp
 followAt flags r = followBy (flag 8 flags) (numberAt 2 r 64) (numberAt 3 r 68) (flag 128 flags) (timeBy (flag 16 flags) (numberAt 3 r 76))
 
+-- the sender's estimate at 84 and the reflector's at 86, absent without flag 32
 abbrev pub estimatesAt : ℕ → List ℕ → Estimates
 estimatesAt flags r = estimatesBy (flag 32 flags) (numberAt 1 r 84) (numberAt 1 r 86)
 
+-- the observation; without flag 1 no T4, without flag 2 no ordinal, with flag 64 PTP
 abbrev pub observeAt : ℕ → List ℕ → ReplyObservation
 observeAt flags r = record {
   key = keyAt r;
@@ -127,11 +133,13 @@ callBy kind flags r =
     (cond (eqb kind 3) (call.Advance (numberAt 3 r 4))
     call.Idle)))
 
+-- byte 0 is its kind, byte 1 its flags
 unfoldable pub callOf : List ℕ → Call
 callOf r = callBy (numberAt 0 r 0) (numberAt 0 r 1) r
 
 -- ---- good records
 
+-- two lists of bytes are the same, in length too
 abbrev pub sameBytes : List ℕ → List ℕ → Bool
 sameBytes [] [] = true
 sameBytes [] (b ∷ m) = false
@@ -155,6 +163,7 @@ answer (suc n) c = answered.Refused (suc n)
 abbrev pub readNumber : List ℕ → ℕ
 readNumber r = cond (eqb (length r) 96) (cond (good r) 0 badRecord) wrongRoom
 
+-- what reading a record answers: its call, or 5 or 8 alone
 unfoldable pub readOf : List ℕ → Record
 readOf r = answer (readNumber r) (callOf r)
 
@@ -165,6 +174,7 @@ pub record Wrote : Type 0 where
   pub number : ℕ
   pub bytes : List ℕ
 
+-- these
 abbrev pub wrote : ℕ → List ℕ → Wrote
 wrote n bs = record { number = n; bytes = bs }
 
@@ -176,6 +186,7 @@ scalesFit (call.Observe o) = estimatesFit (o .quality)
 scalesFit (call.Advance n) = true
 scalesFit call.Idle = true
 
+-- 5 where not 96 bytes are lent, else 1 for a scale above 63, else 0
 abbrev pub writeNumber : List ℕ → Call → ℕ
 writeNumber bs c = cond (eqb (length bs) 96) (cond (scalesFit c) 0 outOfRange) wrongRoom
 
@@ -184,5 +195,6 @@ abbrev pub bytesAfter : ℕ → Call → List ℕ → List ℕ
 bytesAfter zero c bs = recordOf c
 bytesAfter (suc n) c bs = bs
 
+-- what writing a call's record answers and leaves in the lent bytes
 unfoldable pub writtenTo : List ℕ → Call → Wrote
 writtenTo bs c = wrote (writeNumber bs c) (bytesAfter (writeNumber bs c) c bs)

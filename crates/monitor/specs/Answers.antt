@@ -39,12 +39,15 @@ Ends outcome r room = (r ≡ outcome .answer) × (room ≡ outcome .room)
 abbrev pub outcome : ℕ → Stand → Outcome
 outcome refusal stand = record { answer = answered refusal (stand .monitor); room = stand .room }
 
+-- `sent` of a sequence at a send time
 unfoldable pub sentTo : Monitor → List Probe → ℕ → ℕ → Outcome
 sentTo m room sequence time = outcome (refusalOfSent m (length room) time) (sentIf true m room sequence time)
 
+-- a reply to a sequence
 unfoldable pub replyTo : Monitor → List Probe → ℕ → Outcome
 replyTo m room sequence = outcome (refusalOf m (length room)) (replyIf true m room sequence)
 
+-- `advance` to a time: now
 unfoldable pub advanceTo : Monitor → List Probe → ℕ → Outcome
 advanceTo m room time = outcome (refusalOf m (length room)) (advanceIf true m room time)
 

@@ -74,6 +74,7 @@ queues m room sequence time =
 abbrev pub starts : Monitor → Monitor
 starts m = record { summary = m .summary; timeout = m .timeout; transmitting = true; ring = m .ring; run = m .run; latest = m .latest }
 
+-- `sent` of a sequence at a send time; with timeout 0 nothing is queued
 unfoldable pub sentOn : Monitor → List Probe → ℕ → ℕ → Stand
 sentOn m room sequence time = choose (ltb 0 (m .timeout)) (queues m room sequence time) (record { monitor = starts m; room = room })
 
@@ -87,6 +88,7 @@ abbrev pub taken : List Probe → Ring → ℕ → ℕ
 taken room search sequence =
     choose (ltb (leading (passes (Unmarked sequence)) (queued room search)) (search .len)) (leading (passes (Until sequence)) (queued room search) + 1) 0
 
+-- a reply while transmitting: pops up to its sequence if that is marked, losses 0, state Active
 unfoldable pub replyOn : Monitor → List Probe → ℕ → Stand
 replyOn m room sequence = pops m room (taken room (searched m room sequence) sequence) (hears (m .summary))
 
@@ -94,6 +96,7 @@ replyOn m room sequence = pops m room (taken room (searched m room sequence) seq
 abbrev pub due : Monitor → List Probe → ℕ → ℕ
 due m room time = leading (passes (Due time)) (queued room (m .ring))
 
+-- `advance` pops the front probes that are due, one loss for each while transmitting
 unfoldable pub advanceOn : Monitor → List Probe → ℕ → Stand
 advanceOn m room time = pops m room (due m room time) (choose (m .transmitting) (loses (due m room time) (m .summary)) (m .summary))
 
@@ -113,5 +116,6 @@ sentIf go m room sequence time = choose (served go (refusalOfSent m (length room
 unfoldable pub replyIf : Bool → Monitor → List Probe → ℕ → Stand
 replyIf go m room sequence = choose (served go (refusalOf m (length room)) && m .transmitting) (replyOn m room sequence) (unchanged m room)
 
+-- a refused `advance` changes nothing
 unfoldable pub advanceIf : Bool → Monitor → List Probe → ℕ → Stand
 advanceIf go m room time = choose (served go (refusalOf m (length room))) (advanceOn m room time) (unchanged m room)

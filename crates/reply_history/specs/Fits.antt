@@ -37,6 +37,7 @@ pub record PointFits (c : CounterPoint) : Type 0 where
   pub received-in : c .received .0 < 2 ^ 32
   pub transmitted-in : c .transmitted .0 < 2 ^ 32
 
+-- the counters, where there are any
 abbrev pub CountersFit : Counters → Type 0
 CountersFit counters.Absent = Unit
 CountersFit (counters.Point c) = PointFits c
@@ -46,6 +47,7 @@ pub record TelemetryFits (f : FollowUpTelemetry) : Type 0 where
   pub sequence-in : f .sequence < 2 ^ 32
   pub timestamp-in : f .timestamp < 2 ^ 64
 
+-- a follow-up, where there is one
 abbrev pub FollowFits : FollowUp → Type 0
 FollowFits follow.Absent = Unit
 FollowFits (follow.Telemetry f) = TelemetryFits f

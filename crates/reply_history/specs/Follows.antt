@@ -27,10 +27,12 @@ use Rattle.ledger_steps.specs.Rooms.{Stand}
 
 -- ---- the history's words in the code's types
 
+-- a probe's ordinal, or none
 abbrev pub asOrdinal : Option ℕ → Ordinal
 asOrdinal none = ordinal.Absent
 asOrdinal (some n) = ordinal.Number n
 
+-- the last or the highest reflector number, or none before the first unique reply
 abbrev pub asReflector : Option ℕ → Reflector
 asReflector none = reflector.Absent
 asReflector (some n) = reflector.Number n
@@ -48,6 +50,7 @@ repliesBy c ks = record {
   evicted = record { probes = c .probes-evicted; replies = c .replies-evicted };
 }
 
+-- the same after the served calls h, with these copies
 abbrev pub repliesIn : ℕ → ℕ → List Call → Replies
 repliesIn N copies h = repliesBy (replyCounts N copies h) (accepted (events N h))
 
@@ -64,9 +67,11 @@ asAccepted (history.isUnique p o) = answers.Unique p (asOrdinal o)
 
 -- ---- the parts of a stand
 
+-- the accepted keys and the correlation slots: their rooms, their links and their ring
 abbrev pub keysTable : Stand → Table
 keysTable s = tableOf (s .rooms .keys) (s .rooms .slots) (s .rooms .links) (s .ledger .tables .keys)
 
+-- the held probes: their room, their links and their ring
 abbrev pub probeRooms : Stand → probe_ring.Rooms
 probeRooms s = probe_ring.rooms (s .rooms .probes) (s .rooms .links) (s .ledger .tables .probes)
 

@@ -33,18 +33,21 @@ freshStand copies secret r = record { ledger = freshLedger copies secret; rooms 
 
 -- ---- what each call leaves; the rooms that it is not lent stay
 
+-- after `sent`: probes and links are new
 abbrev pub withSent : Stand → SentOutcome → Stand
 withSent s o = record {
   ledger = o .ledger;
   rooms = record { keys = s .rooms .keys; slots = s .rooms .slots; probes = o .probes; offsets = s .rooms .offsets; links = o .links };
 }
 
+-- after `accept`: all but the offsets are new
 abbrev pub withAccept : Stand → AcceptOutcome → Stand
 withAccept s o = record {
   ledger = o .ledger;
   rooms = record { keys = o .keys; slots = o .slots; probes = o .probes; offsets = s .rooms .offsets; links = o .links };
 }
 
+-- after `observe`: slots, offsets and links are new
 abbrev pub withObserve : Stand → ObserveOutcome → Stand
 withObserve s o = record {
   ledger = o .ledger;
@@ -52,12 +55,15 @@ withObserve s o = record {
 }
 
 module _ (N : ℕ) (byKey : ReplyKey → ℕ) (byNumber : ℕ → ℕ) where
+  -- `sent` of a probe, served
   abbrev pub sentOf : Stand → SentProbe → SentOutcome
   sentOf s p = sentIn N byNumber (s .ledger) (s .rooms .probes) (s .rooms .links) p
 
+  -- `accept` of a reply, served
   abbrev pub acceptOf : Stand → Reply → AcceptOutcome
   acceptOf s a = acceptIn N byKey byNumber (s .ledger) (s .rooms .keys) (s .rooms .slots) (s .rooms .probes) (s .rooms .links) a
 
+  -- `observe` of a reply, served
   abbrev pub observeOf : Stand → ReplyObservation → ObserveOutcome
   observeOf s o = observeIn N byKey byNumber (s .ledger) (s .rooms .keys) (s .rooms .slots) (s .rooms .offsets) (s .rooms .links) o
 
