@@ -1,5 +1,5 @@
 -- The monitor of a link, from the plain list of its served calls, newest first: the plain model of crate monitor_model, without ring or room.
--- "With a monitor, `sent` and `accept` drive it": a unique reply is a reply to the monitor.
+-- With a monitor, `sent` and `accept` drive it: a unique reply is a reply to the monitor.
 -- Assumes nothing.
 use mathlib.Core.Path.{_≡_}
 use mathlib.Core.Bool.{cond}
