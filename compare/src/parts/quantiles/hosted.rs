@@ -42,16 +42,15 @@ impl Series {
                 return [number.into(), recorded[0], 0];
             }
             PERCENTILE | PERCENTILE_SHORT => {
-                let (percents, room) = ([f64::from_bits(call[1])], &self.room[..lent]);
-                let (mut shown, mut present) = ([0], [0]);
-                let number = calls::quantiles_percentiles(
-                    &self.words,
-                    room,
-                    &percents,
-                    &mut shown,
-                    &mut present,
-                );
-                return [number.into(), present[0], shown[0]];
+                let percents = [f64::from_bits(call[1]), 50.0, 99.0];
+                let (number, present, shown) = self.percentiles(lent, percents);
+                // Several at once are each as alone; one that is not is made a difference.
+                for (percent, value) in percents.into_iter().zip(shown) {
+                    if (number, present, [value]) != self.percentiles(lent, [percent]) {
+                        return [u64::MAX; 3];
+                    }
+                }
+                return [number, present, shown[0]];
             }
             LOAD => {
                 self.room[4096..].fill(0);
@@ -61,6 +60,19 @@ impl Series {
             _ => panic!("no operation {}", call[0]),
         }
         [0; 3]
+    }
+
+    /// The refusal, whether there are values, and the values.
+    fn percentiles<const N: usize>(&self, lent: usize, percents: [f64; N]) -> (u64, u64, [u64; N]) {
+        let (mut shown, mut present) = ([0; N], [0]);
+        let number = calls::quantiles_percentiles(
+            &self.words,
+            &self.room[..lent],
+            &percents,
+            &mut shown,
+            &mut present,
+        );
+        (number.into(), present[0], shown)
     }
 
     /// Of the samples in their order, or of each bucket that is not empty with its place.
