@@ -9,7 +9,7 @@ use Rattle.ledger_state.specs.declared.Ledger.{Ledger}
 use Rattle.ledger_steps.specs.declared.Accepted.{Accepted}
 use Rattle.ledger_steps.specs.declared.AcceptAnswer.{AcceptAnswer}
 use Rattle.ledger_steps.specs.declared.AcceptAnswer.the-variants as accepts
-use Rattle.ledger_steps.specs.Calls.{AcceptResult, acceptResult, acceptTo}
+use Rattle.ledger_steps.specs.Calls.{acceptResult, acceptTo}
 use Rattle.host_calls.specs.Calls as host_calls
 use Rattle.host_ledger.specs.Words.{ledgerAt}
 use Rattle.host_duplicate.specs.Duplicate.{isDuplicate, duplicateWords}

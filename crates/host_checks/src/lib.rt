@@ -15,7 +15,6 @@ ghost use Rattle.host_quality.specs.Words.{qualityAt};
 ghost use Rattle.host_ledger.specs.Parts.{repliesAt, delaysAt, windowAt, directAt, followAt};
 ghost use Rattle.host_ledger.specs.Words.{ledgerAt};
 use chains::Ring;
-use host_ledger::parts::delays_of;
 use host_numbers::high;
 use host_numbers::is_set;
 use host_numbers::low;
@@ -43,16 +42,7 @@ fn replies_fit(state: &[u64; 72]) -> bool
 fn round_trips_fit(state: &[u64; 72]) -> bool
     ensures { λ r. ⌜ r ≡ delays.countsFit (delaysAt 25 (now (state .entry))) ⌝ }
 {
-    let delays = delays_of(
-        state[25],
-        state[26],
-        state[27],
-        state[28],
-        state[29],
-        state[30],
-        state[31],
-        state[32],
-    );
+    let delays = host_observed::rtt_of(state);
     delays.counts_fit()
 }
 
@@ -68,16 +58,7 @@ fn direct_fits(state: &[u64; 72]) -> bool
 fn delay_fits(state: &[u64; 72]) -> bool
     ensures { λ r. ⌜ r ≡ delays.countsFit (delaysAt 50 (now (state .entry))) ⌝ }
 {
-    let delays = delays_of(
-        state[50],
-        state[51],
-        state[52],
-        state[53],
-        state[54],
-        state[55],
-        state[56],
-        state[57],
-    );
+    let delays = host_observed::delay_of(state);
     delays.counts_fit()
 }
 

@@ -3,7 +3,7 @@
 ghost use mathlib.Core.Path.{_≡_};
 ghost use mathlib.Core.Bool.{cond};
 ghost use Prim.Native.Nat.{_<_};
-ghost use lib.ListN.{getD, length};
+ghost use lib.ListN.{getD};
 ghost use Rattle.scope.specs.Limits.{countBound, mostCalls};
 ghost use Rattle.host_ledger.specs.Words.{ledgerAt};
 ghost use Rattle.host_duplicate.specs.Duplicate.{isDuplicate, duplicateWords};

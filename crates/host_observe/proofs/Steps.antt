@@ -1,6 +1,5 @@
 -- What the library's `observe` leaves on the ledger that the words say, as the number, words and rooms that are left. Assumes nothing.
 use mathlib.Core.Path.{_≡_, refl, sym, ap, _∙_, subst}
-use mathlib.Core.Bool.{Bool, true, _&&_}
 use mathlib.Core.List.{List}
 use Prim.Native.Nat.{ℕ, zero, suc, _+_, _≤_}
 use native.Mathlib.Omega.{arith}
@@ -14,8 +13,6 @@ use Rattle.calls.specs.declared.ReplyKey.{ReplyKey}
 use Rattle.calls.specs.declared.ReplyObservation.{ReplyObservation}
 use Rattle.chains.specs.declared.Ring.{Ring}
 use Rattle.chains.specs.Hash.{numberHash}
-use Rattle.ranges.specs.Ranges.{timeFits, referenceWithin, offsetWithin, estimatesFit, followFits, inRange}
-use Rattle.correlation.specs.Class.{offsetInRange}
 use Rattle.key_ring.specs.Table.{hashOf}
 use Rattle.delays.specs.declared.Delays.{Delays}
 use Rattle.delays.specs.Bounds as delays
@@ -25,8 +22,6 @@ use Rattle.direct.specs.declared.Direct.{Direct}
 use Rattle.direct.specs.Outcomes as direct
 use Rattle.follow_ups.specs.declared.FollowUps.{FollowUps}
 use Rattle.follow_ups.specs.Bounds as follow_ups
-use Rattle.replies.proofs.Tested.{both}
-use Rattle.ledger_state.specs.declared.Ledger.{Ledger}
 use Rattle.ledger_state.specs.State.{hashWords}
 use Rattle.ledger_steps.specs.Refusals.{refusalOfObserve}
 use Rattle.ledger_steps.specs.Observe.{directIn, followIn, ownIn, ObserveOutcome, observeIn, observeOn}
@@ -35,10 +30,9 @@ use Rattle.ledger_checks.specs.Sound.{SoundObserve}
 use Rattle.host_observation.specs.Observation.{observationAt}
 use Rattle.host_ledger.specs.Parts.{delaysAt, delaysWords, directAt, followAt}
 use Rattle.host_ledger.specs.Words.{tablesAt, ledgerAt}
-use Rattle.host_ledger.specs.Left.{directStored, followStored, observedWords}
+use Rattle.host_ledger.specs.Left.{followStored, observedWords}
 use Rattle.host_observe.specs.Observe.{DirectLeft, directLeft, directLeaves, FollowLeft, followLeft, followLeaves, Left, left, leftBy, servedLeaves, observeLeaves}
 use Rattle.host_observe.proofs.Parts.{counted, timed, rtt-same, direct-same, follow-same}
-use borrow.Author.Tests.{leb-true}
 
 -- ---- the parts in their order
 
@@ -132,19 +126,6 @@ module _ (w : List ℕ) (keys : List (List ℕ)) (slots offsets links : ℕ) (o 
       let timed' = timed-as capacity byNumber w offsets₁ links₁ o w₂ e₂ in
       let direct' = direct-as capacity byNumber w offsets₁ links₁ o w₂ w₃ offsets' links' timed' e₃ in
       subst follow_ups.InBounds (sym (follow-before capacity byNumber w offsets₁ links₁ o w₃ offsets' links' direct')) (sound .counts .follow-in)
-
--- the range tests, for the follow-up
-pub follow-ranged : (o : ReplyObservation) → inRange o ≡ true → (followFits (o .follow) ≡ true) × offsetInRange (o .offset)
-unfolding inRange
-follow-ranged o h =
-    let a = timeFits (o .t4) in
-    let b = referenceWithin (o .reference) in
-    let c = offsetWithin (o .offset) in
-    let d = estimatesFit (o .quality) in
-    let x = both (a && b && c && d) (followFits (o .follow)) h in
-    let y = both (a && b && c) d (x .0) in
-    let z = both (a && b) c (y .0) in
-    (x .1, leb-true _ _ (z .1))
 
 -- ---- the call
 

@@ -28,11 +28,11 @@ use Rattle.clock_quality.specs.declared.ClockQuality.{ClockQuality}
 use Rattle.clock_quality.specs.Bounds as quality
 use Rattle.follow_ups.specs.Bounds.{InBounds}
 use Rattle.follow_ups.specs.Followed.{counted, followed}
-use Rattle.ledger_steps.specs.Observe.{DirectOutcome, directOutcome, directBy, directIn, FollowOutcome, followOutcome, followBy, followIn}
+use Rattle.ledger_steps.specs.Observe.{directOutcome, directBy, directIn, followOutcome, followBy, followIn}
 use Rattle.ledger_follow.specs.Class.{classOutcome, classIn}
 use Rattle.ledger_follow.proofs.Steps.{follow-as, counted-as}
 use Rattle.host_ledger.specs.Parts.{directAt, directWords, followAt, followCountsWords, followWords}
-use Rattle.host_ledger.specs.Left.{directStored, followStored}
+use Rattle.host_ledger.specs.Left.{followStored}
 use Rattle.host_observed.specs.Last.{qualityWithoutLast, withoutLast}
 use Rattle.host_observed.proofs.Last.{match-replaces}
 use Rattle.host_observe.specs.Observe.{directLeft, directLeaves, followLeft, followLeaves}

@@ -22,7 +22,7 @@ ghost use Rattle.follow_ups.specs.Bounds as follow_ups;
 ghost use Rattle.follow_ups.specs.Followed.{counted, followed};
 ghost use Rattle.ledger_steps.specs.Refusals.{refusalOfObserve};
 ghost use Rattle.ledger_checks.specs.Sound.{SoundObserve};
-ghost use Rattle.ledger_steps.specs.Observe.{directOutcome, directIn, followOutcome, followIn, observeOn};
+ghost use Rattle.ledger_steps.specs.Observe.{directIn, followIn, observeOn};
 ghost use Rattle.host_ledger.specs.Parts.{delaysAt, delaysWords, directAt, followAt, followCountsWords, followWords};
 ghost use Rattle.host_ledger.specs.Words.{ledgerAt};
 ghost use Rattle.host_ledger.specs.Left.{followStored};
@@ -63,6 +63,7 @@ fn refusal(
     ledger_state::first_refusal(true, ranged, true, counted, awaiting, true)
 }
 
+// One round trip more: every observation has one.
 fn count_round_trip(ledger: &mut [u64; 72], ns: u64)
     requires { ⌜ delays.Bounded (delaysAt 25 (now ledger)) ⌝ }
     ensures { λ _. ⌜ now (ledger .exit) ≡ sets (now (ledger .entry)) 25 (delaysWords (recordedOf (delaysAt 25 (now (ledger .entry))) (nanosecondsOf (pos ns)))) ⌝ }
@@ -111,6 +112,7 @@ fn count_other(ledger: &mut [u64; 72], class: Class)
     host_observed::store_follow_counts(ledger, follow_ups::count(class, before));
 }
 
+// A follow-up whose class is known.
 fn count_class(ledger: &mut [u64; 72], class: Class, offset: i32)
     requires { ⌜ follow_ups.InBounds (followAt 44 (now ledger)) × MatchedInRange class × offsetInRange offset ⌝ }
     ensures { λ _. ⌜ now (ledger .exit) ≡ followStored (now (ledger .entry)) (followed (followAt 44 (now (ledger .entry))) class offset) ⌝ }

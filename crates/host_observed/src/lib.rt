@@ -48,7 +48,7 @@ pub fn follow_counts_of(state: &[u64; 72]) -> FollowCounts
     }
 }
 
-fn delay_of(state: &[u64; 72]) -> Delays
+pub fn delay_of(state: &[u64; 72]) -> Delays
     ensures { λ r. ⌜ r ≡ delaysAt 50 (now (state .entry)) ⌝ }
 {
     delays_of(

@@ -4,8 +4,9 @@ use denote.Ref.{now}
 use Rattle.scope.specs.Limits.{capacity}
 use Rattle.chains.specs.Hash.{numberHash}
 use Rattle.chains.specs.Rings.{RingFits}
+use Rattle.ledger_observe.proofs.Steps.{follow-ranged}
 use Rattle.host_ledger.specs.Words.{ledgerAt}
-use Rattle.host_observe.proofs.Steps.{calls-fit, rtt-bounded, direct-bounded, follow-bounded, follow-ranged, observed-as}
+use Rattle.host_observe.proofs.Steps.{calls-fit, rtt-bounded, direct-bounded, follow-bounded, observed-as}
 use borrow.Author.Needs.{needs}
 use Rattle.host_observe.proofs.observed.Statement.{statement}
 use Rattle.host_observe.proofs.observed.Tie as tie

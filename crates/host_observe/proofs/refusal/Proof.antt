@@ -1,7 +1,6 @@
 -- `host_observe::refusal` meets its contract. Assumes nothing.
 use mathlib.Core.Path.{sym, subst, _∙_}
 use mathlib.Core.Bool.{true, _&&_}
-use lib.ListN.{getD}
 use denote.Ref.{now}
 use Rattle.scope.specs.Limits.{capacity}
 use Rattle.chains.specs.Rings.{RingFits}
