@@ -28,6 +28,12 @@ impl Table {
         Table { rows: Vec::new() }
     }
 
+    // How far it is, on standard error.
+    fn keep(&mut self, name: &str, ours: f64, original: Option<f64>) {
+        self.rows.push((name.to_string(), ours, original));
+        eprintln!("bench: {} rows: {name}", self.rows.len());
+    }
+
     // `times` calls a turn, the two in turns; `each` calls of the work are inside one call.
     pub fn row(&mut self, name: &str, times: usize, each: usize, mut ours: impl FnMut(), mut original: impl FnMut()) {
         let (mut a, mut b) = (f64::MAX, f64::MAX);
@@ -35,13 +41,13 @@ impl Table {
             a = a.min(once(times, &mut ours));
             b = b.min(once(times, &mut original));
         }
-        self.rows.push((name.to_string(), a / each as f64, Some(b / each as f64)));
+        self.keep(name, a / each as f64, Some(b / each as f64));
     }
 
     // A call that the original has not.
     pub fn alone(&mut self, name: &str, times: usize, mut ours: impl FnMut()) {
         let least = (0..TURNS).map(|_| once(times, &mut ours)).fold(f64::MAX, f64::min);
-        self.rows.push((name.to_string(), least, None));
+        self.keep(name, least, None);
     }
 
     // A call that stands among others: each turn of `times` goes by the stopwatch that runs around the one call. What an empty pair of
@@ -62,7 +68,7 @@ impl Table {
             }
             empty = empty.min(turn(&mut |watch| watch.around(|| {})));
         }
-        self.rows.push((name.to_string(), a - empty, original.map(|_| b - empty)));
+        self.keep(name, a - empty, original.map(|_| b - empty));
     }
 
     pub fn print(&self) {

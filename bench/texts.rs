@@ -1,6 +1,6 @@
 // The log and the report, which the original has not.
 use crate::table::Table;
-use ambrulicciu::{calls, Accepted, Key, Link, Log, Observation, Packet, Rooms, Settings};
+use ambrulicciu::{calls, calls::Queued, Accepted, Key, Link, Log, Observation, Packet, Rooms, Settings, ROWS};
 use std::hint::black_box;
 
 pub fn rows(table: &mut Table) {
@@ -20,10 +20,10 @@ pub fn rows(table: &mut Table) {
     table.alone("`log_check`, 681 records", 20, || {
         calls::log_check(black_box(&log), black_box(&mut settings));
     });
-    let (mut text, mut length, mut rooms) = ([0; 1024], [0], Rooms::new());
+    let (mut text, mut length, mut rooms, mut queue) = ([0; 1024], [0], Rooms::new(), vec![Queued::default(); ROWS]);
     let Rooms { keys, slots, probes, offsets, links } = &mut rooms;
     table.alone("`report_log`, 681 records", 5, || {
-        calls::report_log(black_box(&log), &[1; 8], keys, slots, probes, offsets, links, black_box(&mut text), &mut length);
+        calls::report_log(black_box(&log), &[1; 8], keys, slots, probes, offsets, links, &mut queue, black_box(&mut text), &mut length);
     });
     table.alone("`report_link`", 2000, || {
         calls::report_link(black_box(&link.ledger), &[0; 12], 0, 681, 0, black_box(&mut text), &mut length);

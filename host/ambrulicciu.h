@@ -15,7 +15,8 @@
  *   - A pointer points to as much memory as its type or its length says, aligned as C aligns that type, and is never null.
  *   - The memory lent to one call does not overlap, except where a call only reads it.
  *   - Each call on a link is given what the call before left: the state and all its rooms.
- *   - The stack has room: 4 KB for a call, but 700 KB for ambrulicciu_report_log (measured on x86-64; more than some threads have).
+ *   - The stack has room: 1 KB for a call, and as much as is said at it where it takes more (`Stack:`). Proofs do not speak of it:
+ *     host/stack measures each call of the compiled library, on x86-64.
  *   - There is no allocation and no global state. One link belongs to one thread at a time; different links share nothing.
  *
  * WHAT A LINK COSTS, in bytes
@@ -27,7 +28,7 @@
  *       offsets  16,384    transmit offsets seen since the anchor
  *       links    65,536    how the tables are searched: shared by keys, probes and offsets
  *       queue    98,304    the monitor's probes that await a reply, if the link is watched
- *     together  475,808    (377,408 without a monitor); ambrulicciu_link below has them all
+ *     together  475,808    (377,408 without a monitor); ambrulicciu_link below has them all, and a word
  *   A series of quantiles: state 32, room 92,160 (signed: 149,512). A report: a buffer of 1,024. A log: at most 65,536.
  *   A room may hold anything when a link is made fresh: it need not be cleared.
  *
@@ -39,7 +40,7 @@
  *       if (accepted.class_ == AMBRULICCIU_UNIQUE)                           each unique reply is observed once
  *           ambrulicciu_link_observe(&yard, &observation);
  *       ambrulicciu_link_advance(&yard, now);                                on a timer: probes past their deadline are losses
- *       ambrulicciu_snapshot(&yard.ledger, &figures);                        at any time
+ *       ambrulicciu_link_snapshot(&yard, &figures);                          at any time
  */
 #ifndef AMBRULICCIU_H
 #define AMBRULICCIU_H
@@ -54,7 +55,8 @@ extern "C" {
 /* ---- refusals ----------------------------------------------------------------------------------------------------------------------
  * What a call returns. If several hold at once, it is the first in this order. A call returns no number that is not named at it. */
 #define AMBRULICCIU_SERVED 0
-#define AMBRULICCIU_WRONG_ROOM 5      /* scope::WRONG_ROOM: a lent room of the wrong size, or a state that no call leaves */
+#define AMBRULICCIU_WRONG_ROOM 5      /* scope::WRONG_ROOM: a lent room of the wrong size, or a state whose bounds do not hold: those that the
+                                         sections below name, and no others */
 #define AMBRULICCIU_OUT_OF_RANGE 1    /* scope::OUT_OF_RANGE: a scale above 63; T4 or converted T3 outside +-4*10^18 ns; reference outside
                                          +-4*10^9 s; offset outside +-86,400 s */
 #define AMBRULICCIU_DEADLINE_PASSES 6 /* scope::DEADLINE_PASSES: send time plus timeout above 2^64-1 */
@@ -67,11 +69,19 @@ extern "C" {
 #define AMBRULICCIU_BAD_TRAILER 7 /* host_log_read::BAD_TRAILER: no trailer of a log at the end */
 #define AMBRULICCIU_BAD_RECORD 8  /* log_record::BAD_RECORD: a record that is none */
 
+/* ---- version -----------------------------------------------------------------------------------------------------------------------
+ * Of this header: 1,000,000 times the first part, 1,000 times the second, and the third. */
+#define AMBRULICCIU_VERSION 1000 /* host_version::VERSION: 0.1.0 */
+
+/* That of the library: a host that finds another than AMBRULICCIU_VERSION was compiled with another library's header. Refuses nothing. */
+uint8_t ambrulicciu_version(uint32_t *version);
+
 /* ---- sizes -------------------------------------------------------------------------------------------------------------------------
  * Any other size is refused with AMBRULICCIU_WRONG_ROOM. */
 #define AMBRULICCIU_ROWS 4096                  /* scope::CAPACITY: rows of each room of a link, and of the monitor's queue */
 #define AMBRULICCIU_QUANTILES_ROOM 11520       /* words of the room of an unsigned series */
 #define AMBRULICCIU_QUANTILES_SIGNED_ROOM 18689 /* words of the room of a signed series */
+#define AMBRULICCIU_PERCENTILES_STACK 4096      /* bytes of stack that ambrulicciu_quantiles_percentiles takes at most, on x86-64 */
 #define AMBRULICCIU_RECORD 96                  /* bytes of a record of a log */
 #define AMBRULICCIU_TRAILER 24                 /* bytes of the trailer of a log */
 #define AMBRULICCIU_LOG 65536                  /* link_log::MOST_BYTES: most bytes of a log */
@@ -79,7 +89,9 @@ extern "C" {
 
 /* ---- states and rooms --------------------------------------------------------------------------------------------------------------
  * Their words are the library's own: a host keeps them and hands them over, and reads figures by the calls below. They may be copied,
- * written to a file and read back as bytes. Every content is allowed: a call refuses what no call leaves. */
+ * written to a file and read back as bytes. Every content is allowed, and a call is defined on each. What is tested of it is said at
+ * refusals 5 and 4 of each section, and no more: a ledger of 1,000,000 answered probes and 0 unique replies, which no call leaves, is
+ * served, and its figures are what its words say. So a host that reads a state back from a file sees to it that it is the one it wrote. */
 typedef struct { uint64_t word[72]; } ambrulicciu_ledger;
 typedef struct { uint64_t word[12]; } ambrulicciu_monitor;
 typedef struct { uint64_t word[12]; } ambrulicciu_clock_quality;
@@ -105,18 +117,21 @@ typedef struct {
 #define AMBRULICCIU_UNIQUE 2    /* counted; it awaits its observation */
 
 typedef struct {
-    uint64_t class_;        /* AMBRULICCIU_UNKNOWN, AMBRULICCIU_DUPLICATE, AMBRULICCIU_UNIQUE; only the last has more */
+    uint64_t class_;        /* AMBRULICCIU_UNKNOWN, AMBRULICCIU_DUPLICATE, AMBRULICCIU_UNIQUE; of the first two the rest is 0 */
     uint64_t time;          /* the probe's send time */
     uint64_t tag;           /* the probe's tag, untouched */
     uint64_t ordinal_known; /* 0: the probe was not told by sent */
     uint64_t ordinal;
 } ambrulicciu_accepted;
 
-/* What the lookup shows of the reply that a follow-up is about: how its timestamp is to be converted. */
+/* What the lookup shows of the reply that a follow-up is about: how its timestamp is to be converted (converted() of host/c/convert.h
+ * does it). Of all eras of 2^32 s the timestamp is in the one whose second lies from r - 2^31 up to but not including r + 2^31, with r the
+ * reference shown plus the offset of the observation that the follow-up came with. A PTP timestamp whose ns field is 10^9 or more has no
+ * time: then there is nothing to convert either. */
 typedef struct {
     uint64_t shown;    /* 0: nothing to convert */
     uint64_t ptp;      /* 1: PTP format, 0: NTP */
-    int64_t reference; /* seconds since 1970 by which the timestamp is unfolded */
+    int64_t reference; /* seconds since 1970 */
 } ambrulicciu_found;
 
 /* Which fields of an observation are there, added up. AMBRULICCIU_CONVERTED_T3 and AMBRULICCIU_UNKNOWN_MODE count only with
@@ -248,8 +263,9 @@ typedef struct {
     uint64_t independent; /* unique replies whose reflector number is not the sender's */
     uint64_t probes_evicted;
     uint64_t replies_evicted;
-    uint64_t unobserved;  /* requested less satisfied, not below 0 */
-    uint64_t thousandths; /* 1,000 * unobserved / requested, rounded down; 0 when nothing was requested */
+    uint64_t unobserved;        /* requested less satisfied, not below 0 */
+    uint64_t thousandths_known; /* 0 when nothing was requested: then there is no figure, which is not a loss of 0 */
+    uint64_t thousandths;       /* 1,000 * unobserved / requested, rounded down */
     ambrulicciu_delays round_trip;
     ambrulicciu_direct direct;
     ambrulicciu_follow_ups follow_up;
@@ -279,7 +295,8 @@ typedef struct {
  * length or the number of seen offsets above 4,096. Refusal 4 is about the state before the call. */
 
 /* Makes a ledger fresh: counts 0, nothing held. `copies` replies are asked for each probe; 0 counts as 1. `secret`: random words, kept
- * from whoever sends replies: they decide where entries are searched, never an answer. Rooms may hold anything. Refuses nothing. */
+ * from whoever sends replies: they decide where entries are searched, never an answer. Rooms may hold anything. Refuses nothing.
+ * Stack: 2 KB. */
 uint8_t ambrulicciu_ledger_fresh(ambrulicciu_ledger *ledger, uint16_t copies, const uint32_t secret[8]);
 
 /* A probe was sent: adds copies to requested, and holds the probe. A sequence that is held already becomes the newest, unanswered, with
@@ -313,7 +330,7 @@ uint8_t ambrulicciu_answered(const ambrulicciu_ledger *ledger, const ambrulicciu
 /* Whether more than one copy is asked for and fewer replies came than were: 1, else 0. Changes only the answer. Refuses nothing. */
 uint8_t ambrulicciu_needs_burst_wait(const ambrulicciu_ledger *ledger, uint64_t *answer);
 
-/* Every figure. Changes only `shown`. Refuses nothing, and needs no room. */
+/* Every figure. Changes only `shown`. Refuses nothing, and needs no room. Stack: 2 KB. */
 uint8_t ambrulicciu_snapshot(const ambrulicciu_ledger *ledger, ambrulicciu_figures *shown);
 
 /* ---- the ledger with a monitor -----------------------------------------------------------------------------------------------------
@@ -397,7 +414,9 @@ uint8_t ambrulicciu_clock_quality_summary(const ambrulicciu_clock_quality *quali
 
 /* ---- quantiles ---------------------------------------------------------------------------------------------------------------------
  * A series of u64 values, or of i64 values as their two's complement words. Up to 4,096 samples percentiles are exact; beyond, a value
- * shown v' of v has v' at most v and 128*(v-v') at most v, and equals v below 256. */
+ * shown v' of v has v' at most v and 128*(v-v') at most v, and equals v below 256. Of i64 values this holds of the magnitudes, and the sign
+ * is the value's: a negative value is shown at or above itself, -257 as -256, and is exact above -256. In either kind the smallest and the
+ * largest sample are shown as they are. */
 
 /* No sample yet; the room may hold anything. `signed_` other than 0: i64 values. Refuses nothing. */
 uint8_t ambrulicciu_quantiles_fresh(ambrulicciu_quantiles *quantiles, uint32_t signed_);
@@ -410,8 +429,9 @@ uint8_t ambrulicciu_quantiles_record(ambrulicciu_quantiles *quantiles, uint64_t 
 
 /* The value of each percentile, in the same order; `shown` has as many words as there are percents. present is 0 and `shown` unchanged
  * where there is no sample. A percent that is a NaN or negative counts as 0, one above 100 as 100. Changes only `shown` and `present`.
+ * The samples are only read, and not copied: it takes at most AMBRULICCIU_PERCENTILES_STACK bytes of stack.
  * Refuses 5: a room of another size, other lengths of percents and shown, a minimum above the maximum at a count above 0, buckets that do
- * not add up to the count, or a value in the bucket that signed series have no value for. */
+ * not add up to the count, or a value in the bucket that signed series have no value for. Stack: 4 KB. */
 uint8_t ambrulicciu_quantiles_percentiles(const ambrulicciu_quantiles *quantiles, const uint64_t *room, size_t room_length,
                                           const double *percents, size_t percents_length, uint64_t *shown, size_t shown_length,
                                           uint64_t *present);
@@ -445,7 +465,8 @@ typedef struct {
 /* Whether the bytes are a log, and how its link is made. Changes only the answer. Refuses 9, 7, 8. */
 uint8_t ambrulicciu_log_check(const uint8_t *log, size_t log_length, ambrulicciu_settings *answer);
 
-/* The first bad record, from 0; the record count where none is bad. Changes only the answer. Refuses 9, 7. */
+/* Of a log that is refused with 8: its first bad record, from 0. Of a good log the record count, which is the number of no record: ask
+ * only where 8 was answered. Changes only the answer. Refuses 9, 7. */
 uint8_t ambrulicciu_log_first_bad(const uint8_t *log, size_t log_length, uint64_t *answer);
 
 /* One record, as the call that it is. */
@@ -478,27 +499,31 @@ typedef struct {
     uint64_t now;                        /* the time of an advance */
 } ambrulicciu_call;
 
-/* Record `at` of a log, from 0; the other records are not looked at. Changes only `call`. Refuses 9, 7; 8: no good record is there. */
+/* Record `at` of a log, from 0; the other records are not looked at. Changes only `call`. Refuses 9, 7; 8: no good record is there.
+ * Stack: 2 KB. */
 uint8_t ambrulicciu_log_read(const uint8_t *log, size_t log_length, uint32_t at, ambrulicciu_call *call);
 
 /* ---- the report --------------------------------------------------------------------------------------------------------------------
  * Ten lines of text, as linkreport prints them, at the start of a buffer of AMBRULICCIU_TEXT bytes; `length` says how many bytes were
  * written. The bytes behind stay as they are; there is no 0 at the end. */
 
-/* The report of a log, played from fresh in the rooms, which may hold anything; or `refused 9`, `refused 7`, `refused 8 at N` as text.
- * It takes 700 KB of stack. Refuses 5: a room or the buffer of another size. */
+/* The report of a log, played from fresh in the rooms, which may hold anything. Refuses 5: a room, the queue or the buffer of another
+ * size; then 9, 7, 8: the log itself. Which record is bad of one that is refused with 8, ambrulicciu_log_first_bad says.
+ * Stack: 5 KB. */
 uint8_t ambrulicciu_report_log(const uint8_t *log, size_t log_length, const uint32_t secret[8], ambrulicciu_key *keys,
                                size_t keys_length, ambrulicciu_slot *slots, size_t slots_length, ambrulicciu_probe *probes,
                                size_t probes_length, uint32_t *offsets, size_t offsets_length, ambrulicciu_chain *links,
-                               size_t links_length, uint8_t *text, size_t text_length, uint64_t *length);
+                               size_t links_length, ambrulicciu_queued *queue, size_t queue_length, uint8_t *text,
+                               size_t text_length, uint64_t *length);
 
 /* The report of a link as it stands. `watched` 0: it has no monitor, and the monitor's words are not looked at. `records`, `turned_away`:
- * how many calls were made and how many of them refused, for the first line. Refuses 5: a buffer of another size. */
+ * how many calls were made and how many of them refused, for the first line. Refuses 5: a buffer of another size. Stack: 2 KB. */
 uint8_t ambrulicciu_report_link(const ambrulicciu_ledger *ledger, const ambrulicciu_monitor *monitor, uint32_t watched,
                                 uint64_t records, uint64_t turned_away, uint8_t *text, size_t text_length, uint64_t *length);
 
 /* ---- a link with all its memory ----------------------------------------------------------------------------------------------------
- * For hosts that keep it in one piece. The calls below only hand its parts to those above, and return what they return. */
+ * For hosts that keep it in one piece, with a monitor or without. The calls below only hand its parts to those above, and return what they
+ * return. Each is for both kinds of link: without a monitor it leaves the monitor and the queue alone. */
 
 typedef struct {
     ambrulicciu_ledger ledger;
@@ -509,6 +534,7 @@ typedef struct {
     uint32_t offsets[AMBRULICCIU_ROWS];
     ambrulicciu_chain links[AMBRULICCIU_ROWS];
     ambrulicciu_queued queue[AMBRULICCIU_ROWS];
+    uint64_t watched; /* 1: it has a monitor; 0: it has none */
 } ambrulicciu_link;
 
 /* A packet of the host's that a reply is for. */
@@ -517,13 +543,19 @@ typedef struct {
     uint64_t tag;
 } ambrulicciu_packet;
 
+/* `threshold` 0: the link has no monitor, as in a log. */
 static inline uint8_t ambrulicciu_link_fresh(ambrulicciu_link *link, uint16_t copies, const uint32_t secret[8], uint16_t threshold,
                                              uint64_t timeout) {
-    ambrulicciu_monitor_fresh(&link->monitor, threshold, timeout);
+    link->watched = threshold ? 1 : 0;
+    if (link->watched)
+        ambrulicciu_monitor_fresh(&link->monitor, threshold, timeout);
     return ambrulicciu_ledger_fresh(&link->ledger, copies, secret);
 }
 
 static inline uint8_t ambrulicciu_link_sent(ambrulicciu_link *link, uint32_t sequence, uint32_t ordinal, uint64_t time, uint64_t tag) {
+    if (!link->watched)
+        return ambrulicciu_sent(&link->ledger, link->probes, AMBRULICCIU_ROWS, link->links, AMBRULICCIU_ROWS, sequence, ordinal, time,
+                                tag);
     return ambrulicciu_watched_sent(&link->ledger, &link->monitor, link->probes, AMBRULICCIU_ROWS, link->links, AMBRULICCIU_ROWS,
                                     link->queue, AMBRULICCIU_ROWS, sequence, ordinal, time, tag);
 }
@@ -531,6 +563,10 @@ static inline uint8_t ambrulicciu_link_sent(ambrulicciu_link *link, uint32_t seq
 /* `packet` is null where none is pending. */
 static inline uint8_t ambrulicciu_link_accept(ambrulicciu_link *link, uint32_t sender, uint32_t reflector, uint64_t t3,
                                               const ambrulicciu_packet *packet, ambrulicciu_accepted *answer) {
+    if (!link->watched)
+        return ambrulicciu_accept(&link->ledger, link->keys, AMBRULICCIU_ROWS, link->slots, AMBRULICCIU_ROWS, link->probes,
+                                  AMBRULICCIU_ROWS, link->links, AMBRULICCIU_ROWS, sender, reflector, t3, packet ? 1 : 0,
+                                  packet ? packet->time : 0, packet ? packet->tag : 0, answer);
     return ambrulicciu_watched_accept(&link->ledger, &link->monitor, link->keys, AMBRULICCIU_ROWS, link->slots, AMBRULICCIU_ROWS,
                                       link->probes, AMBRULICCIU_ROWS, link->links, AMBRULICCIU_ROWS, link->queue, AMBRULICCIU_ROWS,
                                       sender, reflector, t3, packet ? 1 : 0, packet ? packet->time : 0, packet ? packet->tag : 0,
@@ -554,16 +590,44 @@ static inline uint8_t ambrulicciu_link_answered(const ambrulicciu_link *link, ui
     return ambrulicciu_answered(&link->ledger, link->probes, AMBRULICCIU_ROWS, link->links, AMBRULICCIU_ROWS, sequence, answer);
 }
 
-static inline uint8_t ambrulicciu_link_advance(ambrulicciu_link *link, uint64_t now) {
-    return ambrulicciu_monitor_advance(&link->monitor, link->queue, AMBRULICCIU_ROWS, now);
+static inline uint8_t ambrulicciu_link_needs_burst_wait(const ambrulicciu_link *link, uint64_t *answer) {
+    return ambrulicciu_needs_burst_wait(&link->ledger, answer);
 }
 
-static inline uint8_t ambrulicciu_link_deadline(const ambrulicciu_link *link, ambrulicciu_deadline *answer) {
-    return ambrulicciu_monitor_deadline(&link->monitor, link->queue, AMBRULICCIU_ROWS, answer);
+static inline uint8_t ambrulicciu_link_snapshot(const ambrulicciu_link *link, ambrulicciu_figures *shown) {
+    return ambrulicciu_snapshot(&link->ledger, shown);
+}
+
+static inline uint8_t ambrulicciu_link_report(const ambrulicciu_link *link, uint64_t records, uint64_t turned_away,
+                                              uint8_t text[AMBRULICCIU_TEXT], uint64_t *length) {
+    return ambrulicciu_report_link(&link->ledger, &link->monitor, link->watched ? 1 : 0, records, turned_away, text, AMBRULICCIU_TEXT,
+                                   length);
+}
+
+/* Without a monitor, advance and idle are served and do nothing; no deadline is known; and every word of the session is 0, the threshold
+ * too, which a monitor never has. */
+static inline uint8_t ambrulicciu_link_advance(ambrulicciu_link *link, uint64_t now) {
+    return link->watched ? ambrulicciu_monitor_advance(&link->monitor, link->queue, AMBRULICCIU_ROWS, now) : AMBRULICCIU_SERVED;
 }
 
 static inline uint8_t ambrulicciu_link_idle(ambrulicciu_link *link) {
-    return ambrulicciu_monitor_idle(&link->monitor);
+    return link->watched ? ambrulicciu_monitor_idle(&link->monitor) : AMBRULICCIU_SERVED;
+}
+
+static inline uint8_t ambrulicciu_link_deadline(const ambrulicciu_link *link, ambrulicciu_deadline *answer) {
+    const ambrulicciu_deadline none = {0, 0};
+    if (link->watched)
+        return ambrulicciu_monitor_deadline(&link->monitor, link->queue, AMBRULICCIU_ROWS, answer);
+    *answer = none;
+    return AMBRULICCIU_SERVED;
+}
+
+static inline uint8_t ambrulicciu_link_session(const ambrulicciu_link *link, ambrulicciu_session *shown) {
+    const ambrulicciu_session none = {0, 0, 0, 0, 0, 0};
+    if (link->watched)
+        return ambrulicciu_monitor_summary(&link->monitor, shown);
+    *shown = none;
+    return AMBRULICCIU_SERVED;
 }
 
 #ifdef __cplusplus

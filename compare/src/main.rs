@@ -35,7 +35,7 @@ use random::Random;
 /// The seed of the fixed list that the repository keeps.
 const SAMPLE_SEED: u64 = 20_261_027;
 
-const USAGE: &str = "usage: compare play START SEED SECONDS PART..   compare sample CRATES PART..   compare round CRATES SEED PART..   compare reach SEED PART..   compare logs START SEED SECONDS LEAST   compare shipped START FOLDER   compare files START FOLDER   compare report < LOG   compare list < LOG   compare parts";
+const USAGE: &str = "usage: compare play START SEED SECONDS PART..   compare sample CRATES PART..   compare round CRATES SEED PART..   compare reach SEED PART..   compare logs START SEED SECONDS LEAST   compare shipped START FOLDER   compare files START FOLDER   compare host_logs SEED SECONDS   compare conversions SEED COUNT   compare report|list|host|yard < LOG   compare parts";
 
 fn main() {
     let args: Vec<String> = env::args().collect();
@@ -85,13 +85,26 @@ fn main() {
                 exit(1);
             }
         }
-        Some(asked @ ("report" | "list")) => {
+        #[cfg(feature = "host")]
+        Some("host_logs") if args.len() == 4 => {
+            let number = |i: usize| args[i].parse().expect(USAGE);
+            if !parts::logs::hosted::play(number(2), number(3)) {
+                exit(1);
+            }
+        }
+        Some("conversions") if args.len() == 4 => {
+            let number = |i: usize| args[i].parse().expect(USAGE);
+            let list = parts::logs::conversions(&mut Random::new(number(2)), number(3));
+            print!("{list}");
+        }
+        Some(asked @ ("report" | "list" | "host" | "yard")) => {
             let mut log = Vec::new();
             io::stdin().read_to_end(&mut log).expect("a log");
-            let text = if asked == "report" {
-                parts::logs::example(&log)
-            } else {
-                parts::logs::list(&log)
+            let text = match asked {
+                "report" => parts::logs::example(&log),
+                "list" => parts::logs::list(&log),
+                "host" => parts::logs::host(&log),
+                _ => parts::logs::yard(&log),
             };
             match text {
                 Some(text) => print!("{text}"),
@@ -119,18 +132,32 @@ fn play(start: &str, seed: u64, seconds: u64, names: &[String]) -> bool {
         .map(|p| (p, Cover::new(p.lines), 0, 0))
         .collect();
     let mut round = 0;
+    // What is played and how far it is, on standard error: each part of a short run, and a line each ten seconds of a long one.
+    let mut said = Instant::now();
     loop {
         for (part, cover, scripts_played, calls_played) in &mut totals {
             let mut random = Random::new(seed.wrapping_add(round));
             let scripts = (part.scripts)(&mut random, seconds > 0);
-            let played = port::play(part, &scripts, cover);
-            let written = port::port(start, part, &played.given);
-            *scripts_played += scripts.len() as u64;
-            *calls_played += played.calls;
-            if let Some(d) = port::compare(part, &scripts, &played.expected, &written) {
-                println!("seed {}", seed.wrapping_add(round));
-                port::report(start, part, &scripts, &d);
-                all_well = false;
+            // A program is started once for all scripts; what plays in this process takes them one by one, up to a difference.
+            let at_once = part.here.map_or(scripts.len(), |_| 1);
+            for some in scripts.chunks(at_once.max(1)) {
+                let played = port::play(part, some, cover);
+                let written = port::port(start, part, &played.given);
+                *scripts_played += some.len() as u64;
+                *calls_played += played.calls;
+                if let Some(d) = port::compare(part, some, &played.expected, &written) {
+                    println!("seed {}", seed.wrapping_add(round));
+                    port::report(start, part, some, &d);
+                    all_well = false;
+                    break;
+                }
+            }
+            if seconds == 0 || said.elapsed() >= Duration::from_secs(10) {
+                let (at, name) = (began.elapsed().as_secs(), part.name);
+                let of = (seconds > 0).then(|| format!(" of {seconds}"));
+                let of = of.unwrap_or_default();
+                eprintln!("compare: {name}: {calls_played} calls, {at}{of} s");
+                said = Instant::now();
             }
         }
         round += 1;

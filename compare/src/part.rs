@@ -17,7 +17,7 @@ pub trait Original {
 
 pub struct Part {
     pub name: &'static str,
-    /// The Rattle program, a crate of the repository.
+    /// The Rattle program, a crate of the repository; `-` where the part is played in this process.
     pub program: &'static str,
     /// What plays the part in this process, where it needs no program: given a script's words, it writes the answers' words.
     pub here: Option<fn(&[u8]) -> Vec<u8>>,
@@ -27,7 +27,7 @@ pub struct Part {
     pub fresh: fn() -> Box<dyn Original>,
     /// The scripts of one round. Those that cost much are made only where `long`.
     pub scripts: fn(&mut Random, long: bool) -> Vec<Script>,
-    /// The scripts of the fixed list that the program's crate replays.
+    /// The scripts of the fixed list that the program's crate replays; none where there is no program.
     pub sample: fn(&mut Random) -> Vec<Script>,
     pub show: fn(&Call) -> String,
     /// The names of the answer's words.

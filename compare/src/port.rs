@@ -121,14 +121,18 @@ fn fails(start: &str, part: &Part, script: &Script) -> Option<Difference> {
     compare(part, &scripts, &played.expected, &written)
 }
 
-/// How long a failing script is cut down.
-const CUTTING: Duration = Duration::from_secs(60);
+/// How long a failing script is cut down; CUT names another number of seconds.
+fn cutting() -> Duration {
+    let told = std::env::var("CUT").ok().and_then(|s| s.parse().ok());
+    Duration::from_secs(told.unwrap_or(60))
+}
 
 /// Cuts a failing script down: ever smaller pieces are taken out as long as the two sides still differ, and as long as there is time.
 /// The first call, which makes the part fresh, stays.
 pub fn smallest(start: &str, part: &Part, script: &Script) -> Script {
     let began = Instant::now();
-    let goes_on = |tries: u32| tries < 400 && began.elapsed() < CUTTING;
+    let most = cutting();
+    let goes_on = |tries: u32| tries < 400 && began.elapsed() < most;
     let mut script = script.clone();
     if let Some(d) = fails(start, part, &script) {
         script.truncate(d.call + 1);

@@ -5,7 +5,7 @@
  *
  * It stops where a call answers a number that ambrulicciu.h does not name at it, where a refused call changed a lent byte, or where a
  * served call changed memory that it only reads. From 300 rounds on it also fails where a call was never served, or a refusal that the
- * header names never came. Each room is an allocation of its own, so that a tool which watches memory sees a
+ * header names never came. Compiled with -DMEASURE it prints how much stack each call took at most instead (host/stack/run). Each room is an allocation of its own, so that a tool which watches memory sees a
  * byte touched outside. The proofs say all this; here the compiled library is tried, back end and header included.
  */
 #include "../ambrulicciu.h"
@@ -66,10 +66,41 @@ static void *lend(size_t size, int read_only) {
     return bytes;
 }
 
+/* ---- how much stack a call takes: what lies below is painted before it, and looked at after it */
+
+#ifdef MEASURE
+#define PAINTED 1000000
+#define PAINT 0xa5
+
+static volatile unsigned char *under; /* the stack of the call lies below */
+
+__attribute__((noinline)) static unsigned char paint(void) {
+    volatile unsigned char below[PAINTED];
+    for (size_t i = 0; i < PAINTED; i++)
+        below[i] = PAINT;
+    return below[PAINTED / 2];
+}
+
+static unsigned char (*volatile painted)(void) = paint;
+
+/* From the lowest painted byte up to the first that was written over. */
+static size_t taken(void) {
+    volatile unsigned char *at = under - (PAINTED - 4096);
+    while (at < under && *at == PAINT)
+        at++;
+    return (size_t)(under - at);
+}
+#endif
+
 /* What the memory holds just before the call. */
 static void ready(void) {
     for (int i = 0; i < lent_count; i++)
         memcpy(lent[i].before, lent[i].bytes, lent[i].size);
+#ifdef MEASURE
+    under = __builtin_frame_address(0);
+    if (painted() != PAINT)
+        exit(1);
+#endif
 }
 
 static uint64_t served, refused;
@@ -77,17 +108,23 @@ static uint64_t served, refused;
 /* Which calls were made, and what they answered. */
 static struct {
     const char *call, *may;
-    uint64_t answered[10];
+    uint64_t answered[16];
+    size_t stack;
 } seen[64];
 
-static void note(const char *call, uint8_t answer, const char *may) {
+static void note(const char *call, uint8_t answer, const char *may, size_t stack) {
     int i = 0;
     while (seen[i].call && strcmp(seen[i].call, call) != 0)
         i++;
     seen[i].call = call;
     seen[i].may = may;
     seen[i].answered[answer]++;
+    if (seen[i].stack < stack)
+        seen[i].stack = stack;
 }
+
+/* A refusal is one digit where calls are tried: 10 is a, 14 is e. */
+static const char numbers[] = "0123456789abcdef";
 
 /* How many answers that the header names never came. */
 static int unseen(void) {
@@ -96,15 +133,19 @@ static int unseen(void) {
         if (!seen[i].answered[0])
             count++, fprintf(stderr, "any: %s was never served\n", seen[i].call);
         for (const char *may = seen[i].may; *may; may++)
-            if (!seen[i].answered[*may - '0'])
-                count++, fprintf(stderr, "any: %s never answered %c\n", seen[i].call, *may);
+            if (!seen[i].answered[strchr(numbers, *may) - numbers])
+                count++, fprintf(stderr, "any: %s never answered %d\n", seen[i].call, (int)(strchr(numbers, *may) - numbers));
     }
     return count;
 }
 
 /* After a call: `may` has the refusals that it may answer. */
 static void done(const char *call, uint8_t answer, const char *may) {
-    if (answer > 9 || (answer && !strchr(may, '0' + answer))) {
+    size_t stack = 0;
+#ifdef MEASURE
+    stack = taken();
+#endif
+    if (answer > 15 || (answer && !strchr(may, numbers[answer]))) {
         fprintf(stderr, "any: %s answered %u\n", call, answer);
         exit(1);
     }
@@ -117,7 +158,7 @@ static void done(const char *call, uint8_t answer, const char *may) {
         free(lent[i].before);
     }
     lent_count = 0;
-    note(call, answer, may);
+    note(call, answer, may, stack);
     served += !answer;
     refused += answer != 0;
 }
@@ -196,6 +237,14 @@ static void fill(ambrulicciu_monitor *m, rooms r) {
     ambrulicciu_monitor_fresh(m, 1, 1);
     for (uint32_t i = 0; i < AMBRULICCIU_ROWS; i++)
         ambrulicciu_monitor_sent(m, r.queue, r.queue_rows, i, i);
+}
+
+/* ---- the version */
+
+static void try_version(void) {
+    uint32_t *version = lend(4, 0);
+    ready();
+    done("version", ambrulicciu_version(version), "");
 }
 
 /* ---- the ledger */
@@ -434,6 +483,21 @@ static void try_writers(void) {
     done("log_write_trailer", ambrulicciu_log_write_trailer(bytes, n, (uint32_t)(drawn() % 4 ? drawn() % 690 : number()), (uint16_t)number(), (uint16_t)number(), number()), "59");
 }
 
+/* What the reply of record i - 1 brought, if that is an accept. */
+static ambrulicciu_observation brought(uint32_t i) {
+    ambrulicciu_observation o;
+    memset(&o, 0, sizeof o);
+    o.sender = i - 2;
+    o.reflector = i - 1;
+    o.t3 = i - 1;
+    o.ordinal = o.s_txc = i - 1;
+    o.r_rxc = o.r_txc = i;
+    o.follow_up_sequence = i - 2;
+    o.follow_up_timestamp = drawn() % 2;
+    o.flags = (uint32_t)drawn() & 127;
+    return o;
+}
+
 /* A log of some records by the library's writers, of which a byte may be changed. */
 static uint8_t *log_of(size_t *size) {
     uint32_t count = (uint32_t)(drawn() % 6);
@@ -444,13 +508,16 @@ static uint8_t *log_of(size_t *size) {
     }
     *size = before + AMBRULICCIU_RECORD * count + AMBRULICCIU_TRAILER;
     uint8_t *log = lend(*size, 1), *at = log + before;
-    for (uint32_t i = 0; i < count; i++, at += AMBRULICCIU_RECORD)
-        switch (drawn() % 4) {
+    for (uint32_t i = 0; i < count; i++, at += AMBRULICCIU_RECORD) {
+        ambrulicciu_observation o = brought(i);
+        switch (drawn() % 6) {
         case 0: ambrulicciu_log_write_sent(at, AMBRULICCIU_RECORD, i, i, i, number()); break;
         case 1: ambrulicciu_log_write_accept(at, AMBRULICCIU_RECORD, i - 1, i, i, (uint32_t)drawn() % 2, i, i); break;
         case 2: ambrulicciu_log_write_advance(at, AMBRULICCIU_RECORD, number()); break;
-        default: ambrulicciu_log_write_idle(at, AMBRULICCIU_RECORD);
+        case 3: ambrulicciu_log_write_idle(at, AMBRULICCIU_RECORD); break;
+        default: ambrulicciu_log_write_observe(at, AMBRULICCIU_RECORD, &o);
         }
+    }
     ambrulicciu_log_write_trailer(at, AMBRULICCIU_TRAILER, count, (uint16_t)number(), (uint16_t)(drawn() % 3), number());
     if (drawn() % 3 == 0)
         log[drawn() % *size] ^= (uint8_t)(1u << drawn() % 8);
@@ -506,12 +573,12 @@ static void try_reports(void) {
     size_t size, room = drawn() % 4 ? AMBRULICCIU_TEXT : drawn() % 2000;
     uint8_t *log = log_of(&size);
     uint32_t *words = secret();
-    rooms r = lend_rooms(KEYS | SLOTS | PROBES | OFFSETS | LINKS);
+    rooms r = lend_rooms(KEYS | SLOTS | PROBES | OFFSETS | LINKS | QUEUE);
     uint8_t *text = lend(room, 0);
     uint64_t *length = lend(8, 0);
     ready();
     done("report_log", ambrulicciu_report_log(log, size, words, r.keys, r.key_rows, r.slots, r.slot_rows, r.probes, r.probe_rows, r.offsets, r.offset_rows,
-                                              r.links, r.link_rows, text, room, length), "5");
+                                              r.links, r.link_rows, r.queue, r.queue_rows, text, room, length), "5978");
     ambrulicciu_ledger *l = ledger(1);
     ambrulicciu_monitor *m = monitor(1);
     text = lend(room, 0);
@@ -521,13 +588,18 @@ static void try_reports(void) {
 }
 
 int main(int argc, char **argv) {
-    static void (*const tries[])(void) = {try_fresh, try_sent, try_accept, try_lookup, try_observe, try_answered, try_reads, try_watched_sent,
+    static void (*const tries[])(void) = {try_version, try_fresh, try_sent, try_accept, try_lookup, try_observe, try_answered, try_reads, try_watched_sent,
                                           try_watched_accept, try_monitor, try_estimates, try_quality, try_quantiles, try_writers, try_logs, try_again, try_reports};
     long rounds = argc > 1 ? atol(argv[1]) : 500;
     seed = argc > 2 ? strtoull(argv[2], NULL, 10) : 1;
     for (long round = 0; round < rounds; round++)
         for (size_t i = 0; i < sizeof tries / sizeof *tries; i++)
             tries[i]();
+#ifdef MEASURE
+    for (int i = 0; seen[i].call; i++)
+        printf("%s %zu\n", seen[i].call, seen[i].stack);
+    return 0;
+#endif
     if (rounds >= 300 && unseen())
         return 1;
     printf("any: %llu calls served and %llu refused on memory that holds anything: each refusal is one that the header names, and changed no byte\n",

@@ -7,8 +7,9 @@
  * and linkreport prints the same of the log: host/c/run compares them. Nothing is checked before a call: the library refuses what it
  * cannot serve, and the host only counts that.
  */
-#include "../ambrulicciu.h"
+#include "convert.h"
 #include "network.h"
+#include <ambrulicciu.h>
 #include <stdio.h>
 #include <stdlib.h>
 #include <string.h>
@@ -59,18 +60,13 @@ static void start(host *h, uint16_t copies, uint16_t threshold, uint64_t timeout
 }
 
 static void sent(host *h, uint32_t sequence, uint32_t ordinal, uint64_t now) {
-    ambrulicciu_link *link = &h->link;
     uint64_t tag = 1000 + ordinal;
     h->pending[ordinal % PENDING].sequence = sequence;
     h->pending[ordinal % PENDING].packet.time = now;
     h->pending[ordinal % PENDING].packet.tag = tag;
     h->pending[ordinal % PENDING].waits = 1;
     ambrulicciu_log_write_sent(next_record(h), AMBRULICCIU_RECORD, sequence, ordinal, now, tag);
-    if (h->threshold)
-        count(h, ambrulicciu_link_sent(link, sequence, ordinal, now, tag));
-    else
-        count(h, ambrulicciu_sent(&link->ledger, link->probes, AMBRULICCIU_ROWS, link->links, AMBRULICCIU_ROWS, sequence, ordinal,
-                                  now, tag));
+    count(h, ambrulicciu_link_sent(&h->link, sequence, ordinal, now, tag));
 }
 
 /* The packet of a probe that the host still waits for; it then waits no more. */
@@ -84,27 +80,12 @@ static const ambrulicciu_packet *taken(host *h, uint32_t sequence) {
 }
 
 static void accepted(host *h, const packet *reply, ambrulicciu_accepted *answer) {
-    ambrulicciu_link *link = &h->link;
     const ambrulicciu_packet *packet = taken(h, reply->sender);
     uint64_t time = packet ? packet->time : 0, tag = packet ? packet->tag : 0;
     memset(answer, 0, sizeof *answer);
     ambrulicciu_log_write_accept(next_record(h), AMBRULICCIU_RECORD, reply->sender, reply->reflector, reply->t3, packet != NULL, time,
                                  tag);
-    if (h->threshold)
-        count(h, ambrulicciu_link_accept(link, reply->sender, reply->reflector, reply->t3, packet, answer));
-    else
-        count(h, ambrulicciu_accept(&link->ledger, link->keys, AMBRULICCIU_ROWS, link->slots, AMBRULICCIU_ROWS, link->probes,
-                                    AMBRULICCIU_ROWS, link->links, AMBRULICCIU_ROWS, reply->sender, reply->reflector, reply->t3,
-                                    packet != NULL, time, tag, answer));
-}
-
-/* A raw timestamp in ns since 1970: of all its eras the one nearest to the reference, in seconds since 1970. */
-static int64_t converted(uint64_t timestamp, int ptp, int64_t reference) {
-    int64_t seconds = (int64_t)(timestamp >> 32) - (ptp ? 0 : 2208988800);
-    int64_t ns = ptp ? (int64_t)(timestamp & 0xffffffffu) : (int64_t)(((timestamp & 0xffffffffu) * SECOND) >> 32);
-    while (seconds < reference - ((int64_t)1 << 31))
-        seconds += (int64_t)1 << 32;
-    return seconds * SECOND + ns;
+    count(h, ambrulicciu_link_accept(&h->link, reply->sender, reply->reflector, reply->t3, packet, answer));
 }
 
 static void observed(host *h, const packet *reply, const ambrulicciu_accepted *answer, int ptp) {
@@ -117,6 +98,7 @@ static void observed(host *h, const packet *reply, const ambrulicciu_accepted *a
     told.round_trip = reply->arrives - answer->time;
     told.t4 = wall_clock(reply->arrives);
     told.reference = told.t4 / SECOND;
+    told.offset = reply->offset;
     told.s_txc = reply->s_txc;
     told.r_rxc = reply->r_rxc;
     told.r_txc = reply->r_txc;
@@ -128,10 +110,9 @@ static void observed(host *h, const packet *reply, const ambrulicciu_accepted *a
         told.ordinal = (uint32_t)answer->ordinal;
         told.flags |= AMBRULICCIU_ORDINAL;
     }
-    if (ambrulicciu_link_lookup(&h->link, &told, &found) == AMBRULICCIU_SERVED && found.shown) {
-        told.converted_t3 = converted(told.follow_up_timestamp, found.ptp != 0, found.reference);
+    if (ambrulicciu_link_lookup(&h->link, &told, &found) == AMBRULICCIU_SERVED && found.shown &&
+        converted(told.follow_up_timestamp, found.ptp != 0, found.reference, told.offset, &told.converted_t3))
         told.flags |= AMBRULICCIU_CONVERTED_T3;
-    }
     ambrulicciu_log_write_observe(next_record(h), AMBRULICCIU_RECORD, &told);
     uint8_t refused = ambrulicciu_link_observe(&h->link, &told);
     uint64_t recorded;
@@ -151,14 +132,12 @@ static void received(host *h, const packet *reply, int ptp) {
 
 static void timer(host *h, uint64_t now) {
     ambrulicciu_log_write_advance(next_record(h), AMBRULICCIU_RECORD, now);
-    if (h->threshold)
-        count(h, ambrulicciu_link_advance(&h->link, now));
+    count(h, ambrulicciu_link_advance(&h->link, now));
 }
 
 static void stop(host *h) {
     ambrulicciu_log_write_idle(next_record(h), AMBRULICCIU_RECORD);
-    if (h->threshold)
-        count(h, ambrulicciu_link_idle(&h->link));
+    count(h, ambrulicciu_link_idle(&h->link));
 }
 
 /* ---- what is shown */
@@ -181,7 +160,7 @@ static int write_log(host *h, const char *name) {
 static int write_report(const host *h, const char *name) {
     uint8_t text[AMBRULICCIU_TEXT];
     uint64_t length;
-    if (ambrulicciu_report_link(&h->link.ledger, &h->link.monitor, h->threshold, h->records, h->turned_away, text, sizeof text, &length))
+    if (ambrulicciu_link_report(&h->link, h->records, h->turned_away, text, &length))
         return 0;
     return written(name, text, (size_t)length);
 }
@@ -190,10 +169,14 @@ static void print_figures(const host *h) {
     static const double percents[4] = {50, 90, 99, 100};
     ambrulicciu_figures figures;
     uint64_t shown[4], present;
-    ambrulicciu_snapshot(&h->link.ledger, &figures);
+    ambrulicciu_link_snapshot(&h->link, &figures);
     ambrulicciu_quantiles_percentiles(&h->round_trips, h->room, AMBRULICCIU_QUANTILES_ROOM, percents, 4, shown, 4, &present);
-    printf("%3u records, %u turned away; loss %u of 1,000, %u follow-ups matched", (unsigned)h->records, (unsigned)h->turned_away,
-           (unsigned)figures.thousandths, (unsigned)figures.follow_up.matched);
+    printf("%3u records, %u turned away; loss ", (unsigned)h->records, (unsigned)h->turned_away);
+    if (figures.thousandths_known)
+        printf("%u of 1,000", (unsigned)figures.thousandths);
+    else
+        printf("- (nothing was requested)"); /* a silent link has no figure, and must not be read as a perfect one */
+    printf(", %u follow-ups matched", (unsigned)figures.follow_up.matched);
     if (figures.follow_up.delay.average_known)
         printf(", average delay %.3f ms", figures.follow_up.delay.average);
     if (figures.follow_up.quality.largest_known)

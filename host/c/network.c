@@ -21,7 +21,7 @@ int64_t wall_clock(uint64_t now) {
 
 /* A moment as a timestamp of 64 bits: NTP has seconds since 1900 and a fraction of 2^32, PTP seconds since 1970 and ns. */
 static uint64_t timestamp(const network *net, uint64_t now) {
-    uint64_t ns = (uint64_t)wall_clock(now);
+    uint64_t ns = (uint64_t)wall_clock(now) + (uint64_t)net->kind.offset * SECOND;
     uint64_t seconds = ns / SECOND, rest = ns % SECOND;
     if (net->kind.ptp)
         return (seconds & 0xffffffffu) << 32 | rest;
@@ -40,6 +40,7 @@ void network_start(network *net, uint64_t seed) {
     net->kind.silent_from = below(&net->seed, 200);
     net->kind.silent_to = net->kind.silent_from + below(&net->seed, 2) * 9;
     net->kind.copies = 1 + below(&net->seed, 2);
+    net->kind.offset = net->kind.ptp ? (int32_t)below(&net->seed, 2) * 37 : 0;
 }
 
 static int happens(network *net, uint32_t share) {
@@ -66,6 +67,7 @@ static void reflect(network *net, uint64_t there, uint32_t sequence, uint32_t s_
     reply.t3 = timestamp(net, there);
     reply.follow_up_sequence = net->last_sequence;
     reply.follow_up_timestamp = net->transmitted > 1 ? timestamp(net, net->last_transmit) : 0;
+    reply.offset = net->kind.offset;
     reply.estimate = (uint16_t)(0x8000u | net->kind.ptp << 14 | 22u << 8 | below(&net->seed, 20));
     /* a software timestamp is taken a little before the packet goes out: the follow-up tells the real moment */
     net->last_sequence = reply.reflector;

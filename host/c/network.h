@@ -13,6 +13,7 @@ typedef struct {
     uint32_t s_txc, r_rxc, r_txc;
     uint32_t follow_up_sequence; /* the reply that the reflector sent before, and when it really went out */
     uint64_t follow_up_timestamp;
+    int32_t offset; /* of the reflector's clock from UTC, s; a real host is told it by its operator */
     uint16_t estimate;
 } packet;
 
@@ -25,6 +26,7 @@ typedef struct {
     uint32_t own_count; /* 1: the reflector counts its replies itself */
     uint32_t ptp;       /* 1: timestamps are PTP */
     uint32_t silent_from, silent_to; /* probes that the link loses all of */
+    int32_t offset;                  /* of the reflector's clock from UTC, s: PTP counts no leap seconds */
 } kind_of_link;
 
 #define IN_FLIGHT 64

@@ -11,9 +11,9 @@ use crate::part::Part;
 pub const ALL: &[Part] = &[
     numbers::PART,
     delays::PART,
-    monitor::PART,
     quantiles::PART,
-    ledger::PART,
+    #[cfg(feature = "host")]
+    numbers::hosted::HOSTED,
     #[cfg(feature = "host")]
     ledger::hosted::HOSTED,
     #[cfg(feature = "host")]

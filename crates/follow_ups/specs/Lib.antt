@@ -1,2 +1,3 @@
 pub mod Followed
 pub mod Bounds
+pub mod Shown

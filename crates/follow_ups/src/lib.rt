@@ -5,6 +5,9 @@ ghost use Rattle.delays.specs.Bounds as delays;
 ghost use Rattle.clock_quality.specs.Bounds as quality;
 ghost use Rattle.follow_ups.specs.Followed.{estimatesOf, wiresOf, counted, delayAfter, qualityAfter, followed, freshFollowUps};
 ghost use Rattle.follow_ups.specs.Bounds.{CountsIn, InBounds, countsFit, followUpsFit};
+
+pub mod summary;
+
 use clock_quality::ClockQuality;
 use correlation::Wires;
 use correlation::follow::Class;

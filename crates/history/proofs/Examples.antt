@@ -24,7 +24,7 @@ use Rattle.calls.specs.declared.ReplyObservation.{ReplyObservation}
 use Rattle.calls.specs.declared.Call.{Call}
 use Rattle.calls.specs.declared.Call.the-variants.{Sent, Accept, Observe}
 use Rattle.history.specs.Counting.{has, offset}
-use Rattle.history.specs.Ledger.{rememberings, without, distinct, replies, ordinal, packet, accepted, hasKey, awaiting, lastAccepted, held, replyClass, ready, afterReply, events, Answer, isUnique, answer, count, highestReflector, probesEvicted, replyCounts, thousandths, unobserved}
+use Rattle.history.specs.Ledger.{rememberings, without, distinct, replies, ordinal, packet, accepted, hasKey, awaiting, lastAccepted, held, replyClass, ready, afterReply, events, Answer, isUnique, answer, count, highestReflector, behind, probesEvicted, replyCounts, thousandths, unobserved}
 use Rattle.history.specs.FollowUps.{Slot, free, taken, followClass, slotAt, FollowClass, unavailable, ambiguous, unmatched, repeated, matched, classAt, followCounts, measured, Lookup, nothing, shows, lookup, delay}
 use Rattle.history.specs.DirectLoss.{anchorOf, receivedMaximum, latest, missing, DirectClass, mismatch, zeros, anchors, jump, again, exceeded, reordered, advanced, directClass, window, spans, Spans}
 
@@ -143,7 +143,31 @@ forgotten-counts : replyCounts 2 3 forgotten ≡ record {
 unfolding count events replyClass lastAccepted held ready afterReply accepted rememberings distinct without hasKey has replies highestReflector probesEvicted offset
 forgotten-counts = refl
 
-thousandths-of : (thousandths 3 (unobserved 3 2) ≡ 333) × (thousandths 0 0 ≡ 0) × (thousandths 2 (unobserved 2 5) ≡ 0)
+-- a held probe that is remembered again becomes the newest, and evicts none; the next one evicts the older of the two
+abbrev again-first : List Call
+again-first = sent 1 3 ∷ sent 2 2 ∷ sent 1 1 ∷ []
+
+remembered-again : (held 2 (events 2 again-first) ≡ 1 ∷ 2 ∷ [])
+    × (probesEvicted 2 (events 2 again-first) ≡ 0)
+    × (held 2 (events 2 (sent 3 4 ∷ again-first)) ≡ 3 ∷ 1 ∷ [])
+    × (probesEvicted 2 (events 2 (sent 3 4 ∷ again-first)) ≡ 1)
+unfolding events held rememberings distinct without probesEvicted has
+remembered-again = (refl, refl, refl, refl)
+
+-- the last accepted key awaits its observe, until it is observed
+awaits : (awaiting (events 2 (accept (key 5 6 1) NoPacket ∷ sent 5 9 ∷ [])) ≡ some (key 5 6 1))
+    × (awaiting (events 2 (observe (key 5 6 1) NoCounters NoFollowUp ∷ accept (key 5 6 1) NoPacket ∷ sent 5 9 ∷ [])) ≡ none)
+unfolding awaiting events replyClass lastAccepted held ready afterReply accepted rememberings distinct without hasKey has
+awaits = (refl, refl)
+
+-- a step of 2^31 - 1 makes a new highest reflector number, one of 2^31 is behind
+half-range : (highestReflector (key 1 2147483647 2 ∷ key 1 0 1 ∷ []) ≡ some 2147483647) × (highestReflector (key 1 2147483648 2 ∷ key 1 0 1 ∷ []) ≡ some 0)
+    × (behind 2147483647 (some 0) ≡ false)
+    × (behind 2147483648 (some 0) ≡ true)
+unfolding highestReflector offset
+half-range = (refl, refl, refl, refl)
+
+thousandths-of : (thousandths 3 (unobserved 3 2) ≡ some 333) × (thousandths 0 (unobserved 0 0) ≡ none) × (thousandths 2 (unobserved 2 5) ≡ some 0)
 thousandths-of = (refl, refl, refl)
 
 -- ---- every class of a follow-up, after probe 1 was sent, answered with reflector number 11 and observed
@@ -204,10 +228,14 @@ lowered : (slotAt 2 1 (events 2 (accept (key 1 14 7) NoPacket ∷ twice)) 11 ≡
 unfolding slotAt events replyClass lastAccepted held ready afterReply accepted rememberings distinct without hasKey has
 lowered = (refl, refl)
 
--- with copies above 1 the record of an echoed sequence is withheld
-withheld : slotAt 4 2 (events 4 (observe (key 1 1 5) NoCounters NoFollowUp ∷ accept (key 1 1 5) NoPacket ∷ sent 1 1 ∷ [])) 1 ≡ taken 1 none false
+-- with copies above 1 the record of an echoed sequence is withheld, and with one copy it is kept
+abbrev echoed : List Call
+echoed = observe (key 1 1 5) NoCounters NoFollowUp ∷ accept (key 1 1 5) NoPacket ∷ sent 1 1 ∷ []
+
+withheld : (slotAt 4 2 (events 4 echoed) 1 ≡ taken 1 none false)
+    × (slotAt 4 1 (events 4 echoed) 1 ≡ taken 1 (some (record { t4 = some (pos 900); format = NTP; reference = pos 7; quality = none })) false)
 unfolding slotAt events replyClass lastAccepted held ready afterReply accepted rememberings distinct without hasKey has
-withheld = refl
+withheld = (refl, refl)
 
 -- the lookup shows format and reference where nothing down to repeated holds, and nothing else
 lookups : (lookup 4 1 (followUp 11 NoTime) 12 (events 4 one) ≡ shows NTP (pos 7))
@@ -242,6 +270,14 @@ mismatched = refl
 stepped-back : class (point 10 10 10 ∷ []) (point 11 9 11) ≡ jump
 unfolding directClass anchorOf offset
 stepped-back = refl
+
+-- each offset below 2^31 goes on, each at 2^31 breaks
+half-steps : (class (point 10 10 10 ∷ []) (point 11 11 2147483657) ≡ advanced)
+    × (class (point 10 10 10 ∷ []) (point 11 11 2147483658) ≡ jump)
+    × (class (point 10 10 10 ∷ []) (point 11 2147483658 11) ≡ jump)
+    × (class (point 10 10 10 ∷ []) (point 2147483658 11 11) ≡ jump)
+unfolding directClass anchorOf offset has
+half-steps = (refl, refl, refl, refl)
 
 seen-again : class (point 10 10 10 ∷ []) (point 11 11 10) ≡ again
 unfolding directClass anchorOf offset has

@@ -13,7 +13,7 @@ use Rattle.clock_quality.specs.Samples as samples
 use Rattle.history.specs.Counting.{has}
 use Rattle.history.specs.Ledger.{rememberings, without, distinct, accepted, hasKey, lastAccepted, held, replyClass, ready, afterReply, events}
 use Rattle.history.specs.FollowUps.{followClass, slotAt, measured, roundTrips}
-use Rattle.history.specs.Figures.{total, least, greatest, figuresOf, qualityOf, delays, estimates, roundTripFigures, delayFigures, clockQuality}
+use Rattle.history.specs.Figures.{total, least, greatest, figuresOf, qualityOf, delays, given, estimates, roundTripFigures, delayFigures, clockQuality}
 use Rattle.history.proofs.Examples.{listing, one, corrected}
 
 -- 1 ns after -3 ns after 4 ns
@@ -60,3 +60,7 @@ three-samples : (qualityOf (NoEstimates ∷ Pair (clock 1) (clock 0) ∷ Pair (c
     × (qualityOf (NoEstimates ∷ Pair (clock 1) (clock 0) ∷ Pair (clock 1) (clock 1) ∷ []) .sender ≡ last.Absent)
 unfolding samples.count
 three-samples = (refl, refl, refl, refl)
+
+-- the sender's estimate first
+both-given : given (some (record { sender = clock 1; reflector = clock 0 })) ≡ Pair (clock 1) (clock 0)
+both-given = refl

@@ -1,7 +1,7 @@
 -- What `needs_burst_wait` returns and leaves in the words of a host: it refuses nothing. Assumes nothing.
 use mathlib.Core.List.{List, [], _∷_}
 use Prim.Native.Nat.{ℕ}
-use Rattle.ledger_state.specs.Shown.{burstWait}
+use Rattle.ledger_state.specs.BurstWait.{burstWait}
 use Rattle.host_numbers.specs.Numbers.{flagWord}
 use Rattle.host_ledger.specs.Words.{ledgerAt}
 

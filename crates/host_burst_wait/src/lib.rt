@@ -8,6 +8,6 @@ pub extern "C" fn ambrulicciu_needs_burst_wait(ledger: &[u64; 72], answer: &mut 
     ensures { λ r. ⌜ left r (now (answer .exit)) ≡ burstWaitLeaves (now (ledger .entry)) ⌝ }
 {
     let state = host_ledger::load(ledger);
-    *answer = [host_numbers::flag(ledger_state::snapshot::needs_burst_wait(state))];
+    *answer = [host_numbers::flag(ledger_state::needs_burst_wait(state))];
     0
 }

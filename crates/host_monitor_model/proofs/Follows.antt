@@ -45,7 +45,7 @@ kept x (Refused n) room f = refl
 abbrev Agrees : Call → Lent → Type 0
 Agrees c x = (playHost c x .number ≡ playRing c (said x) .number) × (said (playHost c x .lent) ≡ playRing c (said x) .stand)
 
-agrees : (c : Call) (x : Lent) → Typed c → Agrees c x
+pub agrees : (c : Call) (x : Lent) → Typed c → Agrees c x
 unfolding playHost playRing sentTo replyTo advanceTo idleTo monitor.sentTo monitor.replyTo monitor.advanceTo monitor.idleTo answered
 agrees (sending s t) x h =
     let m = monitorAt (x .words) in
@@ -76,7 +76,7 @@ agree-all (c ∷ cs) x h =
 abbrev at-once : ℕ → ℕ → List Probe → Stand
 at-once threshold timeout queue = record { monitor = fresh threshold timeout; room = queue }
 
-begins : (threshold timeout : ℕ) (queue : List Probe) → threshold < 2 ^ 16 → said (begun threshold timeout queue) ≡ at-once threshold timeout queue
+pub begins : (threshold timeout : ℕ) (queue : List Probe) → threshold < 2 ^ 16 → said (begun threshold timeout queue) ≡ at-once threshold timeout queue
 begins threshold timeout queue h = λ i. record { monitor = fresh-stands threshold timeout h i; room = queue }
 
 -- THE THEOREM

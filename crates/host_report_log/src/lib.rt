@@ -1,11 +1,12 @@
-// The report of a log (document 01, 'Log and program') for a host: the text that the program linkreport prints.
+// The report of a log (document 01, 'Log and program') for a host: the text that the program linkreport prints of a log that is good.
 ghost use mathlib.Core.Path.{_≡_};
-ghost use Rattle.link_play.specs.Played.{roomsOf};
+ghost use Rattle.link_parts.specs.Parts.{roomsOf};
 ghost use Rattle.host_told.specs.Told.{told};
 ghost use Rattle.host_report_log.specs.LogTold.{left, reportLogTo};
+use probe_queue::Probe;
 
-// The report of a log at the start of `text`, and its length. The rooms and the text may hold anything; 5 where one has another size.
-// A log that is refused is served: the text then says whether it is 9, 7 or 8, and no room is changed.
+// The report of a log at the start of `text`, and its length. The rooms, the queue and the text may hold anything; 5 where one has another size.
+// A log that is refused is refused with its number, 9, 7 or 8. A refusal changes nothing that is lent.
 #[no_mangle]
 pub extern "C" fn ambrulicciu_report_log(
     log: &[u8],
@@ -15,22 +16,21 @@ pub extern "C" fn ambrulicciu_report_log(
     probes: &mut [[u64; 4]],
     offsets: &mut [u32],
     links: &mut [[u16; 8]],
+    queue: &mut [Probe],
     text: &mut [u8],
     length: &mut [u64; 1],
 ) -> u8
-    ensures { λ r. ⌜ left (told r (now (text .exit)) (now (length .exit))) (roomsOf (now (keys .exit)) (now (slots .exit)) (now (probes .exit)) (now (offsets .exit)) (now (links .exit))) ≡ reportLogTo (now (log .entry)) (now (secret .entry)) (roomsOf (now (keys .entry)) (now (slots .entry)) (now (probes .entry)) (now (offsets .entry)) (now (links .entry))) (now (text .entry)) (now (length .entry)) ⌝ }
+    ensures { λ r. ⌜ left (told r (now (text .exit)) (now (length .exit))) (now (queue .exit)) (roomsOf (now (keys .exit)) (now (slots .exit)) (now (probes .exit)) (now (offsets .exit)) (now (links .exit))) ≡ reportLogTo (now (log .entry)) (now (secret .entry)) (now (queue .entry)) (roomsOf (now (keys .entry)) (now (slots .entry)) (now (probes .entry)) (now (offsets .entry)) (now (links .entry))) (now (text .entry)) (now (length .entry)) ⌝ }
 {
-    let words = *secret;
-    let queue = [probe_queue::absent(); 4096];
     let answer = link_report::report_log(
         log,
-        words,
-        queue,
+        secret,
         keys,
         slots,
         probes,
         offsets,
         links,
+        queue,
         text,
     );
     host_told::tell(answer, length)

@@ -10,8 +10,8 @@ use Rattle.clock_quality.specs.declared.LastEstimate.{LastEstimate}
 use Rattle.clock_quality.specs.declared.LastEstimate.the-variants as last
 use Rattle.clock_quality.specs.declared.ClockQuality.{ClockQuality}
 use Rattle.direct.specs.declared.summary.DirectSummary.{DirectSummary}
-use Rattle.ledger_state.specs.declared.snapshot.FollowUpSummary.{FollowUpSummary}
-use Rattle.ledger_state.specs.declared.snapshot.Snapshot.{Snapshot}
+use Rattle.follow_ups.specs.declared.summary.FollowUpSummary.{FollowUpSummary}
+use Rattle.ledger_snapshot.specs.declared.Snapshot.{Snapshot}
 use Rattle.host_shown.specs.Words.{pointWords, repliesWords, lossWords, delayWords, directCountWords, spanWords, directWords}
 use Rattle.host_shown.specs.Words.{followCountWords, estimateWords, qualityCountWords, largestWords, qualityWords, followWords, shownWords}
 use Rattle.host_shown.proofs.Laws.{placed, placed-next, placed-all}
@@ -29,13 +29,13 @@ estimate-length (last.Seen e) = refl
 -- ---- direct loss
 
 pub direct-as : (d : DirectSummary) (room : List ℕ)
-    → placed 38 (spanWords (d .spans)) (placed 34 (pointWords (d .latest)) (placed 30 (pointWords (d .anchor)) (placed 25 (directCountWords (d .counts)) room)))
-    ≡ placed 25 (directWords d) room
+    → placed 39 (spanWords (d .spans)) (placed 35 (pointWords (d .latest)) (placed 31 (pointWords (d .anchor)) (placed 26 (directCountWords (d .counts)) room)))
+    ≡ placed 26 (directWords d) room
 unfolding directWords
 direct-as d room =
-    placed-next 34 4 (pointWords (d .latest)) (spanWords (d .spans)) (placed 30 (pointWords (d .anchor)) (placed 25 (directCountWords (d .counts)) room)) (point-length (d .latest))
-    ∙ placed-next 30 4 (pointWords (d .anchor)) (pointWords (d .latest) ++ spanWords (d .spans)) (placed 25 (directCountWords (d .counts)) room) (point-length (d .anchor))
-    ∙ placed-next 25 5 (directCountWords (d .counts)) (pointWords (d .anchor) ++ (pointWords (d .latest) ++ spanWords (d .spans))) room refl
+    placed-next 35 4 (pointWords (d .latest)) (spanWords (d .spans)) (placed 31 (pointWords (d .anchor)) (placed 26 (directCountWords (d .counts)) room)) (point-length (d .latest))
+    ∙ placed-next 31 4 (pointWords (d .anchor)) (pointWords (d .latest) ++ spanWords (d .spans)) (placed 26 (directCountWords (d .counts)) room) (point-length (d .anchor))
+    ∙ placed-next 26 5 (directCountWords (d .counts)) (pointWords (d .anchor) ++ (pointWords (d .latest) ++ spanWords (d .spans))) room refl
 
 direct-length : (d : DirectSummary) → length (directWords d) ≡ 25
 unfolding directWords
@@ -67,12 +67,12 @@ quality-length q = simp length-append (omega (arith, estimate-length (q .sender)
 -- ---- follow-ups
 
 pub follow-as : (f : FollowUpSummary) (room : List ℕ)
-    → placed 63 (qualityWords (f .quality)) (placed 56 (delayWords (f .delay)) (placed 50 (followCountWords (f .counts)) room))
-    ≡ placed 50 (followWords f) room
+    → placed 64 (qualityWords (f .quality)) (placed 57 (delayWords (f .delay)) (placed 51 (followCountWords (f .counts)) room))
+    ≡ placed 51 (followWords f) room
 unfolding followWords
 follow-as f room =
-    placed-next 56 7 (delayWords (f .delay)) (qualityWords (f .quality)) (placed 50 (followCountWords (f .counts)) room) refl
-    ∙ placed-next 50 6 (followCountWords (f .counts)) (delayWords (f .delay) ++ qualityWords (f .quality)) room refl
+    placed-next 57 7 (delayWords (f .delay)) (qualityWords (f .quality)) (placed 51 (followCountWords (f .counts)) room) refl
+    ∙ placed-next 51 6 (followCountWords (f .counts)) (delayWords (f .delay) ++ qualityWords (f .quality)) room refl
 
 follow-length : (f : FollowUpSummary) → length (followWords f) ≡ 34
 unfolding followWords
@@ -80,17 +80,17 @@ follow-length f = simp length-append (omega (arith, quality-length (f .quality))
 
 -- ---- the whole
 
-shown-length : (s : Snapshot) → length (shownWords s) ≡ 84
+shown-length : (s : Snapshot) → length (shownWords s) ≡ 85
 unfolding shownWords
 shown-length s = simp length-append (omega (arith, direct-length (s .direct), follow-length (s .follow)))
 
-pub shown-as : (s : Snapshot) (room : List ℕ) → length room ≡ 84
-    → placed 50 (followWords (s .follow)) (placed 25 (directWords (s .direct)) (placed 18 (delayWords (s .rtt)) (placed 16 (lossWords s) (placed 0 (repliesWords (s .replies)) room))))
+pub shown-as : (s : Snapshot) (room : List ℕ) → length room ≡ 85
+    → placed 51 (followWords (s .follow)) (placed 26 (directWords (s .direct)) (placed 19 (delayWords (s .rtt)) (placed 16 (lossWords s) (placed 0 (repliesWords (s .replies)) room))))
     ≡ shownWords s
 unfolding shownWords
 shown-as s room e =
-    placed-next 25 25 (directWords (s .direct)) (followWords (s .follow)) (placed 18 (delayWords (s .rtt)) (placed 16 (lossWords s) (placed 0 (repliesWords (s .replies)) room))) (direct-length (s .direct))
-    ∙ placed-next 18 7 (delayWords (s .rtt)) (directWords (s .direct) ++ followWords (s .follow)) (placed 16 (lossWords s) (placed 0 (repliesWords (s .replies)) room)) refl
-    ∙ placed-next 16 2 (lossWords s) (delayWords (s .rtt) ++ (directWords (s .direct) ++ followWords (s .follow))) (placed 0 (repliesWords (s .replies)) room) refl
+    placed-next 26 25 (directWords (s .direct)) (followWords (s .follow)) (placed 19 (delayWords (s .rtt)) (placed 16 (lossWords s) (placed 0 (repliesWords (s .replies)) room))) (direct-length (s .direct))
+    ∙ placed-next 19 7 (delayWords (s .rtt)) (directWords (s .direct) ++ followWords (s .follow)) (placed 16 (lossWords s) (placed 0 (repliesWords (s .replies)) room)) refl
+    ∙ placed-next 16 3 (lossWords s) (delayWords (s .rtt) ++ (directWords (s .direct) ++ followWords (s .follow))) (placed 0 (repliesWords (s .replies)) room) refl
     ∙ placed-next 0 16 (repliesWords (s .replies)) (lossWords s ++ (delayWords (s .rtt) ++ (directWords (s .direct) ++ followWords (s .follow)))) room refl
     ∙ placed-all (shownWords s) room (shown-length s ∙ sym e)

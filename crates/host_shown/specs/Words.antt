@@ -1,4 +1,4 @@
--- A snapshot as the 84 words that a host is shown. A flag is 0 or 1; a value that is absent is a flag 0 and zeros; an f64 is its bits
+-- A snapshot as the 85 words that a host is shown. A flag is 0 or 1; a value that is absent is a flag 0 and zeros; an f64 is its bits
 -- (`toBits` is the logic's own). Assumes nothing.
 use mathlib.Core.Bool.{Bool}
 use mathlib.Core.List.{List, [], _∷_, _++_}
@@ -27,8 +27,9 @@ use Rattle.direct.specs.declared.summary.Packets.the-variants as packets
 use Rattle.direct.specs.declared.summary.Spans.{Spans}
 use Rattle.direct.specs.declared.summary.DirectSummary.{DirectSummary}
 use Rattle.follow_ups.specs.declared.FollowCounts.{FollowCounts}
-use Rattle.ledger_state.specs.declared.snapshot.FollowUpSummary.{FollowUpSummary}
-use Rattle.ledger_state.specs.declared.snapshot.Snapshot.{Snapshot}
+use Rattle.follow_ups.specs.declared.summary.FollowUpSummary.{FollowUpSummary}
+use Rattle.thousandths.specs.Thousandths.{knownOf, valueOf}
+use Rattle.ledger_snapshot.specs.declared.Snapshot.{Snapshot}
 
 -- ---- values that may be absent: whether they are known, and the value
 
@@ -89,20 +90,20 @@ repliesWords r =
     ∷ reflectorKnown (r .numbers .highest) ∷ reflectorNumber (r .numbers .highest)
     ∷ r .numbers .reordered ∷ r .numbers .independent ∷ r .evicted .probes ∷ r .evicted .replies ∷ []
 
--- ---- words 16 and 17
+-- ---- words 16 to 18
 
--- unobserved, then thousandths
+-- unobserved; whether there are thousandths, and these
 abbrev pub lossWords : Snapshot → List ℕ
-lossWords s = s .unobserved ∷ s .thousandths ∷ []
+lossWords s = s .unobserved ∷ knownOf (s .thousandths) ∷ valueOf (s .thousandths) ∷ []
 
--- ---- words 18 to 24, and 56 to 62
+-- ---- words 19 to 25, and 57 to 63
 
 -- the samples; then minimum, average and maximum in ms, each as a flag and its bits
 abbrev pub delayWords : DelaySummary → List ℕ
 delayWords d =
     d .samples ∷ msKnown (d .min) ∷ msBits (d .min) ∷ msKnown (d .average) ∷ msBits (d .average) ∷ msKnown (d .max) ∷ msBits (d .max) ∷ []
 
--- ---- words 25 to 49
+-- ---- words 26 to 50
 
 -- observations, unavailable, discontinuities, reordered, and whether the history was exceeded
 abbrev pub directCountWords : Counts → List ℕ
@@ -119,13 +120,13 @@ spanWords s =
 unfoldable pub directWords : DirectSummary → List ℕ
 directWords d = directCountWords (d .counts) ++ (pointWords (d .anchor) ++ (pointWords (d .latest) ++ spanWords (d .spans)))
 
--- ---- words 50 to 55
+-- ---- words 51 to 56
 
 -- observations; then each class: matched, repeated, unmatched, ambiguous, unavailable
 abbrev pub followCountWords : FollowCounts → List ℕ
 followCountWords c = c .observations ∷ c .matched ∷ c .repeated ∷ c .unmatched ∷ c .ambiguous ∷ c .unavailable ∷ []
 
--- ---- words 63 to 83
+-- ---- words 64 to 84
 
 -- samples; then each class: both clocks synchronized, not both, an error invalid, no estimates
 abbrev pub qualityCountWords : ClockQuality → List ℕ
@@ -139,7 +140,7 @@ largestWords x = largestWord x ∷ largestBits x ∷ []
 unfoldable pub qualityWords : ClockQuality → List ℕ
 qualityWords q = qualityCountWords q ++ (estimateWords (q .sender) ++ (estimateWords (q .reflector) ++ largestWords (q .largest)))
 
--- ---- words 50 to 83
+-- ---- words 51 to 84
 
 -- the counts of the classes, the delay of the matched ones, the clock quality
 unfoldable pub followWords : FollowUpSummary → List ℕ
@@ -147,7 +148,7 @@ followWords f = followCountWords (f .counts) ++ (delayWords (f .delay) ++ qualit
 
 -- ---- the whole
 
--- replies, loss, round trip, direct counters, follow-ups: 84 words
+-- replies, loss, round trip, direct counters, follow-ups: 85 words
 unfoldable pub shownWords : Snapshot → List ℕ
 shownWords s =
     repliesWords (s .replies) ++ (lossWords s ++ (delayWords (s .rtt) ++ (directWords (s .direct) ++ followWords (s .follow))))

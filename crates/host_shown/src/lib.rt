@@ -18,11 +18,11 @@ use delays::DelaySummary;
 use direct::summary::DirectSummary;
 use direct::summary::Spans;
 use follow_ups::FollowCounts;
+use follow_ups::summary::FollowUpSummary;
 use host_numbers::flag;
 use host_quality::largest_bits;
 use host_quality::largest_word;
-use ledger_state::snapshot::FollowUpSummary;
-use ledger_state::snapshot::Snapshot;
+use ledger_snapshot::Snapshot;
 use replies::Replies;
 use values::error_bits;
 use values::error_known;
@@ -32,6 +32,8 @@ use values::packets_known;
 use values::packets_number;
 use values::reflector_known;
 use values::reflector_number;
+use values::thousandths_known;
+use values::thousandths_value;
 
 // The words over those of the room from `at` on.
 fn place(room: &mut [u64], at: usize, words: &[u64])
@@ -156,17 +158,17 @@ fn place_direct_counts(room: &mut [u64], at: usize, counts: direct::Counts)
 }
 
 fn place_direct(room: &mut [u64], summary: DirectSummary)
-    requires { ⌜ 50 ≤ length (now room) ⌝ }
-    ensures { λ _. ⌜ now (room .exit) ≡ sets (now (room .entry)) 25 (directWords summary) ⌝ }
+    requires { ⌜ 51 ≤ length (now room) ⌝ }
+    ensures { λ _. ⌜ now (room .exit) ≡ sets (now (room .entry)) 26 (directWords summary) ⌝ }
 {
     let counts = summary.counts;
     let anchor = summary.anchor;
     let latest = summary.latest;
     let spans = summary.spans;
-    place_direct_counts(room, 25, counts);
-    place_point(room, 30, anchor);
-    place_point(room, 34, latest);
-    place_spans(room, 38, spans);
+    place_direct_counts(room, 26, counts);
+    place_point(room, 31, anchor);
+    place_point(room, 35, latest);
+    place_spans(room, 39, spans);
 }
 
 fn place_follow_counts(room: &mut [u64], at: usize, counts: FollowCounts)
@@ -252,27 +254,32 @@ pub fn place_quality(room: &mut [u64], at: usize, quality: ClockQuality)
 }
 
 fn place_follow(room: &mut [u64], follow: FollowUpSummary)
-    requires { ⌜ 84 ≤ length (now room) ⌝ }
-    ensures { λ _. ⌜ now (room .exit) ≡ sets (now (room .entry)) 50 (followWords follow) ⌝ }
+    requires { ⌜ 85 ≤ length (now room) ⌝ }
+    ensures { λ _. ⌜ now (room .exit) ≡ sets (now (room .entry)) 51 (followWords follow) ⌝ }
 {
     let counts = follow.counts;
     let delay = follow.delay;
     let quality = follow.quality;
-    place_follow_counts(room, 50, counts);
-    place_delay(room, 56, delay);
-    place_quality(room, 63, quality);
+    place_follow_counts(room, 51, counts);
+    place_delay(room, 57, delay);
+    place_quality(room, 64, quality);
 }
 
 fn place_loss(room: &mut [u64], snapshot: Snapshot)
-    requires { ⌜ 18 ≤ length (now room) ⌝ }
+    requires { ⌜ 19 ≤ length (now room) ⌝ }
     ensures { λ _. ⌜ now (room .exit) ≡ sets (now (room .entry)) 16 (lossWords snapshot) ⌝ }
 {
-    let words = [snapshot.unobserved, snapshot.thousandths];
+    let thousandths = snapshot.thousandths;
+    let words = [
+        snapshot.unobserved,
+        thousandths_known(thousandths),
+        thousandths_value(thousandths),
+    ];
     place(room, 16, &words);
 }
 
-// The whole snapshot over the 84 words of a room.
-pub fn show(shown: &mut [u64; 84], snapshot: Snapshot)
+// The whole snapshot over the 85 words of a room.
+pub fn show(shown: &mut [u64; 85], snapshot: Snapshot)
     ensures { λ _. ⌜ now (shown .exit) ≡ shownWords snapshot ⌝ }
 {
     let replies = snapshot.replies;
@@ -281,7 +288,7 @@ pub fn show(shown: &mut [u64; 84], snapshot: Snapshot)
     let follow = snapshot.follow;
     place_replies(shown, replies);
     place_loss(shown, snapshot);
-    place_delay(shown, 18, rtt);
+    place_delay(shown, 19, rtt);
     place_direct(shown, direct);
     place_follow(shown, follow);
 }

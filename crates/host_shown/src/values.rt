@@ -2,12 +2,14 @@
 ghost use mathlib.Core.Path.{_≡_};
 ghost use Rattle.host_quality.specs.Words.{errorBits};
 ghost use Rattle.host_shown.specs.Words.{reflectorKnown, reflectorNumber, packetsKnown, packetsNumber, msKnown, msBits};
+ghost use Rattle.thousandths.specs.Thousandths.{knownOf, valueOf};
 ghost use Rattle.host_shown.specs.Words.{errorKnown};
 use delays::Milliseconds;
 use direct::summary::Packets;
 use estimate::ErrorMs;
 use host_numbers::bits_of;
 use replies::Reflector;
+use thousandths::Thousandths;
 
 pub fn reflector_known(reflector: Reflector) -> u64
     ensures { λ r. ⌜ r ≡ reflectorKnown reflector ⌝ }
@@ -42,6 +44,24 @@ pub fn packets_number(packets: Packets) -> u64
     match packets {
         Packets::Absent => 0,
         Packets::Number(n) => n,
+    }
+}
+
+pub fn thousandths_known(thousandths: Thousandths) -> u64
+    ensures { λ r. ⌜ r ≡ knownOf thousandths ⌝ }
+{
+    match thousandths {
+        Thousandths::Absent => 0,
+        Thousandths::Known(_) => 1,
+    }
+}
+
+pub fn thousandths_value(thousandths: Thousandths) -> u64
+    ensures { λ r. ⌜ r ≡ valueOf thousandths ⌝ }
+{
+    match thousandths {
+        Thousandths::Absent => 0,
+        Thousandths::Known(n) => n,
     }
 }
 

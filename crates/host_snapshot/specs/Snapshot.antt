@@ -1,7 +1,7 @@
 -- What `snapshot` returns and leaves in the words of a host: it refuses nothing. Assumes nothing.
 use mathlib.Core.List.{List}
 use Prim.Native.Nat.{ℕ}
-use Rattle.ledger_state.specs.Shown.{snapshotOf}
+use Rattle.ledger_snapshot.specs.Snapshot.{snapshotOf}
 use Rattle.host_shown.specs.Words.{shownWords}
 use Rattle.host_ledger.specs.Words.{ledgerAt}
 

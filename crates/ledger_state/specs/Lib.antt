@@ -1,3 +1,3 @@
 pub mod State
 pub mod Refusal
-pub mod Shown
+pub mod BurstWait

@@ -34,7 +34,7 @@ ringFits r = ltb (r .head) capacity && leb (r .len) capacity
 abbrev pub ringsFit : Ledger → Bool
 ringsFit l = ringFits (l .tables .keys) && ringFits (l .tables .probes) && leb (seenIn (l .counts .direct .window)) capacity
 
--- "any u64 count in the state at 2^63, any sum's magnitude at 2^126, or beyond"
+-- "any u64 count in the state or its slots at 2^63, any sum's magnitude at 2^126, or beyond"; the count of a slot has 16 bits (crate correlation), so none is there
 abbrev pub countsFit : Counts → Bool
 countsFit c = repliesFit (c .replies) && delays.countsFit (c .rtt) && countsInBounds (c .direct .counts) && followUpsFit (c .follow)
 

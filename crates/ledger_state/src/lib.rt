@@ -1,11 +1,9 @@
-// `Measurements` of src/sender/measurements.rs: its state by value, the refusals of the calls that change it, and the calls that only read
-// it. The rooms and the calls over them stand above.
+// `Measurements` of src/sender/measurements.rs: its state by value, the refusals of the calls that change it, and `needs_burst_wait`, which
+// only reads it. The snapshot, the rooms and the calls over them stand above.
 ghost use mathlib.Core.Path.{_≡_};
 ghost use Rattle.ledger_state.specs.State.{atLeastOne, secretOf, wordsOf, freshCounts, freshLedger};
 ghost use Rattle.ledger_state.specs.Refusal.{firstRefusal, ringFits, ringsFit, countsFit, roomForCall};
-
-pub mod snapshot;
-
+ghost use Rattle.ledger_state.specs.BurstWait.{burstWait};
 use chains::Ring;
 use delays::Delays;
 use direct::Direct;
@@ -190,4 +188,12 @@ pub fn room_for_call(ledger: Ledger) -> bool
 {
     let counts = ledger.counts;
     (ledger.calls < scope::MOST_CALLS) & counts_fit(counts)
+}
+
+pub fn needs_burst_wait(ledger: Ledger) -> bool
+    ensures { λ r. ⌜ r ≡ burstWait ledger ⌝ }
+{
+    let counts = ledger.counts;
+    let replies = counts.replies;
+    replies.needs_burst_wait(ledger.copies)
 }

@@ -3,6 +3,8 @@
 use Prim.Native.Nat.{ℕ}
 use Rattle.replies.specs.declared.Replies.{Replies}
 use Rattle.replies.specs.Served.{unobserved}
+use Rattle.thousandths.specs.declared.Thousandths.{Thousandths}
+use Rattle.thousandths.specs.declared.Thousandths.the-variants as thousandths
 use Rattle.thousandths.specs.Thousandths.{thousandthsOf}
 use Rattle.delays.specs.declared.Delays.{Delays}
 use Rattle.delays.specs.declared.Extreme.{Extreme}
@@ -34,6 +36,11 @@ abbrev pub valueOf : Packets → Value
 valueOf packets.Absent = value.Absent
 valueOf (packets.Number n) = value.Number n
 
+-- "the answer is absent and the report prints `thousandths -`" (document 02, Q-5)
+abbrev pub figureOf : Thousandths → Value
+figureOf thousandths.Absent = value.Absent
+figureOf (thousandths.Known n) = value.Number n
+
 -- "rtt is ns": a round trip is not negative
 abbrev pub timeOf : Extreme → Value
 timeOf extreme.Absent = value.Absent
@@ -52,7 +59,7 @@ sessionOf (watch.Present m) = sessionBy (m .summary .state) (m .summary .«conse
 
 -- the line `requested`: requested, unobserved, and the thousandths of these two
 abbrev pub lossOf : Replies → Loss
-lossOf r = record { requested = r .totals .requested; unobserved = unobserved r; thousandths = thousandthsOf (unobserved r) (r .totals .requested) }
+lossOf r = record { requested = r .totals .requested; unobserved = unobserved r; thousandths = figureOf (thousandthsOf (unobserved r) (r .totals .requested)) }
 
 -- "`followup` and `direct` head their observation counts"
 abbrev pub followupOf : FollowCounts → FollowUps

@@ -1,6 +1,6 @@
 // The figures of the report, taken from the states of a link.
 ghost use mathlib.Core.Path.{_≡_};
-ghost use Rattle.link_figures.specs.Figures.{valueOf, timeOf, sessionBy, sessionOf, lossOf, followupOf, directOf, missingOf, roundTripOf, figuresOf};
+ghost use Rattle.link_figures.specs.Figures.{valueOf, figureOf, timeOf, sessionBy, sessionOf, lossOf, followupOf, directOf, missingOf, roundTripOf, figuresOf};
 use delays::Delays;
 use delays::Extreme;
 use direct::summary::DirectSummary;
@@ -14,6 +14,7 @@ use report::figures;
 use report::figures::Figures;
 use report::figures::Session;
 use report::figures::Value;
+use thousandths::Thousandths;
 
 fn value_of(packets: Packets) -> Value
     ensures { λ r. ⌜ r ≡ valueOf packets ⌝ }
@@ -21,6 +22,16 @@ fn value_of(packets: Packets) -> Value
     match packets {
         Packets::Absent => Value::Absent,
         Packets::Number(n) => Value::Number(n),
+    }
+}
+
+// With nothing requested there is no figure of loss.
+fn figure_of(thousandths: Thousandths) -> Value
+    ensures { λ r. ⌜ r ≡ figureOf thousandths ⌝ }
+{
+    match thousandths {
+        Thousandths::Absent => Value::Absent,
+        Thousandths::Known(n) => Value::Number(n),
     }
 }
 
@@ -62,10 +73,11 @@ fn loss_of(replies: Replies) -> figures::Loss
 {
     let totals = replies.totals;
     let unobserved = replies.unobserved_replies();
+    let thousandths = thousandths::thousandths_of(unobserved, totals.requested);
     figures::Loss {
         requested: totals.requested,
         unobserved,
-        thousandths: thousandths::thousandths_of(unobserved, totals.requested),
+        thousandths: figure_of(thousandths),
     }
 }
 

@@ -20,6 +20,7 @@ use Rattle.calls.specs.declared.Call.{Call}
 use Rattle.calls.specs.declared.Call.the-variants.{Sent, Accept, Observe}
 use Rattle.ranges.specs.Ranges.{inRange}
 use Rattle.replies.specs.declared.Reflector.the-variants.{Number}
+use Rattle.thousandths.specs.declared.Thousandths.the-variants.{Absent as NoThousandths, Known}
 use Rattle.direct.specs.Shown.{noSpans}
 use Rattle.monitor.specs.declared.State.the-variants.{Active}
 use Rattle.monitor.specs.States.{same, enters}
@@ -77,9 +78,14 @@ unfolding count events afterReply replyClass ready lastAccepted held hasKey has 
 report-replies = refl
 
 -- unobserved 0 thousandths 0
-report-lost : (snapshotFrom 1 report .unobserved ≡ 0) × (snapshotFrom 1 report .thousandths ≡ 0)
+report-lost : (snapshotFrom 1 report .unobserved ≡ 0) × (snapshotFrom 1 report .thousandths ≡ Known 0)
 unfolding count events afterReply replyClass ready lastAccepted held hasKey has accepted rememberings distinct without replies
 report-lost = (refl, refl)
+
+-- a link that sent nothing: requested 0 unobserved 0 thousandths -
+silent-lost : (snapshotFrom 1 [] .unobserved ≡ 0) × (snapshotFrom 1 [] .thousandths ≡ NoThousandths)
+unfolding count events
+silent-lost = (refl, refl)
 
 -- followup 0 matched 0 repeated 0 unmatched 0 ambiguous 0 unavailable 0
 report-follow-ups : snapshotFrom 1 report .follow .counts ≡ record { observations = 0; matched = 0; repeated = 0; unmatched = 0; ambiguous = 0; unavailable = 0 }

@@ -154,7 +154,7 @@ module _ (h : List Call) where
   watch-other (watching threshold timeout) (Present m) queue a u f = rw u f
 
   -- by the answer of the accept, which is the history's
-  says-unique : (a : Reply) → isUnique (acceptedFrom h a) ≡ unique? capacity (a .key) (packetOf (a .pending)) (events capacity h)
+  pub says-unique : (a : Reply) → isUnique (acceptedFrom h a) ≡ unique? capacity (a .key) (packetOf (a .pending)) (events capacity h)
   unfolding answer
   says-unique a = go (replyClass capacity (events capacity h) (a .key) (packetOf (a .pending)))
     where

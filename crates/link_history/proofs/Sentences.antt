@@ -5,7 +5,7 @@ use mathlib.Core.Path.{_≡_, refl, sym, ap, _∙_}
 use mathlib.Core.Bool.{Bool, true, false, cond}
 use mathlib.Core.Logic.{_↔_}
 use mathlib.Core.List.{List, [], List·Memᴰ}
-use Prim.Native.Nat.{ℕ, _+_, _≤_}
+use Prim.Native.Nat.{ℕ, zero, suc, _+_, _≤_}
 use native.Mathlib.Omega.{arith}
 use lib.Dec.{eqb}
 use lib.ListN.{length, getD}
@@ -15,19 +15,21 @@ use Rattle.calls.specs.declared.Call.{Call}
 use Rattle.calls.specs.declared.Call.the-variants.{Accept}
 use Rattle.chains.specs.Hash.{numberHash}
 use Rattle.chains.proofs.Contents.{length-contents}
-use Rattle.chains.proofs.Tests.{true-not-false}
+use Rattle.chains.proofs.Tests.{eq-false, true-not-false}
 use Rattle.key_ring.specs.Rows.{noSlot, countOf, isObserved, wordsOf}
 use Rattle.key_ring.specs.Table.{Table, newestSlot, rowAt, rowsOf}
 use Rattle.key_ring.proofs.Meaning.{slot-count}
 use Rattle.key_ring.proofs.Holders.{observed-at-most}
 use Rattle.history.specs.Given.{packetOf}
 use Rattle.history.specs.Ledger.{Class, duplicate, unknown, unique, copiesOf, lastAccepted, replyClass, answerBy, answer, isReply, count, events}
-use Rattle.history.specs.DirectLoss.{spans}
+use Rattle.history.specs.DirectLoss.{spans, shownReverse, highestLessSeen}
 use Rattle.history.specs.FollowUps.{hasFollow}
-use Rattle.history.proofs.Missing.{shownReverse, highestLessSeen, reverse-missing-is}
+use Rattle.history.proofs.Missing.{reverse-missing-is}
 use Rattle.history.proofs.Sentences.{duplicate-exactly, replies-add-up, unique-is-answered-plus-additional, classes-add-up}
-use Rattle.ledger_state.specs.declared.snapshot.Snapshot.{Snapshot}
-use Rattle.ledger_state.specs.Shown.{snapshotOf}
+use Rattle.ledger_snapshot.specs.declared.Snapshot.{Snapshot}
+use Rattle.ledger_snapshot.specs.Snapshot.{snapshotOf}
+use Rattle.thousandths.specs.declared.Thousandths.the-variants.{Absent}
+use Rattle.thousandths.specs.Thousandths.{thousandthsBy, thousandthsOf, knownOf}
 use Rattle.ledger_steps.specs.declared.Accepted.{Accepted}
 use Rattle.ledger_steps.specs.declared.Accepted.the-variants as accepted
 use Rattle.ledger_steps.specs.declared.AcceptAnswer.{AcceptAnswer}
@@ -49,6 +51,17 @@ saysDuplicate (accepts.Served l accepted.Duplicate) = true
 saysDuplicate (accepts.Served l accepted.Unknown) = false
 saysDuplicate (accepts.Served l (accepted.Unique p o)) = false
 saysDuplicate (accepts.Refused n) = false
+
+-- there is no figure of loss exactly when nothing was requested
+absent-exactly : (unobserved requested : ℕ) → (thousandthsOf unobserved requested ≡ Absent) ↔ (requested ≡ 0)
+unfolding thousandthsOf
+absent-exactly u zero = (λ e. refl, λ e. refl)
+absent-exactly u (suc n) = (
+  λ e.
+      let known : _≡_ {A = ℕ} 1 0 = ap knownOf (sym (ap (λ (b : Bool). thousandthsBy b u (suc n)) (eq-false (suc n) 0 (λ d. omega (arith, d)))) ∙ e) in
+      absurd (omega (arith, known)),
+  λ e. absurd (omega (arith, e)),
+)
 
 module _ (m : Making) (ok : MakingFits m) (cs : List Call) (w : AllFits cs) where
   -- the link after these calls, and those that were served
@@ -120,6 +133,12 @@ module _ (m : Making) (ok : MakingFits m) (cs : List Call) (w : AllFits cs) wher
 
   pub follow-ups-shown : shown .follow .counts .observations ≡ count capacity (hasFollow capacity (copiesOf (m .copies))) h
   follow-ups-shown = ap (λ (x : Snapshot). x .follow .counts .observations) (shows .snapshot)
+
+  -- ---- no figure of loss is shown exactly when nothing was requested
+
+  pub silent-shows-no-figure : (shown .thousandths ≡ Absent) ↔ (shown .replies .totals .requested ≡ 0)
+  unfolding snapshotOf
+  silent-shows-no-figure = absent-exactly _ _
 
   -- ---- reverse missing, where shown, is the number of offsets from 1 to the highest not seen since the anchor
 

@@ -1,6 +1,6 @@
 -- From a link made fresh, after any calls, refused ones included: what the code's state and rooms show is what the served calls call for.
 -- Assumes nothing.
-use mathlib.Core.Path.{_≡_, sym, ap, _∙_, subst}
+use mathlib.Core.Path.{_≡_, refl, sym, ap, _∙_, subst}
 use mathlib.Core.Bool.{Bool, true, _&&_}
 use mathlib.Core.List.{List}
 use Prim.Native.Nat.{ℕ, zero, suc, _^_, _<_}
@@ -17,12 +17,14 @@ use Rattle.chains.specs.declared.Ring.{Ring}
 use Rattle.chains.specs.Hash.{numberHash}
 use Rattle.chains.specs.Rings.{RingFits}
 use Rattle.chains.proofs.Hashes.{number-hash-below}
-use Rattle.chains.proofs.Tests.{eq-true, lt-true}
+use Rattle.chains.proofs.Tests.{eq-true, eq-false, lt-true}
 use Rattle.key_ring.specs.Table.{hashOf}
-use Rattle.history.specs.Ledger.{copiesOf}
+use Rattle.history.specs.Ledger.{ReplyCounts, copiesOf, replyCounts, thousandths}
 use Rattle.ledger_state.specs.declared.Ledger.{Ledger}
 use Rattle.ledger_state.specs.Refusal.{sized, ringFits, ringsFit, firstRefusal}
-use Rattle.ledger_state.specs.Shown.{snapshotOf, burstWait}
+use Rattle.ledger_state.specs.BurstWait.{burstWait}
+use Rattle.ledger_snapshot.specs.Snapshot.{snapshotOf}
+use Rattle.thousandths.specs.Thousandths.{thousandthsOf}
 use Rattle.direct.specs.Outcomes.{seenIn}
 use Rattle.ledger_steps.specs.declared.AcceptAnswer.the-variants as accepts
 use Rattle.ledger_steps.specs.declared.LookupAnswer.the-variants as looks
@@ -34,12 +36,12 @@ use Rattle.ledger_steps.specs.Refusals.{awaitsKey, refusalOfAccept, refusalOfLo
 use Rattle.ledger_steps.specs.Calls.{acceptNumber, acceptBy, acceptTo, lookupBy, lookupTo, answeredBy, answeredTo}
 use Rattle.reply_history.specs.Fits.{KeyFits, AllFit}
 use Rattle.reply_history.proofs.Accept.{accept-follows}
-use Rattle.reply_history.proofs.Shown.{shown-replies, shown-unobserved, shown-thousandths, shown-wait, shown-answered, shown-awaits}
+use Rattle.reply_history.proofs.Shown.{shown-wait, shown-answered, shown-awaits}
 use Rattle.observe_history.proofs.Lookups.{lookup-follows}
 use Rattle.observe_history.proofs.Steps.{shown-follows}
 use Rattle.link_steps.specs.Steps.{Standing, watchRefuses, ledgerOfAccept, acceptResult, refuses, after, played, served}
 use Rattle.link_history.specs.Fresh.{Making, MakingFits, freshLink, wordsIn, standOf, AllFits}
-use Rattle.link_history.specs.Shows.{snapshotFrom, countsFrom, waitFrom, lookupFrom, answeredFrom, awaitsFrom, acceptedFrom, LedgerShows}
+use Rattle.link_history.specs.Shows.{lostOf, thousandthsFrom, snapshotFrom, countsFrom, waitFrom, lookupFrom, answeredFrom, awaitsFrom, acceptedFrom, LedgerShows}
 use Rattle.link_history.proofs.Calls.{served-fit}
 use Rattle.link_history.proofs.Follows.{Follow, key-below, copies-fit, calls-fit, link-follows}
 
@@ -49,6 +51,12 @@ both-hold a b p q = ap (λ (x : Bool). x && b) p ∙ q
 
 ring-true : (r : Ring) → RingFits capacity r → ringFits r ≡ true
 ring-true r fit = both-hold _ _ (lt-true (r .head) capacity (fit .head-in)) (le-leb (r .len) capacity (fit .len-in))
+
+-- both are absent where nothing was requested, and there alone
+thousandths-same : (lost requested : ℕ) → thousandthsOf lost requested ≡ thousandthsFrom (thousandths requested lost)
+unfolding thousandthsOf
+thousandths-same lost zero = refl
+thousandths-same lost (suc n) = rw (eq-false (suc n) 0 (λ e. omega (arith, e)))
 
 module _ (words : List ℕ) (copies : ℕ) (h : List Call) (k : Standing) (f : Follow words copies h (standOf k)) where
   abbrev l : Ledger
@@ -81,14 +89,29 @@ module _ (words : List ℕ) (copies : ℕ) (h : List Call) (k : Standing) (f : F
 
   -- ---- the counts
 
+  abbrev c : ReplyCounts
+  c = replyCounts capacity copies h
+
+  -- "Unobserved is requested less satisfied, not below 0."
+  unobserved-is : snapshotOf l .unobserved ≡ lostOf c
+  unfolding snapshotOf
+  unobserved-is = rw (f .replies .replies-are)
+
+  -- "Thousandths are 1,000·unobserved/requested rounded down"; "with nothing requested there is no figure"
+  thousandths-are : snapshotOf l .thousandths ≡ thousandthsFrom (thousandths (c .requested) (lostOf c))
+  unfolding snapshotOf
+  thousandths-are = rw (f .replies .replies-are) (thousandths-same (lostOf c) (c .requested))
+
   shown : (snapshotOf l .rtt ≡ snapshotFrom copies h .rtt) × (snapshotOf l .direct ≡ snapshotFrom copies h .direct) × (snapshotOf l .follow ≡ snapshotFrom copies h .follow)
+  unfolding snapshotOf
   shown = shown-follows capacity (omega arith) (omega arith) (hashOf words) (numberHash words) (key-below words) (number-hash-below words) copies h s (f .replies) (f .observes)
 
   pub snapshot-is : snapshotOf l ≡ snapshotFrom copies h
+  unfolding snapshotOf
   snapshot-is = λ i. record {
-    replies = shown-replies capacity (hashOf words) (numberHash words) copies h s (f .replies) i;
-    unobserved = shown-unobserved capacity (hashOf words) (numberHash words) copies h s (f .replies) i;
-    thousandths = shown-thousandths capacity (hashOf words) (numberHash words) copies h s (f .replies) i;
+    replies = f .replies .replies-are i;
+    unobserved = unobserved-is i;
+    thousandths = thousandths-are i;
     rtt = shown .0 i;
     direct = shown .1 i;
     follow = shown .2 i;

@@ -3,6 +3,7 @@
 use mathlib.Core.Path.{_≡_}
 use mathlib.Core.Bool.{Bool, true, false, not, _&&_}
 use mathlib.Core.List.{List}
+use mathlib.Core.Option.{Option, none, some}
 use Prim.Native.Nat.{ℕ}
 use lib.Dec.{eqb, ltb}
 use Rattle.scope.specs.Limits.{capacity}
@@ -25,8 +26,11 @@ use Rattle.observe_history.specs.RoundTrips.{delaysFrom, shownFrom}
 use Rattle.observe_history.specs.FollowUps as observe_history
 use Rattle.observe_history.specs.Follows.{followShownFrom}
 use Rattle.ledger_state.specs.declared.Counts.{Counts}
-use Rattle.ledger_state.specs.declared.snapshot.Snapshot.{Snapshot}
-use Rattle.ledger_state.specs.Shown.{snapshotOf, burstWait}
+use Rattle.ledger_snapshot.specs.declared.Snapshot.{Snapshot}
+use Rattle.ledger_state.specs.BurstWait.{burstWait}
+use Rattle.ledger_snapshot.specs.Snapshot.{snapshotOf}
+use Rattle.thousandths.specs.declared.Thousandths.{Thousandths}
+use Rattle.thousandths.specs.declared.Thousandths.the-variants.{Absent, Known}
 use Rattle.ledger_steps.specs.declared.Accepted.{Accepted}
 use Rattle.ledger_steps.specs.declared.AcceptAnswer.the-variants as accepts
 use Rattle.ledger_steps.specs.declared.LookupAnswer.the-variants as looks
@@ -41,12 +45,17 @@ use Rattle.link_steps.specs.Steps.{Standing, acceptResult, refuses, after}
 abbrev pub lostOf : ReplyCounts → ℕ
 lostOf c = unobserved (c .requested) (c .satisfied)
 
+-- the figure of loss, or none, as the snapshot holds it
+abbrev pub thousandthsFrom : Option ℕ → Thousandths
+thousandthsFrom none = Absent
+thousandthsFrom (some n) = Known n
+
 -- every field of the snapshot
 abbrev pub snapshotFrom : (copies : ℕ) → List Call → Snapshot
 snapshotFrom copies h = record {
   replies = repliesIn capacity copies h;
   unobserved = lostOf (replyCounts capacity copies h);
-  thousandths = thousandths (replyCounts capacity copies h .requested) (lostOf (replyCounts capacity copies h));
+  thousandths = thousandthsFrom (thousandths (replyCounts capacity copies h .requested) (lostOf (replyCounts capacity copies h)));
   rtt = shownFrom (roundTripFigures capacity h);
   direct = summaryFrom capacity h;
   follow = followShownFrom capacity copies h;

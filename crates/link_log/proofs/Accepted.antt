@@ -17,18 +17,9 @@ use Rattle.link_log.specs.declared.Log.{Log}
 use Rattle.link_log.specs.declared.Log.the-variants as log
 use Rattle.link_log.specs.declared.Played.the-variants as played
 use Rattle.link_log.specs.Logs.{mostBytes, countOf, settingsOf, trailerGood, recordAt, answer, recordsNumber, numberBy, firstOf, logOf, playedBy, callAt}
+use Rattle.link_log.specs.Meaning.{Means}
 use Rattle.link_log.proofs.Laws.{count-is, one-within, call-there}
 use Rattle.link_log.proofs.First.{First, first-is}
-
--- what holds where an answer is given: 9 above 65,536 bytes; 7 for a bad trailer; 8 for the first bad record; else every record is good
-abbrev pub Means : List ℕ → Log → Type 0
-Means bs log.TooLong = 65536 < length bs
-Means bs log.BadTrailer = (length bs ≤ 65536) × (trailerGood bs ≡ false)
-Means bs (log.BadRecord n) =
-    (length bs ≤ 65536) × (trailerGood bs ≡ true) × (n < countOf bs) × (good (recordAt bs (settingsOf bs .start) n) ≡ false)
-    × ((j : ℕ) → j < n → good (recordAt bs (settingsOf bs .start) j) ≡ true)
-Means bs (log.Good s) =
-    (length bs ≤ 65536) × (trailerGood bs ≡ true) × (s ≡ settingsOf bs) × ((j : ℕ) → j < s .count → good (recordAt bs (s .start) j) ≡ true)
 
 module _ (bs : List ℕ) (small : length bs ≤ 65536) (kept : trailerGood bs ≡ true) where
   abbrev found : ℕ

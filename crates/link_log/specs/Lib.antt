@@ -1,2 +1,3 @@
 pub mod Logs
 pub mod Written
+pub mod Meaning

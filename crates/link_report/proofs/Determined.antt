@@ -1,23 +1,18 @@
--- The contract determines the answer, the buffer and every room, and a refusal changes none. Assumes nothing.
+-- The contract determines the answer, the buffer, the queue and every room, and a refusal changes none. Assumes nothing.
 use mathlib.Core.Path.{_≡_, refl, sym, ap, _∙_}
-use mathlib.Core.Bool.{Bool, true, false}
 use mathlib.Core.List.{List}
 use Prim.Native.Nat.{ℕ}
-use contract.Lifetimes.{Lfts}
-use borrow.Fn.World as World
-use borrow.Fn.Kinds as Kinds'
-use denote.Triple.Clauses as Clauses
-use denote.Ref.{now}
 use Rattle.probe_queue.specs.declared.Probe.{Probe}
 use Rattle.ledger_steps.specs.Rooms.{Rooms}
+use Rattle.link_log.specs.declared.Settings.{Settings}
 use Rattle.link_log.specs.Logs.{logOf}
+use Rattle.link_tally.specs.Tally.{Tallied}
 use Rattle.report.specs.declared.Answer.{Answer}
 use Rattle.report.specs.declared.Answer.the-variants.{Written, Refused}
-use Rattle.report.specs.Report.{Outcome, outcome, wrong}
-use Rattle.link_report.specs.LogReport.{endOf, Reported, reported, reportBy, fits, pickReported, reportOfLog}
-use Rattle.link_report.proofs.report_log.{signature}
-use Rattle.link_report.proofs.report_log.Kinds as K
-use Rattle.link_report.proofs.report_log.Reads.{Post}
+use Rattle.report.specs.Report.{Outcome, outcome}
+use Rattle.link_report.specs.declared.Checked.{Checked}
+use Rattle.link_report.specs.declared.Checked.the-variants as checked
+use Rattle.link_report.specs.LogReport.{endOf, checkedBy, Reported, reported, reportBy, fits, reportOfLog}
 
 -- an outcome tells the answer
 same-answer : (a b : Answer) (l m : List ℕ) → outcome a l ≡ outcome b m → a ≡ b
@@ -36,30 +31,21 @@ buffer-of (Refused n) l = refl
 same-buffer : (a b : Answer) (l m : List ℕ) → outcome a l ≡ outcome b m → l ≡ m
 same-buffer a b l m e = sym (buffer-of a l) ∙ ap (λ (o : Outcome). o .buffer) e ∙ buffer-of b m
 
--- the answer, the five rooms and the buffer
-pub report-log-unique :
-    (κs : Lfts 7) (a : World.ArgsD signature κs) (r₁ r₂ : World.ResD signature κs) (s₁ s₂ : Clauses.AtExit (Kinds'.endedOf 7 K.ps K.r) κs)
-    → Post κs a r₁ s₁ → Post κs a r₂ s₂
-    → (r₁ ≡ r₂) × (now (s₁ .1 .1 .1 .0) ≡ now (s₂ .1 .1 .1 .0)) × (now (s₁ .1 .1 .1 .1 .0) ≡ now (s₂ .1 .1 .1 .1 .0)) × (now (s₁ .1 .1 .1 .1 .1 .0) ≡ now (s₂ .1 .1 .1 .1 .1 .0)) × (now (s₁ .1 .1 .1 .1 .1 .1 .0) ≡ now (s₂ .1 .1 .1 .1 .1 .1 .0)) × (now (s₁ .1 .1 .1 .1 .1 .1 .1 .0) ≡ now (s₂ .1 .1 .1 .1 .1 .1 .1 .0)) × (now (s₁ .1 .1 .1 .1 .1 .1 .1 .1 .0) ≡ now (s₂ .1 .1 .1 .1 .1 .1 .1 .1 .0))
-report-log-unique κs a r₁ r₂ s₁ s₂ p q =
+-- the answer, the buffer, the queue and the five rooms
+pub report-log-unique : (log secret : List ℕ) (queue : List Probe) (rooms : Rooms) (text : List ℕ) (r₁ r₂ : Answer) (text₁ text₂ : List ℕ) (queue₁ queue₂ : List Probe) (rooms₁ rooms₂ : Rooms)
+    → reported (outcome r₁ text₁) queue₁ rooms₁ ≡ reportOfLog log secret queue rooms text → reported (outcome r₂ text₂) queue₂ rooms₂ ≡ reportOfLog log secret queue rooms text
+    → (r₁ ≡ r₂) × (text₁ ≡ text₂) × (queue₁ ≡ queue₂) × (rooms₁ ≡ rooms₂)
+report-log-unique log secret queue rooms text r₁ r₂ text₁ text₂ queue₁ queue₂ rooms₁ rooms₂ p q =
     let e = p ∙ sym q in
-    let o = ap (λ (x : Reported). x .outcome) e in (
-      same-answer r₁ r₂ (now (s₁ .1 .1 .1 .1 .1 .1 .1 .1 .0)) (now (s₂ .1 .1 .1 .1 .1 .1 .1 .1 .0)) o,
-      ap (λ (x : Reported). x .rooms .keys) e,
-      ap (λ (x : Reported). x .rooms .slots) e,
-      ap (λ (x : Reported). x .rooms .probes) e,
-      ap (λ (x : Reported). x .rooms .offsets) e,
-      ap (λ (x : Reported). x .rooms .links) e,
-      same-buffer r₁ r₂ (now (s₁ .1 .1 .1 .1 .1 .1 .1 .1 .0)) (now (s₂ .1 .1 .1 .1 .1 .1 .1 .1 .0)) o,
-    )
+    let o = ap (λ (x : Reported). x .outcome) e in
+    (same-answer r₁ r₂ text₁ text₂ o, same-buffer r₁ r₂ text₁ text₂ o, ap (λ (x : Reported). x .queue) e, ap (λ (x : Reported). x .rooms) e)
 
--- A refusal changes no byte of the buffer and no word of a room.
-pub refused-unchanged : (log secret : List ℕ) (queue : List Probe) (rooms rooms′ : Rooms) (buffer buffer′ : List ℕ) (n : ℕ)
-    → reported (outcome (Refused n) buffer′) rooms′ ≡ reportOfLog log secret queue rooms buffer → (buffer′ ≡ buffer) × (rooms′ ≡ rooms)
+-- A refusal changes no byte of the buffer, no probe of the queue and no word of a room.
+pub refused-unchanged : (log secret : List ℕ) (queue queue′ : List Probe) (rooms rooms′ : Rooms) (buffer buffer′ : List ℕ) (n : ℕ)
+    → reported (outcome (Refused n) buffer′) queue′ rooms′ ≡ reportOfLog log secret queue rooms buffer → (buffer′ ≡ buffer) × (queue′ ≡ queue) × (rooms′ ≡ rooms)
 unfolding outcome reportOfLog
-refused-unchanged log secret queue rooms rooms′ buffer buffer′ n e = go (fits rooms buffer) e
+refused-unchanged log secret queue queue′ rooms rooms′ buffer buffer′ n e = go (checkedBy (fits queue rooms buffer) (logOf log)) (endOf log secret queue rooms) e
   where
-    go : (b : Bool) → reported (outcome (Refused n) buffer′) rooms′ ≡ pickReported b (reportBy (logOf log) (endOf log secret queue rooms) rooms buffer) (reported (wrong buffer) rooms)
-        → (buffer′ ≡ buffer) × (rooms′ ≡ rooms)
-    go true e = (cc (ap (λ (x : Reported). x .outcome .values) e), cc (ap (λ (x : Reported). x .outcome .values) e))
-    go false e = (ap (λ (x : Reported). x .outcome .buffer) e, ap (λ (x : Reported). x .rooms) e)
+    go : (c : Checked) (end : Settings → Tallied) → reported (outcome (Refused n) buffer′) queue′ rooms′ ≡ reportBy c end queue rooms buffer → (buffer′ ≡ buffer) × (queue′ ≡ queue) × (rooms′ ≡ rooms)
+    go (checked.Refused m) end e = (ap (λ (x : Reported). x .outcome .buffer) e, ap (λ (x : Reported). x .queue) e, ap (λ (x : Reported). x .rooms) e)
+    go (checked.Good s) end e = (cc (ap (λ (x : Reported). x .outcome .values) e), cc (ap (λ (x : Reported). x .outcome .values) e), cc (ap (λ (x : Reported). x .outcome .values) e))

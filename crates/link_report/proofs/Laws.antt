@@ -1,15 +1,11 @@
 -- From what the parts of the report's call leave to the report of the log. Assumes nothing.
-use mathlib.Core.Path.{_≡_, refl, sym, ap, ap₂, _∙_}
+use mathlib.Core.Path.{_≡_, refl, sym, ap, _∙_}
 use mathlib.Core.Bool.{Bool, true, false, _&&_}
-use mathlib.Core.List.{List, _++_}
-use Prim.Native.Nat.{ℕ, zero, suc, _+_}
-use native.Mathlib.Omega.{arith}
+use mathlib.Core.List.{List}
+use Prim.Native.Nat.{ℕ, zero, suc}
 use lib.Dec.{eqb}
-use lib.ListN.{length, drop}
-use borrow.Author.Tests.{eq-eqb, eqb-true}
+use lib.ListN.{length}
 use Rattle.scope.specs.Limits.{capacity}
-use Rattle.decimal.specs.Decimal.{decimal}
-use Rattle.decimal.specs.Writing.{Stands, over}
 use Rattle.probe_queue.specs.declared.Probe.{Probe}
 use Rattle.monitor.specs.Operations.{fresh}
 use Rattle.ledger_steps.specs.Rooms.{Rooms}
@@ -19,86 +15,91 @@ use Rattle.link_log.specs.declared.Settings.{Settings}
 use Rattle.link_log.specs.declared.Log.{Log}
 use Rattle.link_log.specs.declared.Log.the-variants as log'
 use Rattle.link_log.specs.Logs.{logOf}
-use Rattle.link_play.specs.Played.{standingOf}
-use Rattle.link_tally.specs.Tally.{Tallied, tallied}
-use Rattle.report.specs.declared.Answer.the-variants.{Written, Refused}
-use Rattle.report.specs.Text.{bytes}
-use Rattle.report.specs.Lines.{newline}
+use Rattle.link_parts.specs.Parts.{roomsOf}
+use Rattle.link_tally.specs.declared.Tally.{Tally}
+use Rattle.link_tally.specs.Tally.{standingOf, Tallied, tallyOf, tallied}
+use Rattle.report.specs.declared.Answer.{Answer}
+use Rattle.report.specs.declared.Answer.the-variants as answer
 use Rattle.report.specs.Report.{Outcome, outcome, pickOutcome, written, wrong, reportOf, reportRoom}
 use Rattle.link_figures.specs.Figures.{figuresOf}
-use Rattle.link_report.specs.LogReport.{watchBy, linkBy, endOf, playedText, Reported, reported, reportBy, fits, pickReported, reportOfLog}
+use Rattle.link_report.specs.declared.Checked.{Checked}
+use Rattle.link_report.specs.declared.Checked.the-variants.{Refused, Good}
+use Rattle.link_report.specs.LogReport.{watchBy, linkBy, startBy, endOf, playedText, checkedOf, checkedBy, settingsBy, outcomeBy, Reported, reported, reportBy, fits, reportOfLog, emptyQueue}
 
 -- a threshold that is not 0
 pub present : (n t : ℕ) → (n ≡ 0 → ⊥) → Present (fresh n t) ≡ watchBy n t
 present zero t h = absurd (h refl)
 present (suc n) t h = refl
 
--- a text that stands at the start of the buffer
-pub stands-written : (most : ℕ) (t before after : List ℕ) (r : ℕ) → Stands most t before 0 after r → outcome (Written r) after ≡ written t before
-unfolding outcome over
-stands-written most t before after r s =
-    ap₂ (λ (n : ℕ) (b : List ℕ). outcome (Written n) b) (s .end ∙ plain (length t)) (s .bytes ∙ ap (λ (n : ℕ). t ++ drop n before) (plain (length t)))
-  where
-    plain : (n : ℕ) → 0 + n ≡ n
-    plain n = omega arith
+-- rooms that fit, and rooms that do not
+pub by-log : (fit : Bool) (l : Log) (r : Checked) → fit ≡ true → r ≡ checkedOf l → r ≡ checkedBy fit l
+by-log fit l r y e = e ∙ sym (ap (λ (b : Bool). checkedBy b l) y)
 
-module _ (log secret : List ℕ) (queue : List Probe) (rooms : Rooms) where
-  -- the records are played on the link that the settings ask for
-  pub played-from : (s : Settings) (link : Link) (t : Tallied) → link ≡ linkBy s secret
-      → t ≡ tallied log (record { standing = standingOf link queue rooms; turned = 0 }) (s .count) → t ≡ endOf log secret queue rooms s
-  unfolding endOf
-  played-from s link t k e = e ∙ ap (λ (x : Link). tallied log (record { standing = standingOf x queue rooms; turned = 0 }) (s .count)) k
+pub by-room : (fit : Bool) (l : Log) → fit ≡ false → Refused 5 ≡ checkedBy fit l
+by-room fit l n = sym (ap (λ (b : Bool). checkedBy b l) n)
 
-  -- the report of what they leave
-  pub played-report : (s : Settings) (t : Tallied) (buffer : List ℕ) (o : Outcome) → length buffer ≡ 1024 → t ≡ endOf log secret queue rooms s
-      → o ≡ reportOf buffer (figuresOf (t .standing .link) (s .count) (t .turned))
-      → reported o (t .standing .rooms) ≡ reported (written (playedText s (endOf log secret queue rooms s)) buffer) (endOf log secret queue rooms s .standing .rooms)
-  unfolding reportOf
-  played-report s t buffer o long k e =
-      let f : o ≡ written (playedText s t) buffer = e ∙ ap (λ (b : Bool). pickOutcome b (written (playedText s t) buffer) (wrong buffer)) (eq-eqb (length buffer) reportRoom long) in
-      ap (λ (x : Outcome). reported x (t .standing .rooms)) f
-      ∙ ap (λ (x : Tallied). reported (written (playedText s x) buffer) (x .standing .rooms)) k
+-- the answer by the check
+pub refused-outcome : (c : Checked) (n : ℕ) (link : Link) (turned : ℕ) (buffer : List ℕ) → c ≡ Refused n → outcome (answer.Refused n) buffer ≡ outcomeBy c link turned buffer
+unfolding outcome
+refused-outcome c n link turned buffer e = sym (ap (λ (x : Checked). outcomeBy x link turned buffer) e)
 
--- ---- each answer of the check
+pub played-outcome : (c : Checked) (s : Settings) (link : Link) (turned : ℕ) (buffer : List ℕ) (o : Outcome) → c ≡ Good s → o ≡ reportOf buffer (figuresOf link (s .count) turned) → o ≡ outcomeBy c link turned buffer
+played-outcome c s link turned buffer o e r = r ∙ sym (ap (λ (x : Checked). outcomeBy x link turned buffer) e)
 
-module _ (end : Settings → Tallied) (rooms : Rooms) (buffer : List ℕ) (l : Log) where
-  by-case : (l′ : Log) (x : Reported) → l ≡ l′ → x ≡ reportBy l′ end rooms buffer → x ≡ reportBy l end rooms buffer
-  by-case l′ x n e = e ∙ ap (λ (y : Log). reportBy y end rooms buffer) (sym n)
-
-  pub too-long : (o : Outcome) → l ≡ log'.TooLong → o ≡ written (bytes "refused 9\n") buffer → reported o rooms ≡ reportBy l end rooms buffer
-  too-long o n e = by-case log'.TooLong (reported o rooms) n (ap (λ (x : Outcome). reported x rooms) e)
-
-  pub bad-trailer : (o : Outcome) → l ≡ log'.BadTrailer → o ≡ written (bytes "refused 7\n") buffer → reported o rooms ≡ reportBy l end rooms buffer
-  bad-trailer o n e = by-case log'.BadTrailer (reported o rooms) n (ap (λ (x : Outcome). reported x rooms) e)
-
-  pub bad-record : (i : ℕ) (o : Outcome) → l ≡ log'.BadRecord i → o ≡ written (bytes "refused 8 at " ++ decimal i ++ newline) buffer → reported o rooms ≡ reportBy l end rooms buffer
-  bad-record i o n e = by-case (log'.BadRecord i) (reported o rooms) n (ap (λ (x : Outcome). reported x rooms) e)
-
-  pub good-log : (s : Settings) (x : Reported) → l ≡ log'.Good s → x ≡ reported (written (playedText s (end s)) buffer) (end s .standing .rooms) → x ≡ reportBy l end rooms buffer
-  good-log s x n e = by-case (log'.Good s) x n e
-
--- ---- the sizes of the rooms
-
+-- the buffer of rooms that fit
 and-right : (a b : Bool) → a && b ≡ true → b ≡ true
 and-right true b e = e
 and-right false true e = refl
 and-right false false e = e
 
-module _ (log secret : List ℕ) (queue : List Probe) (rooms : Rooms) (buffer : List ℕ) (fit : Bool) (f : fit ≡ fits rooms buffer) where
-  pub wrong-report : fit ≡ false → reported (outcome (Refused 5) buffer) rooms ≡ reportOfLog log secret queue rooms buffer
-  unfolding outcome reportOfLog
-  wrong-report n = sym (ap (λ (b : Bool). pickReported b (reportBy (logOf log) (endOf log secret queue rooms) rooms buffer) (reported (wrong buffer) rooms)) (sym f ∙ n))
+buffer-fits : (queue : List Probe) (r : Rooms) (buffer : List ℕ) → true ≡ fits queue r buffer → eqb (length buffer) reportRoom ≡ true
+buffer-fits queue r buffer y =
+    and-right
+    (eqb (length queue) capacity && eqb (length (r .keys)) capacity && eqb (length (r .slots)) capacity && eqb (length (r .probes)) capacity && eqb (length (r .offsets)) capacity && eqb (length (r .links)) capacity)
+    (eqb (length buffer) reportRoom)
+    (sym y)
 
-  pub checked-report : (l : Log) (x : Reported) → fit ≡ true → l ≡ logOf log → x ≡ reportBy l (endOf log secret queue rooms) rooms buffer → x ≡ reportOfLog log secret queue rooms buffer
-  unfolding reportOfLog
-  checked-report l x y c e =
-      e ∙ ap (λ (z : Log). reportBy z (endOf log secret queue rooms) rooms buffer) c
-      ∙ sym (ap (λ (b : Bool). pickReported b (reportBy (logOf log) (endOf log secret queue rooms) rooms buffer) (reported (wrong buffer) rooms)) (sym f ∙ y))
+module _ (log secret : List ℕ) (queue : List Probe) (rooms : Rooms) (buffer : List ℕ) where
+  -- what is left after the records that the check lets through, and the answer, are the report by the check
+  reports-by : (fit : Bool) → fit ≡ fits queue rooms buffer → (l : Log) (t : Tallied) (o : Outcome)
+      → t ≡ tallied log (startBy (settingsBy (checkedBy fit l)) secret queue rooms) (settingsBy (checkedBy fit l) .count)
+      → o ≡ outcomeBy (checkedBy fit l) (t .standing .link) (t .turned) buffer
+      → reported o (t .standing .queue) (t .standing .rooms) ≡ reportBy (checkedBy fit l) (endOf log secret queue rooms) queue rooms buffer
+  unfolding tallied endOf reportOf
+  reports-by false f l t o e a = λ j. reported (a j) (e j .standing .queue) (e j .standing .rooms)
+  reports-by true f log'.TooLong t o e a = λ j. reported (a j) (e j .standing .queue) (e j .standing .rooms)
+  reports-by true f log'.BadTrailer t o e a = λ j. reported (a j) (e j .standing .queue) (e j .standing .rooms)
+  reports-by true f (log'.BadRecord n) t o e a = λ j. reported (a j) (e j .standing .queue) (e j .standing .rooms)
+  reports-by true f (log'.Good s) t o e a =
+      let text : o ≡ written (playedText s t) buffer = a ∙ ap (λ (b : Bool). pickOutcome b (written (playedText s t) buffer) (wrong buffer)) (buffer-fits queue rooms buffer f) in
+      ap (λ (x : Outcome). reported x (t .standing .queue) (t .standing .rooms)) text
+      ∙ ap (λ (x : Tallied). reported (written (playedText s x) buffer) (x .standing .queue) (x .standing .rooms)) e
 
-  pub buffer-fits : fit ≡ true → length buffer ≡ 1024
-  buffer-fits y =
-      eqb-true (length buffer) reportRoom
-      (and-right
-      (eqb (length (rooms .keys)) capacity && eqb (length (rooms .slots)) capacity && eqb (length (rooms .probes)) capacity && eqb (length (rooms .offsets)) capacity && eqb (length (rooms .links)) capacity)
-      (eqb (length buffer) reportRoom)
-      (sym f ∙ y))
+-- the call, in the order of its parts
+pub reports : (log secret : List ℕ) (keys slots probes : List (List ℕ)) (offsets : List ℕ) (links : List (List ℕ)) (queue : List Probe) (text : List ℕ)
+    (fit : Bool) (found : Log) (checked : Checked) (settings : Settings) (start : Link) (count : ℕ)
+    (tally : Tally) (keys′ slots′ probes′ : List (List ℕ)) (offsets′ : List ℕ) (links′ : List (List ℕ)) (queue′ : List Probe) (r : Answer) (text′ : List ℕ)
+    → fit ≡ fits queue (roomsOf keys slots probes offsets links) text → found ≡ logOf log → checked ≡ checkedBy fit found → settings ≡ settingsBy checked → start ≡ linkBy settings secret → count ≡ settings .count
+    → tallyOf (standingOf (tally .link) queue′ (roomsOf keys′ slots′ probes′ offsets′ links′)) (tally .turned) ≡ tallied log (tallyOf (standingOf start queue (roomsOf keys slots probes offsets links)) 0) count
+    → outcome r text′ ≡ outcomeBy checked (tally .link) (tally .turned) text
+    → reported (outcome r text′) queue′ (roomsOf keys′ slots′ probes′ offsets′ links′) ≡ reportOfLog log secret queue (roomsOf keys slots probes offsets links) text
+unfolding reportOfLog
+reports log secret keys slots probes offsets links queue text fit found checked settings start count tally keys′ slots′ probes′ offsets′ links′ queue′ r text′ ef el ec es eb en et eo =
+    let rooms = roomsOf keys slots probes offsets links in
+    let t = tallyOf (standingOf (tally .link) queue′ (roomsOf keys′ slots′ probes′ offsets′ links′)) (tally .turned) in
+    let set : settings ≡ settingsBy (checkedBy fit found) = es ∙ ap settingsBy ec in
+    let begun : start ≡ linkBy (settingsBy (checkedBy fit found)) secret = eb ∙ ap (λ (s : Settings). linkBy s secret) set in
+    let many : count ≡ settingsBy (checkedBy fit found) .count = en ∙ ap (λ (s : Settings). s .count) set in
+    let left : t ≡ tallied log (startBy (settingsBy (checkedBy fit found)) secret queue rooms) (settingsBy (checkedBy fit found) .count) = et ∙ (λ j. tallied log (tallyOf (standingOf (begun j) queue rooms) 0) (many j)) in
+    let told : outcome r text′ ≡ outcomeBy (checkedBy fit found) (tally .link) (tally .turned) text = eo ∙ ap (λ (c : Checked). outcomeBy c (tally .link) (tally .turned) text) ec in
+    reports-by log secret queue rooms text fit ef found t (outcome r text′) left told
+    ∙ (λ j. reportBy (checkedBy (ef j) (el j)) (endOf log secret queue rooms) queue rooms text)
+
+-- with a queue of its own
+pub reports-alone : (log secret : List ℕ) (keys slots probes : List (List ℕ)) (offsets : List ℕ) (links : List (List ℕ)) (text : List ℕ)
+    (queue : List Probe) (r : Answer) (keys′ slots′ probes′ : List (List ℕ)) (offsets′ : List ℕ) (links′ : List (List ℕ)) (queue′ : List Probe) (text′ : List ℕ) → queue ≡ emptyQueue
+    → reported (outcome r text′) queue′ (roomsOf keys′ slots′ probes′ offsets′ links′) ≡ reportOfLog log secret queue (roomsOf keys slots probes offsets links) text
+    → (outcome r text′ ≡ reportOfLog log secret emptyQueue (roomsOf keys slots probes offsets links) text .outcome) × (roomsOf keys′ slots′ probes′ offsets′ links′ ≡ reportOfLog log secret emptyQueue (roomsOf keys slots probes offsets links) text .rooms)
+reports-alone log secret keys slots probes offsets links text queue r keys′ slots′ probes′ offsets′ links′ queue′ text′ eq e =
+    let k = e ∙ ap (λ (q : List Probe). reportOfLog log secret q (roomsOf keys slots probes offsets links) text) eq in
+    (ap (λ (x : Reported). x .outcome) k, ap (λ (x : Reported). x .rooms) k)

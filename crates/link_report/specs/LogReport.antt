@@ -1,29 +1,31 @@
--- The report of a log (document 01, 'Log and program'): its records played on a link that is made fresh, or why it is refused.
+-- The report of a log (document 01, 'Log and program'): its records played on a link that is made fresh, or the number with which it is refused.
 -- Assumes nothing.
 use mathlib.Core.Bool.{Bool, true, false, _&&_}
-use mathlib.Core.List.{List, _++_}
+use mathlib.Core.List.{List, []}
 use Prim.Native.Nat.{ℕ, zero, suc}
 use lib.Dec.{eqb}
-use lib.ListN.{length}
+use lib.ListN.{length, replicate}
 use Rattle.scope.specs.Limits.{capacity}
-use Rattle.decimal.specs.Decimal.{decimal}
+use Rattle.scope.specs.Refusals.{wrongRoom}
 use Rattle.probe_queue.specs.declared.Probe.{Probe}
+use Rattle.probe_queue.specs.Queue.{nil}
 use Rattle.monitor.specs.Operations.{fresh}
 use Rattle.ledger_state.specs.State.{freshLedger}
 use Rattle.ledger_steps.specs.Rooms.{Rooms}
 use Rattle.link_steps.specs.declared.Watch.{Watch}
 use Rattle.link_steps.specs.declared.Watch.the-variants.{Absent, Present}
 use Rattle.link_steps.specs.declared.Link.{Link}
+use Rattle.log_record.specs.Records.{badRecord}
 use Rattle.link_log.specs.declared.Settings.{Settings}
 use Rattle.link_log.specs.declared.Log.{Log}
 use Rattle.link_log.specs.declared.Log.the-variants as log'
-use Rattle.link_log.specs.Logs.{logOf}
-use Rattle.link_play.specs.Played.{standingOf}
-use Rattle.link_tally.specs.Tally.{Tallied, tallied}
-use Rattle.report.specs.Text.{bytes}
-use Rattle.report.specs.Lines.{newline, textOf}
-use Rattle.report.specs.Report.{Outcome, reportRoom, written, wrong}
+use Rattle.link_log.specs.Logs.{tooLong, badTrailer, logOf}
+use Rattle.link_tally.specs.Tally.{standingOf, Tallied, tallied}
+use Rattle.report.specs.Lines.{textOf}
+use Rattle.report.specs.Report.{Outcome, reportRoom, written, reportOf}
 use Rattle.link_figures.specs.Figures.{figuresOf}
+use Rattle.link_report.specs.declared.Checked.{Checked}
+use Rattle.link_report.specs.declared.Checked.the-variants.{Refused, Good}
 
 -- ---- the records played
 
@@ -44,56 +46,68 @@ startBy s secret queue rooms = record { standing = standingOf (linkBy s secret) 
 unfoldable pub endOf : List ℕ → List ℕ → List Probe → Rooms → Settings → Tallied
 endOf log secret queue rooms s = tallied log (startBy s secret queue rooms) (s .count)
 
--- ---- what is printed
-
 -- the report of a link and of how many records it turned away
 abbrev pub playedText : Settings → Tallied → List ℕ
 playedText s t = textOf (figuresOf (t .standing .link) (s .count) (t .turned))
 
--- "prints `refused 9`, `refused 7` or `refused 8 at N`; else as here"
-abbrev pub textBy : Log → (Settings → Tallied) → List ℕ
-textBy log'.TooLong end = bytes "refused 9\n"
-textBy log'.BadTrailer end = bytes "refused 7\n"
-textBy (log'.BadRecord n) end = bytes "refused 8 at " ++ decimal n ++ newline
-textBy (log'.Good s) end = playedText s (end s)
+-- ---- what is refused
 
--- no record of a log that is refused is played
-abbrev pub roomsBy : Log → (Settings → Tallied) → Rooms → Rooms
-roomsBy log'.TooLong end rooms = rooms
-roomsBy log'.BadTrailer end rooms = rooms
-roomsBy (log'.BadRecord n) end rooms = rooms
-roomsBy (log'.Good s) end rooms = end s .standing .rooms
+-- "9 above 65,536 bytes, 7 bad trailer, 8 bad record (first, from 0); tested in that order before any record is played"
+abbrev pub checkedOf : Log → Checked
+checkedOf log'.TooLong = Refused tooLong
+checkedOf log'.BadTrailer = Refused badTrailer
+checkedOf (log'.BadRecord n) = Refused badRecord
+checkedOf (log'.Good s) = Good s
+
+-- before these, 5 where a room has another size
+abbrev pub checkedBy : Bool → Log → Checked
+checkedBy true l = checkedOf l
+checkedBy false l = Refused wrongRoom
+
+-- what is played: no record of a log that is refused
+abbrev pub settingsBy : Checked → Settings
+settingsBy (Refused n) = record { copies = 0; threshold = 0; timeout = 0; count = 0; start = 0 }
+settingsBy (Good s) = s
+
+-- a refusal's number only, and the buffer as it was
+abbrev pub refusedWith : ℕ → List ℕ → Outcome
+refusedWith n buffer = record { number = n; values = []; buffer = buffer }
+
+-- the refusal, or the report of a link and of how many records it turned away
+abbrev pub outcomeBy : Checked → Link → ℕ → List ℕ → Outcome
+outcomeBy (Refused n) link turned buffer = refusedWith n buffer
+outcomeBy (Good s) link turned buffer = reportOf buffer (figuresOf link (s .count) turned)
 
 -- ---- what the call leaves
 
--- the answer with the buffer, and the rooms
+-- the answer with the buffer, the rooms and the queue
 pub record Reported : Type 0 where
   pub outcome : Outcome
+  pub queue : List Probe
   pub rooms : Rooms
 
 -- these
-abbrev pub reported : Outcome → Rooms → Reported
-reported o rooms = record { outcome = o; rooms = rooms }
+abbrev pub reported : Outcome → List Probe → Rooms → Reported
+reported o queue rooms = record { outcome = o; queue = queue; rooms = rooms }
 
--- where all sizes are right: the log's text in the buffer and its length, and the rooms after its records
-abbrev pub reportBy : Log → (Settings → Tallied) → Rooms → List ℕ → Reported
-reportBy l end rooms buffer = reported (written (textBy l end) buffer) (roomsBy l end rooms)
+-- a refusal changes nothing; else the text in the buffer and its length, and what the records leave
+abbrev pub reportBy : Checked → (Settings → Tallied) → List Probe → Rooms → List ℕ → Reported
+reportBy (Refused n) end queue rooms buffer = reported (refusedWith n buffer) queue rooms
+reportBy (Good s) end queue rooms buffer = reported (written (playedText s (end s)) buffer) (end s .standing .queue) (end s .standing .rooms)
 
 -- every room has its size
-abbrev pub roomsFit : ℕ → ℕ → ℕ → ℕ → ℕ → ℕ → Bool
-roomsFit keys slots probes offsets links buffer =
-    eqb keys capacity && eqb slots capacity && eqb probes capacity && eqb offsets capacity && eqb links capacity && eqb buffer reportRoom
+abbrev pub roomsFit : ℕ → ℕ → ℕ → ℕ → ℕ → ℕ → ℕ → Bool
+roomsFit queue keys slots probes offsets links buffer =
+    eqb queue capacity && eqb keys capacity && eqb slots capacity && eqb probes capacity && eqb offsets capacity && eqb links capacity && eqb buffer reportRoom
 
--- the same of the rooms themselves and of the buffer: 4,096 entries each, and 1,024 bytes
-abbrev pub fits : Rooms → List ℕ → Bool
-fits r buffer = roomsFit (length (r .keys)) (length (r .slots)) (length (r .probes)) (length (r .offsets)) (length (r .links)) (length buffer)
+-- the same of the rooms themselves, the queue and the buffer: 4,096 entries each, and 1,024 bytes
+abbrev pub fits : List Probe → Rooms → List ℕ → Bool
+fits queue r buffer = roomsFit (length queue) (length (r .keys)) (length (r .slots)) (length (r .probes)) (length (r .offsets)) (length (r .links)) (length buffer)
 
--- the first where the test holds, and otherwise the second
-abbrev pub pickReported : Bool → Reported → Reported → Reported
-pickReported true a b = a
-pickReported false a b = b
-
--- The text of a log's report in the buffer, and what its records leave in the rooms; nothing is changed where a room has another size.
+-- The text of a log's report in the buffer, and what its records leave in the rooms; nothing is changed where it is refused.
 unfoldable pub reportOfLog : List ℕ → List ℕ → List Probe → Rooms → List ℕ → Reported
-reportOfLog log secret queue rooms buffer =
-    pickReported (fits rooms buffer) (reportBy (logOf log) (endOf log secret queue rooms) rooms buffer) (reported (wrong buffer) rooms)
+reportOfLog log secret queue rooms buffer = reportBy (checkedBy (fits queue rooms buffer) (logOf log)) (endOf log secret queue rooms) queue rooms buffer
+
+-- the queue that a program lends: one in which nothing was ever written
+abbrev pub emptyQueue : List Probe
+emptyQueue = replicate capacity nil

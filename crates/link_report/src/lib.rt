@@ -1,16 +1,10 @@
-// The report of a log: its records played on a link that is made fresh, and its figures as text; or why the log is refused.
+// The report of a log: its records played on a link that is made fresh, and its figures as text; or the number with which the log is refused.
+// The queue is lent, so that `report_log` is a straight line of calls: of a log that is refused no record is played, and nothing is written.
 ghost use mathlib.Core.Path.{_≡_};
-ghost use mathlib.Core.List.{_++_};
-ghost use Prim.Native.Nat.{_≤_};
-ghost use lib.ListN.{length};
-ghost use Rattle.decimal.specs.Decimal.{decimal};
-ghost use Rattle.report.specs.Text.{bytes};
-ghost use Rattle.report.specs.Lines.{newline};
-ghost use Rattle.report.specs.Report.{outcome, written, reportOf};
+ghost use Rattle.report.specs.Report.{outcome, reportOf};
 ghost use Rattle.link_figures.specs.Figures.{figuresOf};
-ghost use Rattle.link_play.specs.Played.{roomsOf};
-ghost use Rattle.link_tally.specs.Tally.{tallyOf};
-ghost use Rattle.link_report.specs.LogReport.{watchBy, linkBy, endOf, playedText, reported, reportBy, roomsFit, reportOfLog};
+ghost use Rattle.link_parts.specs.Parts.{roomsOf};
+ghost use Rattle.link_report.specs.LogReport.{watchBy, linkBy, checkedOf, checkedBy, settingsBy, outcomeBy, emptyQueue, reported, roomsFit, reportOfLog};
 use link_log::Log;
 use link_log::Settings;
 use link_steps::Link;
@@ -21,7 +15,85 @@ use probe_queue::Probe;
 use report::Answer;
 use scope::CAPACITY;
 
-// ---- the records played
+// Document 01's answers to bytes that are no log.
+const TOO_LONG: u8 = 9;
+
+const BAD_TRAILER: u8 = 7;
+
+const BAD_RECORD: u8 = 8;
+
+// Why nothing is played, or what the log's link is made of.
+pub enum Checked {
+    Refused(u8),
+    Good(Settings),
+}
+
+// ---- the check
+
+fn rooms_fit(
+    queue: usize,
+    keys: usize,
+    slots: usize,
+    probes: usize,
+    offsets: usize,
+    links: usize,
+    text: usize,
+) -> bool
+    ensures { λ r. ⌜ r ≡ roomsFit queue keys slots probes offsets links text ⌝ }
+{
+    (queue == CAPACITY)
+        & (keys == CAPACITY)
+        & (slots == CAPACITY)
+        & (probes == CAPACITY)
+        & (offsets == CAPACITY)
+        & (links == CAPACITY)
+        & (text == report::REPORT_ROOM)
+}
+
+fn checked_of(found: Log) -> Checked
+    ensures { λ r. ⌜ r ≡ checkedOf found ⌝ }
+{
+    match found {
+        Log::TooLong => Checked::Refused(TOO_LONG),
+        Log::BadTrailer => Checked::Refused(BAD_TRAILER),
+        Log::BadRecord(_) => Checked::Refused(BAD_RECORD),
+        Log::Good(settings) => Checked::Good(settings),
+    }
+}
+
+// A room of another size comes before what is wrong with the log.
+fn checked_by(fit: bool, found: Log) -> Checked
+    ensures { λ r. ⌜ r ≡ checkedBy fit found ⌝ }
+{
+    if fit {
+        return checked_of(found);
+    }
+    Checked::Refused(scope::WRONG_ROOM)
+}
+
+// Those of a log with no record, where it is refused.
+fn settings_of(checked: Checked) -> Settings
+    ensures { λ r. ⌜ r ≡ settingsBy checked ⌝ }
+{
+    match checked {
+        Checked::Refused(_) => Settings {
+            copies: 0,
+            threshold: 0,
+            timeout: 0,
+            count: 0,
+            start: 0,
+        },
+        Checked::Good(settings) => settings,
+    }
+}
+
+fn count_of(settings: Settings) -> u32
+    ensures { λ r. ⌜ r ≡ settings .count ⌝ }
+{
+    settings.count
+}
+
+// ---- the link
 
 fn watch_by(threshold: u16, timeout: u64) -> Watch
     ensures { λ r. ⌜ r ≡ watchBy threshold timeout ⌝ }
@@ -33,43 +105,13 @@ fn watch_by(threshold: u16, timeout: u64) -> Watch
     Watch::Present(monitor)
 }
 
-fn link_by(settings: Settings, secret: [u32; 8]) -> Link
-    ensures { λ r. ⌜ r ≡ linkBy settings secret ⌝ }
+fn link_by(settings: Settings, secret: &[u32; 8]) -> Link
+    ensures { λ r. ⌜ r ≡ linkBy settings (now (secret .entry)) ⌝ }
 {
-    let ledger = ledger_state::fresh(settings.copies, secret);
+    let words = *secret;
+    let ledger = ledger_state::fresh(settings.copies, words);
     let watch = watch_by(settings.threshold, settings.timeout);
     Link { ledger, watch }
-}
-
-fn play(
-    log: &[u8],
-    settings: Settings,
-    secret: [u32; 8],
-    queue: [Probe; 4096],
-    keys: &mut [[u64; 2]],
-    slots: &mut [[u64; 3]],
-    probes: &mut [[u64; 4]],
-    offsets: &mut [u32],
-    links: &mut [[u16; 8]],
-) -> Tally
-    ensures { λ r. ⌜ tallyOf r (roomsOf (now (keys .exit)) (now (slots .exit)) (now (probes .exit)) (now (offsets .exit)) (now (links .exit))) ≡ endOf (now (log .entry)) secret queue (roomsOf (now (keys .entry)) (now (slots .entry)) (now (probes .entry)) (now (offsets .entry)) (now (links .entry))) settings ⌝ }
-{
-    let link = link_by(settings, secret);
-    let start = Tally {
-        link,
-        queue: queue,
-        turned: 0,
-    };
-    link_tally::play_records(
-        start,
-        log,
-        settings.count,
-        keys,
-        slots,
-        probes,
-        offsets,
-        links,
-    )
 }
 
 // ---- the text
@@ -82,123 +124,34 @@ fn write_played(text: &mut [u8], tally: Tally, count: u32) -> Answer
     report::report(text, figures)
 }
 
-fn write_words(text: &mut [u8], words: &[u8]) -> Answer
-    requires { ⌜ length (now words) ≤ length (now text) ⌝ }
-    ensures { λ r. ⌜ outcome r (now (text .exit)) ≡ written (now (words .entry)) (now (text .entry)) ⌝ }
+fn write_checked(text: &mut [u8], checked: Checked, tally: Tally) -> Answer
+    ensures { λ r. ⌜ outcome r (now (text .exit)) ≡ outcomeBy checked (tally .link) (tally .turned) (now (text .entry)) ⌝ }
 {
-    let end = report::words::put_text(text, 0, words);
-    Answer::Written(end)
-}
-
-fn write_bad_record(text: &mut [u8], first: u32) -> Answer
-    requires { ⌜ length (now text) ≡ 1024 ⌝ }
-    ensures { λ r. ⌜ outcome r (now (text .exit)) ≡ written (bytes "refused 8 at " ++ decimal first ++ newline) (now (text .entry)) ⌝ }
-{
-    let at = report::words::put_figure(text, 0, b"refused 8 at ", first as u64);
-    let end = report::words::put_text(text, at, b"\n");
-    Answer::Written(end)
+    match checked {
+        Checked::Refused(number) => Answer::Refused(number),
+        Checked::Good(settings) => write_played(text, tally, settings.count),
+    }
 }
 
 // ---- the report
 
-fn report_played(
-    log: &[u8],
-    settings: Settings,
-    secret: [u32; 8],
-    queue: [Probe; 4096],
-    keys: &mut [[u64; 2]],
-    slots: &mut [[u64; 3]],
-    probes: &mut [[u64; 4]],
-    offsets: &mut [u32],
-    links: &mut [[u16; 8]],
-    text: &mut [u8],
-) -> Answer
-    requires { ⌜ length (now text) ≡ 1024 ⌝ }
-    ensures { λ r. ⌜ reported (outcome r (now (text .exit))) (roomsOf (now (keys .exit)) (now (slots .exit)) (now (probes .exit)) (now (offsets .exit)) (now (links .exit))) ≡ reported (written (playedText settings (endOf (now (log .entry)) secret queue (roomsOf (now (keys .entry)) (now (slots .entry)) (now (probes .entry)) (now (offsets .entry)) (now (links .entry))) settings)) (now (text .entry))) (endOf (now (log .entry)) secret queue (roomsOf (now (keys .entry)) (now (slots .entry)) (now (probes .entry)) (now (offsets .entry)) (now (links .entry))) settings .standing .rooms) ⌝ }
-{
-    let tally = play(
-        log,
-        settings,
-        secret,
-        queue,
-        keys,
-        slots,
-        probes,
-        offsets,
-        links,
-    );
-    write_played(text, tally, settings.count)
-}
-
-fn report_checked(
-    checked: Log,
-    log: &[u8],
-    secret: [u32; 8],
-    queue: [Probe; 4096],
-    keys: &mut [[u64; 2]],
-    slots: &mut [[u64; 3]],
-    probes: &mut [[u64; 4]],
-    offsets: &mut [u32],
-    links: &mut [[u16; 8]],
-    text: &mut [u8],
-) -> Answer
-    requires { ⌜ length (now text) ≡ 1024 ⌝ }
-    ensures { λ r. ⌜ reported (outcome r (now (text .exit))) (roomsOf (now (keys .exit)) (now (slots .exit)) (now (probes .exit)) (now (offsets .exit)) (now (links .exit))) ≡ reportBy checked (endOf (now (log .entry)) secret queue (roomsOf (now (keys .entry)) (now (slots .entry)) (now (probes .entry)) (now (offsets .entry)) (now (links .entry)))) (roomsOf (now (keys .entry)) (now (slots .entry)) (now (probes .entry)) (now (offsets .entry)) (now (links .entry))) (now (text .entry)) ⌝ }
-{
-    match checked {
-        Log::TooLong => write_words(text, b"refused 9\n"),
-        Log::BadTrailer => write_words(text, b"refused 7\n"),
-        Log::BadRecord(first) => write_bad_record(text, first),
-        Log::Good(settings) => {
-            report_played(
-                log,
-                settings,
-                secret,
-                queue,
-                keys,
-                slots,
-                probes,
-                offsets,
-                links,
-                text,
-            )
-        }
-    }
-}
-
-fn rooms_fit(
-    keys: usize,
-    slots: usize,
-    probes: usize,
-    offsets: usize,
-    links: usize,
-    text: usize,
-) -> bool
-    ensures { λ r. ⌜ r ≡ roomsFit keys slots probes offsets links text ⌝ }
-{
-    (keys == CAPACITY)
-        & (slots == CAPACITY)
-        & (probes == CAPACITY)
-        & (offsets == CAPACITY)
-        & (links == CAPACITY)
-        & (text == report::REPORT_ROOM)
-}
-
-// The report of a log, at the start of the buffer. The rooms may hold anything; one of another size is refused, and then nothing is changed.
+// The report of a log, at the start of the buffer. The rooms may hold anything; 5 where one has another size, then 9, 7 or 8 of the log itself,
+// and nothing is changed.
 pub fn report_log(
     log: &[u8],
-    secret: [u32; 8],
-    queue: [Probe; 4096],
+    secret: &[u32; 8],
     keys: &mut [[u64; 2]],
     slots: &mut [[u64; 3]],
     probes: &mut [[u64; 4]],
     offsets: &mut [u32],
     links: &mut [[u16; 8]],
+    queue: &mut [Probe],
     text: &mut [u8],
 ) -> Answer
-    ensures { λ r. ⌜ reported (outcome r (now (text .exit))) (roomsOf (now (keys .exit)) (now (slots .exit)) (now (probes .exit)) (now (offsets .exit)) (now (links .exit))) ≡ reportOfLog (now (log .entry)) secret queue (roomsOf (now (keys .entry)) (now (slots .entry)) (now (probes .entry)) (now (offsets .entry)) (now (links .entry))) (now (text .entry)) ⌝ }
+    ensures { λ r. ⌜ reported (outcome r (now (text .exit))) (now (queue .exit)) (roomsOf (now (keys .exit)) (now (slots .exit)) (now (probes .exit)) (now (offsets .exit)) (now (links .exit))) ≡ reportOfLog (now (log .entry)) (now (secret .entry)) (now (queue .entry)) (roomsOf (now (keys .entry)) (now (slots .entry)) (now (probes .entry)) (now (offsets .entry)) (now (links .entry))) (now (text .entry)) ⌝ }
 {
     let fit = rooms_fit(
+        queue.len(),
         keys.len(),
         slots.len(),
         probes.len(),
@@ -206,20 +159,58 @@ pub fn report_log(
         links.len(),
         text.len(),
     );
-    if !fit {
-        return Answer::Refused(scope::WRONG_ROOM);
-    }
-    let checked = link_log::check(log);
-    report_checked(
-        checked,
+    let found = link_log::check(log);
+    let checked = checked_by(fit, found);
+    let settings = settings_of(checked);
+    let start = link_by(settings, secret);
+    let count = count_of(settings);
+    let tally = link_tally::play_records(
+        start,
         log,
-        secret,
-        queue,
+        count,
         keys,
         slots,
         probes,
         offsets,
         links,
+        queue,
+    );
+    write_checked(text, checked, tally)
+}
+
+fn empty_queue() -> [Probe; 4096]
+    ensures { λ r. ⌜ r ≡ emptyQueue ⌝ }
+{
+    [Probe {
+        sequence: 0,
+        deadline: 0,
+        mark: 0,
+    }; 4096]
+}
+
+// The same with a queue of its own, for programs: whoever calls it needs no walk.
+pub fn report_log_alone(
+    log: &[u8],
+    secret: &[u32; 8],
+    keys: &mut [[u64; 2]],
+    slots: &mut [[u64; 3]],
+    probes: &mut [[u64; 4]],
+    offsets: &mut [u32],
+    links: &mut [[u16; 8]],
+    text: &mut [u8],
+) -> Answer
+    ensures { λ r. ⌜ (outcome r (now (text .exit)) ≡ reportOfLog (now (log .entry)) (now (secret .entry)) emptyQueue (roomsOf (now (keys .entry)) (now (slots .entry)) (now (probes .entry)) (now (offsets .entry)) (now (links .entry))) (now (text .entry)) .outcome) × (roomsOf (now (keys .exit)) (now (slots .exit)) (now (probes .exit)) (now (offsets .exit)) (now (links .exit)) ≡ reportOfLog (now (log .entry)) (now (secret .entry)) emptyQueue (roomsOf (now (keys .entry)) (now (slots .entry)) (now (probes .entry)) (now (offsets .entry)) (now (links .entry))) (now (text .entry)) .rooms) ⌝ }
+{
+    let mut queue = empty_queue();
+    report_log(
+        log,
+        secret,
+        keys,
+        slots,
+        probes,
+        offsets,
+        links,
+        &mut queue,
         text,
     )
 }

@@ -1,26 +1,21 @@
 -- The contract determines the tally and every lent word: two exits that meet it are equal. Assumes nothing.
 use mathlib.Core.Path.{_≡_, sym, ap, _∙_}
-use contract.Lifetimes.{Lfts}
-use borrow.Fn.World as World
-use borrow.Fn.Kinds as Kinds'
-use denote.Triple.Clauses as Clauses
-use denote.Ref.{now}
-use Rattle.link_tally.specs.Tally.{Tallied}
-use Rattle.link_tally.proofs.play_records.{signature}
-use Rattle.link_tally.proofs.play_records.Kinds as K
-use Rattle.link_tally.proofs.play_records.Reads.{Post}
+use mathlib.Core.List.{List}
+use Prim.Native.Nat.{ℕ}
+use Rattle.probe_queue.specs.declared.Probe.{Probe}
+use Rattle.ledger_steps.specs.Rooms.{Rooms}
+use Rattle.link_steps.specs.declared.Link.{Link}
+use Rattle.link_tally.specs.declared.Tally.{Tally}
+use Rattle.link_tally.specs.Tally.{standingOf, Tallied, tallyOf, tallied}
 
--- the tally, and the five rooms
-pub play-records-unique :
-    (κs : Lfts 6) (a : World.ArgsD signature κs) (r₁ r₂ : World.ResD signature κs) (s₁ s₂ : Clauses.AtExit (Kinds'.endedOf 6 K.ps K.r) κs)
-    → Post κs a r₁ s₁ → Post κs a r₂ s₂
-    → (r₁ ≡ r₂) × (now (s₁ .1 .1 .1 .0) ≡ now (s₂ .1 .1 .1 .0)) × (now (s₁ .1 .1 .1 .1 .0) ≡ now (s₂ .1 .1 .1 .1 .0)) × (now (s₁ .1 .1 .1 .1 .1 .0) ≡ now (s₂ .1 .1 .1 .1 .1 .0)) × (now (s₁ .1 .1 .1 .1 .1 .1 .0) ≡ now (s₂ .1 .1 .1 .1 .1 .1 .0)) × (now (s₁ .1 .1 .1 .1 .1 .1 .1 .0) ≡ now (s₂ .1 .1 .1 .1 .1 .1 .1 .0))
-play-records-unique κs a r₁ r₂ s₁ s₂ p q =
+-- the tally, the queue and the five rooms
+pub play-records-unique : (log : List ℕ) (start : Link) (queue : List Probe) (rooms : Rooms) (count : ℕ) (r₁ r₂ : Tally) (queue₁ queue₂ : List Probe) (rooms₁ rooms₂ : Rooms)
+    → tallyOf (standingOf (r₁ .link) queue₁ rooms₁) (r₁ .turned) ≡ tallied log (tallyOf (standingOf start queue rooms) 0) count
+    → tallyOf (standingOf (r₂ .link) queue₂ rooms₂) (r₂ .turned) ≡ tallied log (tallyOf (standingOf start queue rooms) 0) count
+    → (r₁ ≡ r₂) × (queue₁ ≡ queue₂) × (rooms₁ ≡ rooms₂)
+play-records-unique log start queue rooms count r₁ r₂ queue₁ queue₂ rooms₁ rooms₂ p q =
     let e = p ∙ sym q in (
-      λ i. record { link = e i .standing .link; queue = e i .standing .queue; turned = e i .turned },
-      ap (λ (x : Tallied). x .standing .rooms .keys) e,
-      ap (λ (x : Tallied). x .standing .rooms .slots) e,
-      ap (λ (x : Tallied). x .standing .rooms .probes) e,
-      ap (λ (x : Tallied). x .standing .rooms .offsets) e,
-      ap (λ (x : Tallied). x .standing .rooms .links) e,
+      λ j. record { link = e j .standing .link; turned = e j .turned },
+      ap (λ (x : Tallied). x .standing .queue) e,
+      ap (λ (x : Tallied). x .standing .rooms) e,
     )

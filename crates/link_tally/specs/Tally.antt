@@ -1,24 +1,30 @@
 -- The records of a log one after the other: "a refused record counts as turned away and changes nothing else".
 -- Assumes nothing.
+use mathlib.Core.Path.{_≡_}
 use mathlib.Core.List.{List}
 use Prim.Native.Nat.{ℕ, zero, suc}
 use Rattle.calls.specs.declared.Call.{Call}
+use Rattle.probe_queue.specs.declared.Probe.{Probe}
 use Rattle.ledger_steps.specs.Rooms.{Rooms}
 use Rattle.link_log.specs.declared.Played.{Played}
 use Rattle.link_log.specs.declared.Played.the-variants as read
 use Rattle.link_log.specs.Logs.{callAt}
+use Rattle.link_steps.specs.declared.Link.{Link}
 use Rattle.link_steps.specs.Steps.{Standing, refuses, after, oneIf}
-use Rattle.link_play.specs.Played.{standingOf}
-use Rattle.link_tally.specs.declared.Tally.{Tally}
+use Rattle.link_tally.specs.declared.Step.{Step}
+
+-- a link with its queue and its ledger's rooms
+abbrev pub standingOf : Link → List Probe → Rooms → Standing
+standingOf link queue rooms = record { link = link; rooms = rooms; queue = queue }
 
 -- a link with all of its rooms, and how many records were turned away
 pub record Tallied : Type 0 where
   pub standing : Standing
   pub turned : ℕ
 
--- the tally of the code, with the rooms that it is lent
-abbrev pub tallyOf : Tally → Rooms → Tallied
-tallyOf t rooms = record { standing = standingOf (t .link) (t .queue) rooms; turned = t .turned }
+-- these
+abbrev pub tallyOf : Standing → ℕ → Tallied
+tallyOf k n = record { standing = k; turned = n }
 
 -- one call
 abbrev pub called : Tallied → Call → Tallied
@@ -33,3 +39,20 @@ recorded t (read.Call c) = called t c
 unfoldable pub tallied : List ℕ → Tallied → ℕ → Tallied
 tallied log t zero = t
 tallied log t (suc n) = recorded (tallied log t n) (callAt log n)
+
+-- ---- one record, as the code has it
+
+-- what it leaves: nothing is changed where the log has no such record
+abbrev pub afterRead : Standing → Played → Standing
+afterRead k read.Nothing = k
+afterRead k (read.Call c) = after k c
+
+-- why it is refused, or 0
+abbrev pub refusesRead : Standing → Played → ℕ
+refusesRead k read.Nothing = 0
+refusesRead k (read.Call c) = refuses k c
+
+-- both, of a step and what it left
+pub record Stepped (before : Standing) (r : Played) (s : Step) (left : Standing) : Type 0 where
+  pub stands : left ≡ afterRead before r
+  pub refused : s .refused ≡ refusesRead before r

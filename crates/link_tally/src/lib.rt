@@ -1,68 +1,74 @@
-// The records of a log, played one after the other on a link.
+// The records of a log, played one after the other on a link whose queue is lent: no room is copied.
+// A record is a straight line of calls: what depends on a test is in link_parts. Of the monitor's three calls at most one goes on, and one that does
+// not go on changes nothing, so that none stands behind a branch.
 ghost use mathlib.Core.Path.{_≡_};
-ghost use Prim.Native.Nat.{_^_, _≤_, _<_};
+ghost use Prim.Native.Nat.{_^_, _<_};
+ghost use lib.Dec.{eqb};
 ghost use Rattle.link_log.specs.Logs.{callAt};
 ghost use Rattle.link_steps.specs.Steps.{oneIf};
-ghost use Rattle.link_play.specs.Played.{roomsOf};
-ghost use Rattle.link_tally.specs.Tally.{tallyOf, called, recorded, tallied};
-use calls::Call;
+ghost use Rattle.link_parts.specs.Parts.{roomsOf, kindOf, idledIf, watchAfter};
+ghost use Rattle.link_tally.specs.Tally.{standingOf, tallyOf, tallied, Stepped};
 use link_log::Played as Read;
-use link_play::Played;
+use link_parts::Part;
 use link_steps::Link;
+use monitor::Monitor;
 use probe_queue::Probe;
 
-// A link with the room of its queue, and how many records were turned away so far.
+// The link after a record, and the number of the refusal or 0.
+pub struct Step {
+    pub link: Link,
+    pub refused: u8,
+}
+
+// A link, and how many records were turned away so far.
 pub struct Tally {
     pub link: Link,
-    pub queue: [Probe; 4096],
     pub turned: u64,
 }
 
-// A refused record counts as turned away.
-fn one_if(refused: u8, turned: u64) -> u64
-    requires { ⌜ turned < 2 ^ 63 ⌝ }
-    ensures { λ r. ⌜ r ≡ oneIf refused turned ⌝ }
+fn step_of(link: Link, read: Read, part: Part, monitor: Monitor) -> Step
+    ensures { λ r. ⌜ (r .link .ledger ≡ part .ledger) × (r .link .watch ≡ watchAfter (link .watch) (idledIf (eqb (kindOf read) 5) monitor)) × (r .refused ≡ part .refused) ⌝ }
 {
-    if refused == 0 {
+    let ledger = part.ledger;
+    let watch = link_parts::watch_after(
+        link,
+        link_parts::idled(monitor, link_parts::kind_of(read)),
+    );
+    Step {
+        link: Link { ledger, watch },
+        refused: part.refused,
+    }
+}
+
+fn link_of(step: Step) -> Link
+    ensures { λ r. ⌜ r ≡ step .link ⌝ }
+{
+    step.link
+}
+
+// A refused record counts as turned away.
+fn count_refused(step: Step, turned: u64) -> u64
+    requires { ⌜ turned < 2 ^ 63 ⌝ }
+    ensures { λ r. ⌜ r ≡ oneIf (step .refused) turned ⌝ }
+{
+    if step.refused == 0 {
         return turned;
     }
     turned + 1
 }
 
-fn count(played: Played, turned: u64) -> Tally
-    requires { ⌜ turned < 2 ^ 63 ⌝ }
-    ensures { λ r. ⌜ (r .link ≡ played .link) × (r .queue ≡ played .queue) × (r .turned ≡ oneIf (played .refused) turned) ⌝ }
+fn tally_of(link: Link, turned: u64) -> Tally
+    ensures { λ r. ⌜ (r .link ≡ link) × (r .turned ≡ turned) ⌝ }
 {
-    let link = played.link;
-    let queue = played.queue;
     Tally {
-        link,
-        queue: queue,
-        turned: one_if(played.refused, turned),
+        link: link,
+        turned: turned,
     }
 }
 
-fn play_call(
-    tally: Tally,
-    keys: &mut [[u64; 2]],
-    slots: &mut [[u64; 3]],
-    probes: &mut [[u64; 4]],
-    offsets: &mut [u32],
-    links: &mut [[u16; 8]],
-    call: Call,
-) -> Tally
-    requires { ⌜ tally .turned < 2 ^ 63 ⌝ }
-    ensures { λ r. ⌜ tallyOf r (roomsOf (now (keys .exit)) (now (slots .exit)) (now (probes .exit)) (now (offsets .exit)) (now (links .exit))) ≡ called (tallyOf tally (roomsOf (now (keys .entry)) (now (slots .entry)) (now (probes .entry)) (now (offsets .entry)) (now (links .entry)))) call ⌝ }
-{
-    let link = tally.link;
-    let queue = tally.queue;
-    let played = link_play::call(link, queue, keys, slots, probes, offsets, links, call);
-    count(played, tally.turned)
-}
-
 // Record i; nothing where the log has no such record.
-fn play_record(
-    tally: Tally,
+pub fn play_record(
+    link: Link,
     log: &[u8],
     i: u32,
     keys: &mut [[u64; 2]],
@@ -70,20 +76,29 @@ fn play_record(
     probes: &mut [[u64; 4]],
     offsets: &mut [u32],
     links: &mut [[u16; 8]],
-) -> Tally
-    requires { ⌜ tally .turned < 2 ^ 63 ⌝ }
-    ensures { λ r. ⌜ tallyOf r (roomsOf (now (keys .exit)) (now (slots .exit)) (now (probes .exit)) (now (offsets .exit)) (now (links .exit))) ≡ recorded (tallyOf tally (roomsOf (now (keys .entry)) (now (slots .entry)) (now (probes .entry)) (now (offsets .entry)) (now (links .entry)))) (callAt (now (log .entry)) i) ⌝ }
+    queue: &mut [Probe],
+) -> Step
+    ensures { λ r. ⌜ Stepped (standingOf link (now (queue .entry)) (roomsOf (now (keys .entry)) (now (slots .entry)) (now (probes .entry)) (now (offsets .entry)) (now (links .entry)))) (callAt (now (log .entry)) i) r (standingOf (r .link) (now (queue .exit)) (roomsOf (now (keys .exit)) (now (slots .exit)) (now (probes .exit)) (now (offsets .exit)) (now (links .exit)))) ⌝ }
 {
     let read = link_log::call_at(log, i);
-    match read {
-        Read::Nothing => tally,
-        Read::Call(call) => play_call(tally, keys, slots, probes, offsets, links, call),
-    }
+    let room = queue.len();
+    let other = link_parts::refusal_of(link, read, room);
+    let part = link_parts::ledger_part(other, link, read, keys, slots, probes, offsets, links);
+    let monitor = link_parts::monitor_of(link);
+    let sends = link_parts::goes(1, link, read, part);
+    let hears = link_parts::goes(2, link, read, part);
+    let advances = link_parts::goes(4, link, read, part);
+    let sequence = link_parts::sequence_of(read);
+    let time = link_parts::time_of(read);
+    let first = monitor.sent_if(sends, queue, sequence, time);
+    let second = first.reply_if(hears, queue, sequence);
+    let third = second.advance_if(advances, queue, time);
+    step_of(link, read, part, third)
 }
 
 // The first `count` records of a log.
 pub fn play_records(
-    start: Tally,
+    start: Link,
     log: &[u8],
     count: u32,
     keys: &mut [[u64; 2]],
@@ -91,15 +106,18 @@ pub fn play_records(
     probes: &mut [[u64; 4]],
     offsets: &mut [u32],
     links: &mut [[u16; 8]],
+    queue: &mut [Probe],
 ) -> Tally
-    requires { ⌜ start .turned ≡ 0 ⌝ }
-    ensures { λ r. ⌜ tallyOf r (roomsOf (now (keys .exit)) (now (slots .exit)) (now (probes .exit)) (now (offsets .exit)) (now (links .exit))) ≡ tallied (now (log .entry)) (tallyOf start (roomsOf (now (keys .entry)) (now (slots .entry)) (now (probes .entry)) (now (offsets .entry)) (now (links .entry)))) count ⌝ }
+    ensures { λ r. ⌜ tallyOf (standingOf (r .link) (now (queue .exit)) (roomsOf (now (keys .exit)) (now (slots .exit)) (now (probes .exit)) (now (offsets .exit)) (now (links .exit)))) (r .turned) ≡ tallied (now (log .entry)) (tallyOf (standingOf start (now (queue .entry)) (roomsOf (now (keys .entry)) (now (slots .entry)) (now (probes .entry)) (now (offsets .entry)) (now (links .entry)))) 0) count ⌝ }
 {
-    let mut tally = start;
+    let mut link = start;
+    let mut turned = 0;
     let mut i = 0;
     while i < count {
-        tally = play_record(tally, log, i, keys, slots, probes, offsets, links);
-        i += 1;
+        let step = play_record(link, log, i, keys, slots, probes, offsets, links, queue);
+        turned = count_refused(step, turned);
+        link = link_of(step);
+        i = i + 1;
     }
-    tally
+    tally_of(link, turned)
 }

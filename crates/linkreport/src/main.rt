@@ -1,5 +1,4 @@
 // Reads a log from standard input, and writes its report or why it is refused (document 01, 'Log and program').
-use report::Answer;
 
 // The words of the hash that places keys. They decide where a key is looked for, and no figure.
 fn secret() -> [u32; 8] {
@@ -15,32 +14,17 @@ fn secret() -> [u32; 8] {
     ]
 }
 
-fn write(text: &[u8], end: usize) {
-    if end > text.len() {
-        return;
-    }
-    io::write_all(1, &text[..end]);
-}
-
-fn answer_with(text: &[u8], answer: Answer) {
-    match answer {
-        Answer::Refused(_) => {}
-        Answer::Written(end) => write(text, end),
-    }
-}
-
 fn report(log: &[u8]) {
-    let queue = [probe_queue::absent(); 4096];
+    let words = secret();
     let mut keys = [[0u64; 2]; 4096];
     let mut slots = [[0u64; 3]; 4096];
     let mut probes = [[0u64; 4]; 4096];
     let mut offsets = [0u32; 4096];
     let mut links = [[0u16; 8]; 4096];
     let mut text = [0u8; 1024];
-    let answer = link_report::report_log(
+    let answer = link_report::report_log_alone(
         log,
-        secret(),
-        queue,
+        &words,
         &mut keys,
         &mut slots,
         &mut probes,
@@ -48,7 +32,7 @@ fn report(log: &[u8]) {
         &mut links,
         &mut text,
     );
-    answer_with(&text, answer);
+    log_print::print(log, &text, answer);
 }
 
 // One byte more than a log may have: all that is needed to refuse a longer one.

@@ -19,8 +19,8 @@ use Rattle.direct.specs.Outcomes as outcomes
 use Rattle.direct.specs.Shown as shown
 use Rattle.history.specs.Counting.{has}
 use Rattle.history.specs.Ledger.{events}
-use Rattle.history.specs.DirectLoss.{anchorOf, transmitOffset, seen, highest, senderMaximum, receivedMaximum, latest, missing, window, forwardMissing, Spans, spans, anchor, latestTransmit}
-use Rattle.history.proofs.Missing.{Distinct, Clean, above0, missing-present, present-distinct, largest-bounds, window-clean, shownReverse, highestLessSeen, reverse-missing-is}
+use Rattle.history.specs.DirectLoss.{anchorOf, transmitOffset, seen, highest, senderMaximum, receivedMaximum, latest, missing, window, forwardMissing, Spans, spans, anchor, latestTransmit, above0, shownReverse, highestLessSeen}
+use Rattle.history.proofs.Missing.{Distinct, Clean, missing-present, present-distinct, largest-bounds, window-clean, reverse-missing-is}
 use Rattle.observe_history.specs.Direct.{epochOf, windowOf, packetsOf, pointOf, spansShown, since, summaryFrom, DirectFollows}
 use Rattle.observe_history.proofs.Windows.{offset-same, offset-self, latest-highest, or-true}
 

@@ -13,12 +13,13 @@ use Rattle.calls.specs.declared.Call.the-variants.{Sent, Accept, Observe, Advan
 use Rattle.chains.specs.Hash.{numberHash}
 use Rattle.chains.proofs.Hashes.{key-hash-below, number-hash-below}
 use Rattle.chains.proofs.Tests.{true-not-false}
-use Rattle.delays.specs.Summary.{summaryOf}
+use Rattle.delays.specs.Summary as delays
+use Rattle.direct.specs.Shown as direct
+use Rattle.follow_ups.specs.Shown as follow_ups
 use Rattle.key_ring.specs.Keys.{numbersOf}
 use Rattle.key_ring.specs.Table.{newestIs, hashOf}
 use Rattle.history.specs.Ledger.{copiesOf}
 use Rattle.history.specs.Figures.{roundTripFigures, delayFigures}
-use Rattle.ledger_state.specs.Shown.{snapshotOf}
 use Rattle.ledger_steps.specs.Rooms.{Rooms, Stand}
 use Rattle.ledger_steps.specs.Observe.{observeIn}
 use Rattle.reply_history.specs.Fits.{CallFits, AllFit}
@@ -98,15 +99,14 @@ module _ (N : ℕ) (some-room : 0 < N) (few : N < 65535) (byKey : ReplyKey → �
     }
 
     -- WHAT IS SHOWN is what the history calls for: the round trips, direct loss with reverse missing, and the follow-ups.
-    pub shown-follows : (snapshotOf (s .ledger) .rtt ≡ shownFrom (roundTripFigures N h)) × (snapshotOf (s .ledger) .direct ≡ summaryFrom N h)
-        × (snapshotOf (s .ledger) .follow ≡ followShownFrom N copies h)
-    unfolding snapshotOf
+    pub shown-follows : (delays.summaryOf (s .ledger .counts .rtt) ≡ shownFrom (roundTripFigures N h)) × (direct.summaryOf (s .ledger .counts .direct) ≡ summaryFrom N h)
+        × (follow_ups.summaryOf (s .ledger .counts .follow) ≡ followShownFrom N copies h)
     shown-follows = (
       trips-show N byKey byNumber h (s .ledger) (s .rooms .keys) (s .rooms .slots) (s .rooms .probes) (s .rooms .offsets) (s .rooms .links) (f .round-trips),
       direct-shows N byNumber h (s .ledger .counts .direct) (s .rooms .offsets) (s .rooms .links) (f .direct),
       λ i. record {
         counts = f .follow-ups .figures .counts i;
-        delay = (ap summaryOf (f .follow-ups .figures .delay) ∙ delays-shown (delayFigures N copies h)) i;
+        delay = (ap delays.summaryOf (f .follow-ups .figures .delay) ∙ delays-shown (delayFigures N copies h)) i;
         quality = f .follow-ups .figures .quality i;
       },
     )

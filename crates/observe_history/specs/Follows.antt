@@ -10,7 +10,7 @@ use Rattle.calls.specs.declared.Call.{Call}
 use Rattle.calls.specs.declared.Call.the-variants.{Sent, Accept, Observe, Advance, Idle}
 use Rattle.ranges.specs.Ranges.{inRange}
 use Rattle.key_ring.specs.Table.{newestIs}
-use Rattle.ledger_state.specs.declared.snapshot.FollowUpSummary.{FollowUpSummary}
+use Rattle.follow_ups.specs.declared.summary.FollowUpSummary.{FollowUpSummary}
 use Rattle.ledger_steps.specs.Rooms.{Stand}
 use Rattle.history.specs.FollowUps.{followCounts}
 use Rattle.history.specs.Figures.{delayFigures, clockQuality}

@@ -1,7 +1,6 @@
 // Plays many logs, and writes the report of each as linkreport prints it, with a 0 byte behind it.
 // A log comes as its length, eight bytes with the lowest first, and its bytes. compare/src/parts/logs plays the same logs on the original.
 ghost use Prim.Native.Nat.{_≤_};
-use report::Answer;
 
 // A length, or the end of the logs.
 enum Next {
@@ -27,14 +26,30 @@ fn least(length: u64, most: usize) -> usize
     most
 }
 
-// How much of the buffer is to be written.
-fn size_of(answer: Answer, most: usize) -> usize
-    ensures { λ r. ⌜ r ≤ most ⌝ }
-{
-    match answer {
-        Answer::Written(size) => least(size as u64, most),
-        Answer::Refused(_) => 0,
-    }
+// Plays a log and prints what is said of it.
+fn report(
+    log: &[u8],
+    secret: u32,
+    keys: &mut [[u64; 2]],
+    slots: &mut [[u64; 3]],
+    probes: &mut [[u64; 4]],
+    offsets: &mut [u32],
+    links: &mut [[u16; 8]],
+    text: &mut [u8],
+) {
+    let words = [secret; 8];
+    let answer = link_report::report_log_alone(
+        log,
+        &words,
+        keys,
+        slots,
+        probes,
+        offsets,
+        links,
+        text,
+    );
+    log_print::print(log, text, answer);
+    io::write_all(1, &[0u8]);
 }
 
 // Reads a log of this length, or as much of it as the room holds, and writes its report.
@@ -51,11 +66,9 @@ fn turn(
 ) {
     let size = least(length, room.len());
     io::read_full(0, &mut room[..size]);
-    let queue = [probe_queue::absent(); 4096];
-    let answer = link_report::report_log(
+    report(
         &room[..size],
-        [secret; 8],
-        queue,
+        secret,
         keys,
         slots,
         probes,
@@ -63,9 +76,6 @@ fn turn(
         links,
         text,
     );
-    let end = size_of(answer, text.len());
-    io::write_all(1, &text[..end]);
-    io::write_all(1, &[0u8]);
 }
 
 // A room is handed from log to log as the last one left it, and each log has another secret: no report may depend on either.

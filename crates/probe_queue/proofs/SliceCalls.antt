@@ -17,7 +17,7 @@ use prog.Wp.{Heap, Env, Calls, Loops}
 use ghost.Atoms.{Atoms, sem}
 use contract.Monad.{fact}
 use sound.WpLaws.{FmC}
-use types.Kit.{Given, Item, ‵, raw, _⊛_, some, later, Post, runs, lands, Seq, _$_, use1, use2, use3, await, pick, split, join, move, fsplit, feqL}
+use types.Kit.{Given, Item, ‵, raw, _⊛_, some, later, Post, runs, lands, Seq, _$_, use1, use2, use3, await, pick, split, join, move, drop, fsplit, feqL}
 use types.Run.{Opds}
 use types.Tokens.{lft-new, lft-end}
 use denote.RattleType.{RattleType}
@@ -32,7 +32,7 @@ use denote.Triple.Spec.{tripleOf}
 use denote.Triple.Clauses.{Ended, Clauses, Lasts, AtExit, atExit, closing, lasts}
 use denote.Triple.Call.{calls-at}
 use Rattle.probe_queue.proofs.Again.{LentAgain, lends-again, comes-back}
-use Rattle.probe_queue.proofs.Calls.{calls-with}
+use Rattle.walking.proofs.Calls.{calls-gave}
 use Rattle.probe_queue.proofs.Seen.{LentSeen, lends-seen, seen-back}
 
 -- the slice at (b, o) under the name δ at the list l, and its machine value
@@ -79,5 +79,5 @@ module _ {M : Type 1} {𝓤 : URA M} {H : Heap 𝓤} {A : Atoms 𝓤} {K : Type 
   calls-seen t fm T c known R b o ys room y into back ψ out os k =
       lft-new t tt (λ ν. move t (2 ∷ 1 ∷ []) $
       use2 W (later (some (λ (δ : GName). ‵ (ShrSlice (named 0) (ν ∷ []) R .own (at-list b o δ ys) (sliced-val b o ys)) ⊛ ‵ (LentSeen R κ (ν ∷ []) q γ b o ys)))) (lends-seen R κ (ν ∷ []) q γ b o ys 𝓤 H A W (named 0) (named 0)) $ await t tt $ pick t (λ δ. split t $
-      move t (2 ∷ 0 ∷ []) $ join t $ calls-with t fm T c known (y ν δ) (‵ (flft (ν ∷ []) fullShare)) (into ν δ) (back ν δ) (ψ ν δ) (out ν δ) (os ν δ) (λ r v e is. lft-end t tt $
+      move t (2 ∷ 0 ∷ []) $ join t $ calls-gave t fm T c known (y ν δ) (‵ (flft (ν ∷ []) fullShare)) (into ν δ) (back ν δ) (λ r _. ψ ν δ r) (λ r _. out ν δ r _) (os ν δ) (λ r v _ e is. move t (1 ∷ []) $ drop t $ lft-end t tt $
       use2 W (later (‵ (MutSlice (named 0) κ R .own (at-list b o γ ys) (sliced-val b o ys)) ⊛ ‵ (flft κ q))) (seen-back R κ (ν ∷ []) q γ b o ys 𝓤 H A W (named 0) (named 0) room) $ await t tt $ split t $ move t (1 ∷ 0 ∷ []) $ k ν δ r v e is)))

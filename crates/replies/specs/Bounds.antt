@@ -1,4 +1,4 @@
--- Refusal 4 over the counts of replies: "any u64 count in the state at 2^63 or beyond".
+-- Refusal 4 over the counts of replies: "any u64 count in the state or its slots at 2^63 .. or beyond".
 use mathlib.Core.Path.{_≡_}
 use mathlib.Core.Bool.{Bool, true, false, _&&_}
 use Prim.Native.Nat.{ℕ, _<_}

@@ -1,4 +1,4 @@
--- What the host is shown of replies, from the served calls: the snapshot's part, whether a probe is answered, and which key awaits its observe.
+-- What the host is shown of replies, from the served calls: whether a burst waits, whether a probe is answered, and which key awaits its observe.
 -- Assumes nothing.
 use mathlib.Core.Path.{_≡_, refl, _∙_}
 use mathlib.Core.Bool.{Bool, true, false, not, _&&_}
@@ -9,7 +9,6 @@ use native.Mathlib.Omega.{arith}
 use lib.Dec.{eqb, ltb}
 use lib.ListN.{take}
 use Rattle.chains.specs.Walk.{firstOf}
-use Rattle.chains.proofs.Tests.{eq-false}
 use Rattle.calls.specs.declared.ReplyKey.{ReplyKey}
 use Rattle.calls.specs.declared.Call.{Call}
 use Rattle.key_ring.specs.Keys.{firstIs}
@@ -17,21 +16,14 @@ use Rattle.key_ring.specs.Table.{newestIs}
 use Rattle.key_ring.proofs.Accepts.{newest-is}
 use Rattle.probe_ring.specs.Row.{isAnswered}
 use Rattle.probe_ring.proofs.Laws.{find-first}
-use Rattle.thousandths.specs.Thousandths.{thousandthsOf}
 use Rattle.history.specs.Counting.{has, present}
-use Rattle.history.specs.Ledger.{Event, remembered, replied, observed, accepted, lastAccepted, held, replies, awaiting, events, replyCounts, unobserved, thousandths}
-use Rattle.ledger_state.specs.Shown.{snapshotOf, burstWait}
+use Rattle.history.specs.Ledger.{Event, remembered, replied, observed, accepted, lastAccepted, held, replies, awaiting, events, replyCounts}
+use Rattle.ledger_state.specs.BurstWait.{burstWait}
 use Rattle.ledger_steps.specs.Rooms.{Stand}
 use Rattle.ledger_steps.specs.Readers.{answeredIn}
-use Rattle.reply_history.specs.Follows.{probeIn, repliesIn, awaitsIn, keysTable, probeRooms, RepliesFollow}
+use Rattle.reply_history.specs.Follows.{probeIn, awaitsIn, keysTable, probeRooms, RepliesFollow}
 use Rattle.reply_history.proofs.Saturation.{some-before}
 use Rattle.reply_history.proofs.Probes.{rows-first, rows-absent}
-
--- both say 0 where nothing was requested
-thousandths-same : (lost requested : ℕ) → thousandthsOf lost requested ≡ thousandths requested lost
-unfolding thousandthsOf
-thousandths-same lost zero = refl
-thousandths-same lost (suc n) = rw (eq-false (suc n) 0 (λ e. omega (arith, e)))
 
 -- the key that awaits is the last accepted one
 awaits-first : (n : ℕ) (es : List Event) (k : ReplyKey) → (present (awaiting es) && firstIs (take (suc n) (accepted es)) k) ≡ awaitsIn (awaiting es) k
@@ -42,22 +34,7 @@ awaits-first n (replied a p ∷ es) k = refl
 awaits-first n (observed o ∷ es) k = refl
 
 module _ (N : ℕ) (byKey : ReplyKey → ℕ) (byNumber : ℕ → ℕ) (copies : ℕ) (h : List Call) (s : Stand) (f : RepliesFollow N byKey byNumber copies h s) where
-  -- ---- the snapshot
-
-  pub shown-replies : snapshotOf (s .ledger) .replies ≡ repliesIn N copies h
-  unfolding snapshotOf
-  shown-replies = f .replies-are
-
-  -- "Unobserved is requested less satisfied, not below 0."
-  pub shown-unobserved : snapshotOf (s .ledger) .unobserved ≡ unobserved (replyCounts N copies h .requested) (replyCounts N copies h .satisfied)
-  unfolding snapshotOf
-  shown-unobserved = rw (f .replies-are)
-
-  -- "Thousandths are 1,000·unobserved/requested rounded down, and 0 when nothing was requested."
-  pub shown-thousandths : snapshotOf (s .ledger) .thousandths
-      ≡ thousandths (replyCounts N copies h .requested) (unobserved (replyCounts N copies h .requested) (replyCounts N copies h .satisfied))
-  unfolding snapshotOf
-  shown-thousandths = rw (f .replies-are) (thousandths-same (unobserved (replyCounts N copies h .requested) (replyCounts N copies h .satisfied)) (replyCounts N copies h .requested))
+  -- ---- the counts
 
   -- `needs_burst_wait`: more than one copy, and some request is not satisfied
   pub shown-wait : burstWait (s .ledger) ≡ (ltb 1 copies && ltb (replyCounts N copies h .satisfied) (replyCounts N copies h .requested))

@@ -17,13 +17,6 @@ use Rattle.report.specs.declared.Answer.the-variants.{Written, Refused}
 use Rattle.report.specs.declared.figures.Figures.{Figures}
 use Rattle.report.specs.Lines.{textOf}
 use Rattle.report.specs.Report.{Outcome, outcome, pickOutcome, written, wrong, reportOf, reportRoom}
-use Rattle.decimal.proofs.Determined.{stands-once}
-use Rattle.report.proofs.words.put_text as put-text
-use Rattle.report.proofs.words.put_text.Kinds as put-text-kinds
-use Rattle.report.proofs.words.put_text.Reads as put-text-reads
-use Rattle.report.proofs.words.put_figure as put-figure
-use Rattle.report.proofs.words.put_figure.Kinds as put-figure-kinds
-use Rattle.report.proofs.words.put_figure.Reads as put-figure-reads
 use Rattle.report.proofs.report.{signature}
 use Rattle.report.proofs.report.Kinds as K
 use Rattle.report.proofs.report.Reads.{Post}
@@ -48,14 +41,6 @@ pub report-unique : (κs : Lfts 1) (a : World.ArgsD signature κs) (r₁ r₂ : 
 report-unique κs a r₁ r₂ s₁ s₂ p q =
     let e = p ∙ sym q in
     (same-answer r₁ r₂ (now (s₁ .0)) (now (s₂ .0)) e, sym (buffer-of r₁ (now (s₁ .0))) ∙ ap (λ (o : Outcome). o .buffer) e ∙ buffer-of r₂ (now (s₂ .0)))
-
-pub put-text-unique : (κs : Lfts 2) (a : World.ArgsD put-text.signature κs) (r₁ r₂ : World.ResD put-text.signature κs) (s₁ s₂ : Clauses.AtExit (Kinds'.endedOf 2 put-text-kinds.ps put-text-kinds.r) κs)
-    → put-text-reads.Post κs a r₁ s₁ → put-text-reads.Post κs a r₂ s₂ → (r₁ ≡ r₂) × (now (s₁ .0) ≡ now (s₂ .0))
-put-text-unique κs a r₁ r₂ s₁ s₂ p q = stands-once p q
-
-pub put-figure-unique : (κs : Lfts 2) (a : World.ArgsD put-figure.signature κs) (r₁ r₂ : World.ResD put-figure.signature κs) (s₁ s₂ : Clauses.AtExit (Kinds'.endedOf 2 put-figure-kinds.ps put-figure-kinds.r) κs)
-    → put-figure-reads.Post κs a r₁ s₁ → put-figure-reads.Post κs a r₂ s₂ → (r₁ ≡ r₂) × (now (s₁ .0) ≡ now (s₂ .0))
-put-figure-unique κs a r₁ r₂ s₁ s₂ p q = stands-once p q
 
 -- A refusal changes no byte.
 pub refused-unchanged : (before after : List ℕ) (f : Figures) (n : ℕ) → outcome (Refused n) after ≡ reportOf before f → after ≡ before

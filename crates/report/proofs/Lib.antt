@@ -1,4 +1,3 @@
-pub mod Joined
 pub mod Fits
 pub mod Examples
 pub mod Determined

@@ -10,7 +10,7 @@ pub struct Played {
 pub struct Loss {
     pub requested: u64,
     pub unobserved: u64,
-    pub thousandths: u64,
+    pub thousandths: Value,
 }
 
 // `unique`, `duplicate`, `unknown`.

@@ -1,6 +1,6 @@
 -- EACH NUMBER OF A LOG'S REPORT IS WHAT ITS SERVED CALLS CALL FOR. Assumes nothing.
 use mathlib.Core.Path.{_≡_, refl, ap, _∙_}
-use mathlib.Core.Bool.{Bool, true}
+use mathlib.Core.Bool.{true}
 use mathlib.Core.List.{List}
 use Prim.Native.Nat.{ℕ, zero, suc, _+_, _-_}
 use native.Mathlib.Omega.{arith}
@@ -10,7 +10,7 @@ use Rattle.probe_queue.specs.declared.Probe.{Probe}
 use Rattle.monitor.specs.declared.Summary.{Summary}
 use Rattle.history.specs.Ledger.{copiesOf}
 use Rattle.ledger_state.specs.State.{freshLedger}
-use Rattle.ledger_state.specs.Shown.{snapshotOf}
+use Rattle.ledger_snapshot.specs.Snapshot.{snapshotOf}
 use Rattle.ledger_steps.specs.Rooms.{Rooms}
 use Rattle.link_steps.specs.declared.Watch.{Watch}
 use Rattle.link_steps.specs.declared.Watch.the-variants.{Absent, Present}
@@ -20,16 +20,15 @@ use Rattle.link_history.specs.Monitor.{WatchShows}
 use Rattle.link_history.specs.Link.{servedFrom, LinkShows}
 use Rattle.link_history.proofs.Link.{served-is, made-calls-show, turned-away-adds-up}
 use Rattle.link_log.specs.declared.Settings.{Settings}
-use Rattle.link_log.specs.declared.Log.{Log}
 use Rattle.link_log.specs.declared.Log.the-variants as log'
 use Rattle.link_log.specs.declared.Played.{Played}
 use Rattle.link_log.specs.declared.Played.the-variants as read
 use Rattle.link_log.specs.Logs.{callAt, logOf}
 use Rattle.link_tally.specs.Tally.{Tallied, recorded, tallied}
 use Rattle.report.specs.Lines.{textOf}
-use Rattle.report.specs.Report.{written, wrong}
-use Rattle.link_figures.specs.Figures.{sessionBy, sessionOf, followupOf, directOf, missingOf, roundTripOf, figuresOf}
-use Rattle.link_report.specs.LogReport.{watchBy, startBy, endOf, playedText, reported, reportBy as reportOfCase, fits, pickReported, reportOfLog}
+use Rattle.report.specs.Report.{written}
+use Rattle.link_figures.specs.Figures.{sessionBy, sessionOf, figureOf, followupOf, directOf, missingOf, roundTripOf, figuresOf}
+use Rattle.link_report.specs.LogReport.{watchBy, startBy, endOf, playedText, checkedBy, reportBy as reportOfCase, fits, reportOfLog}
 use Rattle.report_history.specs.Figures.{callThen, logCalls, watchingBy, makingBy, sessionFrom, figuresFrom, reportFrom}
 
 -- ---- the tally of a log's records is what its calls leave
@@ -76,7 +75,7 @@ figures-are copies v h k records turned shows =
     let session = session-is v h (k .link .watch) (k .queue) (shows .monitor) in
     λ i. record {
       played = record { records = records; «turned_away» = turned };
-      loss = record { requested = counts i .replies .totals .requested; unobserved = shown i .unobserved; thousandths = shown i .thousandths };
+      loss = record { requested = counts i .replies .totals .requested; unobserved = shown i .unobserved; thousandths = figureOf (shown i .thousandths) };
       replies = record { unique = counts i .replies .totals .unique; duplicate = counts i .replies .totals .duplicate; unknown = counts i .replies .totals .unknown };
       probes = record { answered = counts i .replies .answers .answered; additional = counts i .replies .answers .additional; late = counts i .replies .answers .late };
       order = record { reordered = counts i .replies .numbers .reordered; independent = counts i .replies .numbers .independent };
@@ -116,9 +115,8 @@ module _ (log : List ℕ) (s : Settings) (secret : List ℕ) (queue : List Probe
         ∙ ap (figuresFrom (copiesOf (s .copies)) (m .monitor) (servedFrom (m .monitor) cs) (s .count)) turned-is)
 
     -- So is what the call of `report_log` leaves in the buffer, and what it answers.
-    pub buffer-is-history : (buffer : List ℕ) → fits rooms buffer ≡ true → logOf log ≡ log'.Good s → reportOfLog log secret queue rooms buffer .outcome ≡ written (textOf (reportFrom log s)) buffer
+    pub buffer-is-history : (buffer : List ℕ) → fits queue rooms buffer ≡ true → logOf log ≡ log'.Good s → reportOfLog log secret queue rooms buffer .outcome ≡ written (textOf (reportFrom log s)) buffer
     unfolding reportOfLog
     buffer-is-history buffer f g =
-        ap (λ (b : Bool). pickReported b (reportOfCase (logOf log) (endOf log secret queue rooms) rooms buffer) (reported (wrong buffer) rooms) .outcome) f
-        ∙ ap (λ (l : Log). reportOfCase l (endOf log secret queue rooms) rooms buffer .outcome) g
+        (λ j. reportOfCase (checkedBy (f j) (g j)) (endOf log secret queue rooms) queue rooms buffer .outcome)
         ∙ ap (λ (t : List ℕ). written t buffer) report-is-history

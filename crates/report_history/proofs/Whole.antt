@@ -35,5 +35,5 @@ module _ (log : List ℕ) (h : BytesIn log) (s : Settings) (g : logOf log ≡ lo
     }
 
     -- THE THEOREM
-    pub report-of-a-good-log : (buffer : List ℕ) → fits rooms buffer ≡ true → reportOfLog log secret queue rooms buffer .outcome ≡ written (textOf (reportFrom log s)) buffer
+    pub report-of-a-good-log : (buffer : List ℕ) → fits queue rooms buffer ≡ true → reportOfLog log secret queue rooms buffer .outcome ≡ written (textOf (reportFrom log s)) buffer
     report-of-a-good-log buffer f = buffer-is-history log s secret queue rooms making-fits (log-fits log h (s .count)) buffer f g

@@ -15,7 +15,7 @@ use Rattle.observe_history.specs.RoundTrips.{delaysFrom}
 use Rattle.observe_history.specs.FollowUps.{countsFrom}
 use Rattle.ledger_steps.specs.Rooms.{Rooms}
 use Rattle.link_history.specs.Fresh.{Watching, alone, watching, Making}
-use Rattle.link_history.specs.Shows.{lostOf}
+use Rattle.link_history.specs.Shows.{lostOf, thousandthsFrom}
 use Rattle.link_history.specs.Monitor.{monitorFrom}
 use Rattle.link_history.specs.Link.{servedFrom}
 use Rattle.link_log.specs.declared.Settings.{Settings}
@@ -25,7 +25,7 @@ use Rattle.link_log.specs.Logs.{callAt}
 use Rattle.report.specs.declared.figures.Session.{Session}
 use Rattle.report.specs.declared.figures.Session.the-variants as session
 use Rattle.report.specs.declared.figures.Figures.{Figures}
-use Rattle.link_figures.specs.Figures.{sessionBy, followupOf, directOf, missingOf, roundTripOf}
+use Rattle.link_figures.specs.Figures.{sessionBy, figureOf, followupOf, directOf, missingOf, roundTripOf}
 
 -- ---- the calls of a log
 
@@ -63,7 +63,7 @@ figuresFrom copies v h records turned =
     let c = replyCounts capacity copies h in
     record {
       played = record { records = records; «turned_away» = turned };
-      loss = record { requested = c .requested; unobserved = lostOf c; thousandths = thousandths (c .requested) (lostOf c) };
+      loss = record { requested = c .requested; unobserved = lostOf c; thousandths = figureOf (thousandthsFrom (thousandths (c .requested) (lostOf c))) };
       replies = record { unique = c .unique; duplicate = c .duplicate; unknown = c .unknown };
       probes = record { answered = c .answered; additional = c .additional; late = c .late };
       order = record { reordered = c .reordered; independent = c .independent };

@@ -1,8 +1,14 @@
-// Document 01's thousandths. The product by 1,000 of a count near 2^64 fits no word, so the quotient is found as on paper: three decimal
+// Document 01's thousandths, absent when nothing was requested (document 02, Q-5). The product by 1,000 of a count near 2^64 fits no word, so the quotient is found as on paper: three decimal
 // places, each from ten times the rest of the one before.
 ghost use mathlib.Core.Path.{_≡_};
 ghost use Prim.Native.Nat.{_*_, _/_, _%_, _<_, _≤_};
 ghost use Rattle.thousandths.specs.Thousandths.{thousandthsOf};
+
+// The figure of loss, or none.
+pub enum Thousandths {
+    Absent,
+    Known(u64),
+}
 
 pub struct Division {
     pub whole: u64,
@@ -30,15 +36,19 @@ fn tenfold(rest: u64, divisor: u64) -> Division
     Division { whole, rest: sum }
 }
 
-pub fn thousandths_of(unobserved: u64, requested: u64) -> u64
+pub fn thousandths_of(unobserved: u64, requested: u64) -> Thousandths
     requires { ⌜ unobserved ≤ requested ⌝ }
     ensures { λ r. ⌜ r ≡ thousandthsOf unobserved requested ⌝ }
 {
     if requested == 0 {
-        return 0;
+        return Thousandths::Absent;
     }
     let tenths = tenfold(unobserved % requested, requested);
     let hundredths = tenfold(tenths.rest, requested);
     let thousandths = tenfold(hundredths.rest, requested);
-    1000 * (unobserved / requested) + 100 * tenths.whole + 10 * hundredths.whole + thousandths.whole
+    let figure = 1000 * (unobserved / requested)
+        + 100 * tenths.whole
+        + 10 * hundredths.whole
+        + thousandths.whole;
+    Thousandths::Known(figure)
 }

@@ -92,6 +92,7 @@ pub struct Call {
 const _: () = assert!(std::mem::size_of::<Call>() == 44 * 4);
 
 extern "C" {
+    fn ambrulicciu_version(version: &mut [u32; 1]) -> u8;
     fn ambrulicciu_ledger_fresh(ledger: &mut [u64; 72], copies: u16, secret: &[u32; 8]) -> u8;
     fn ambrulicciu_sent(
         ledger: &mut [u64; 72],
@@ -259,6 +260,8 @@ extern "C" {
         offsets_length: usize,
         links: *mut [u16; 8],
         links_length: usize,
+        queue: *mut Queued,
+        queue_length: usize,
         text: *mut u8,
         text_length: usize,
         length: &mut [u64; 1],
@@ -273,6 +276,11 @@ extern "C" {
         text_length: usize,
         length: &mut [u64; 1],
     ) -> u8;
+}
+
+/// The library's version: 1,000,000 times the first part, 1,000 times the second, and the third.
+pub fn version(version: &mut [u32; 1]) -> u8 {
+    unsafe { ambrulicciu_version(version) }
 }
 
 /// Makes a ledger fresh; its rooms may hold anything.
@@ -596,6 +604,7 @@ pub fn report_log(
     probes: &mut [[u64; 4]],
     offsets: &mut [u32],
     links: &mut [[u16; 8]],
+    queue: &mut [Queued],
     text: &mut [u8],
     length: &mut [u64; 1],
 ) -> u8 {
@@ -614,6 +623,8 @@ pub fn report_log(
             offsets.len(),
             links.as_mut_ptr(),
             links.len(),
+            queue.as_mut_ptr(),
+            queue.len(),
             text.as_mut_ptr(),
             text.len(),
             length,

@@ -27,3 +27,10 @@ pub use shown::{Delays, Direct, Figures, FollowUps, LastEstimate, Maybe, Point, 
 
 /// Rows of each room of a link, and of the monitor's queue.
 pub const ROWS: usize = 4096;
+
+/// The library's version: 1,000,000 times the first part, 1,000 times the second, and the third.
+pub fn version() -> u32 {
+    let mut version = [0];
+    calls::version(&mut version);
+    version[0]
+}

@@ -257,10 +257,10 @@ impl Link {
     }
 }
 
-/// The report of a log, as the program linkreport prints it; the rooms may hold anything.
-pub fn report_of_log(log: &[u8], secret: &[u32; 8], rooms: &mut Rooms) -> Result<String, Refusal> {
+/// The report of a log, as the program linkreport prints it, or why the log is refused; the rooms and the queue may hold anything.
+pub fn report_of_log(log: &[u8], secret: &[u32; 8], rooms: &mut Rooms, queue: &mut [Queued]) -> Result<String, Refusal> {
     let Rooms { keys, slots, probes, offsets, links } = rooms;
-    text_of(|text, length| calls::report_log(log, secret, keys, slots, probes, offsets, links, text, length))
+    text_of(|text, length| calls::report_log(log, secret, keys, slots, probes, offsets, links, queue, text, length))
 }
 
 fn text_of(write: impl FnOnce(&mut [u8], &mut [u64; 1]) -> u8) -> Result<String, Refusal> {

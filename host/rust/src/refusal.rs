@@ -37,7 +37,7 @@ impl fmt::Display for Refusal {
             Refusal::NotAwaiting => "the reply does not await its observation",
             Refusal::QueueFull => "4,096 probes await their reply at the monitor",
             Refusal::CountsFull => "a count or a sum is at its bound",
-            Refusal::WrongRoom => "a room of the wrong size, or a state that no call leaves",
+            Refusal::WrongRoom => "a room of the wrong size, or a state whose bounds do not hold",
             Refusal::DeadlinePasses => "the deadline is past the end of time",
             Refusal::BadTrailer => "no trailer of a log at the end",
             Refusal::BadRecord => "a record that is none",

@@ -9,6 +9,11 @@ pub struct Maybe<T> {
 }
 
 impl<T: Copy> Maybe<T> {
+    /// A value that is there.
+    pub const fn of(value: T) -> Maybe<T> {
+        Maybe { known: 1, value }
+    }
+
     pub fn get(&self) -> Option<T> {
         (self.known != 0).then_some(self.value)
     }
@@ -106,11 +111,12 @@ pub struct Figures {
     pub probes_evicted: u64,
     pub replies_evicted: u64,
     pub unobserved: u64,
-    pub thousandths: u64,
+    /// None when nothing was requested: a silent link has no figure, which is not a loss of 0.
+    pub thousandths: Maybe<u64>,
     pub round_trip: Delays,
     pub direct: Direct,
     pub follow_up: FollowUps,
 }
 
-const _: () = assert!(std::mem::size_of::<Figures>() == 84 * 8);
+const _: () = assert!(std::mem::size_of::<Figures>() == 85 * 8);
 const _: () = assert!(std::mem::size_of::<Quality>() == 21 * 8);

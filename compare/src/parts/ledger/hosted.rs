@@ -1,15 +1,15 @@
-//! The same scripts through the library that hosts link, in this process: the port's side of part `host`.
+//! The port's side of part `host`: the scripts through the library that hosts link, in this process.
 //!
 //! What a call answers, every figure and the session come from the library's own calls; what else can be seen of the state is read off its
 //! words and rooms (crates/host_ledger, specs/Words.antt; crates host_monitor_words, probe_ring, key_ring and correlation for the rows).
 use super::{
-    super::CAPACITY, flagged, halves, key, reached::LINES, scripts, told, wire, ACCEPT, ADVANCE,
-    CONVERTED, DIGEST, FOLLOW, FRESH, IDLE, KEYS, LINKS, LOAD, OBSERVE, OFFSETS, PART, PROBES,
-    QUALITY, QUEUE, ROOM, SENT, SLOTS, SPOIL,
+    super::CAPACITY, flagged, halves, key, told, wire, ACCEPT, ADVANCE, CONVERTED, DIGEST, FOLLOW,
+    FRESH, IDLE, KEYS, LINKS, LOAD, OBSERVE, OFFSETS, PART, PROBES, QUALITY, QUEUE, ROOM, SENT,
+    SLOTS, SPOIL,
 };
 use crate::{
     digest::Digest,
-    part::{Answer, Call, Part, Script},
+    part::{Answer, Call, Part},
 };
 use ambrulicciu::{
     calls::Queued, Accepted, Counters, Delays, Figures, FollowUp, Format, Found, Key, LastEstimate,
@@ -18,49 +18,9 @@ use ambrulicciu::{
 use std::collections::{HashMap, HashSet};
 
 pub const HOSTED: Part = Part {
-    name: "host",
-    program: "-",
     here: Some(play),
-    lines: &REACHED,
-    scripts: |random, long| carried(scripts::scripts(random, long)),
     ..PART
 };
-
-/// A host hands estimates over as 16 bits of the wire, which have no scale above 63: no refusal 1 for a scale.
-const UNREACHED: &str = "observe: refused 1 for a scale";
-const REACHED: [&str; LINES.len() - 1] = {
-    let mut kept = [""; LINES.len() - 1];
-    let (mut from, mut to) = (0, 0);
-    while from < LINES.len() {
-        if !same(LINES[from], UNREACHED) {
-            kept[to] = LINES[from];
-            to += 1;
-        }
-        from += 1;
-    }
-    kept
-};
-
-const fn same(a: &str, b: &str) -> bool {
-    let (a, b) = (a.as_bytes(), b.as_bytes());
-    let mut i = 0;
-    while i < a.len() && i < b.len() && a[i] == b[i] {
-        i += 1;
-    }
-    i == a.len() && i == b.len()
-}
-
-/// The scripts with scales that the wire carries.
-fn carried(mut scripts: Vec<Script>) -> Vec<Script> {
-    for call in scripts
-        .iter_mut()
-        .flatten()
-        .filter(|c| c[0] & 0xff == OBSERVE)
-    {
-        call[11] &= 0xffff_3fff_ffff_3fff;
-    }
-    scripts
-}
 
 /// Words of the ledger.
 const COPIES: usize = 0;
@@ -359,7 +319,7 @@ fn shown_replies(f: &Figures, words: &mut Vec<u64>) {
         f.probes_evicted,
         f.replies_evicted,
         f.unobserved,
-        f.thousandths,
+        number_of(f.thousandths),
     ]);
 }
 

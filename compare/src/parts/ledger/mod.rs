@@ -14,7 +14,7 @@ use crate::{
     part::{Answer, Call, Original, Part},
     sender::measurements::{Follow, Ledger, Told},
 };
-use reached::{reached_by_step, LINES};
+use reached::{reached_by_loss, reached_by_step, LINES};
 use shown::{flagged, WORDS};
 
 /// Copies, 0 or 1 for a monitor, its threshold, its timeout, four words of the port's hash.
@@ -65,16 +65,17 @@ pub const REFERENCE_LIMIT: i64 = 4_000_000_000;
 pub const OFFSET_LIMIT: i32 = 86_400;
 pub const MOST_CALLS: u64 = 4_294_967_295;
 
+/// The original's side; hosted.rs has the port's, in this process.
 pub const PART: Part = Part {
-    name: "ledger",
-    program: "play_ledger",
+    name: "host",
+    program: "-",
     here: None,
     call_words: 16,
     answer_words: 120,
     lines: &LINES,
     fresh: || Box::new(Booked::fresh(1, None)),
     scripts: scripts::scripts,
-    sample: scripts::sample,
+    sample: |_| vec![],
     show,
     answer: &WORDS,
 };
@@ -139,7 +140,7 @@ fn told(call: &Call) -> Told {
     }
 }
 
-/// An estimate as its fields (S, Z, scale, multiplier) to its 16 bits. Only scales up to 63 are handed to the original.
+/// An estimate as its fields (S, Z, scale, multiplier) to its 16 bits, which have no scale above 63: no refusal 1 for a scale.
 fn wire(fields: u32) -> u16 {
     let scale = (fields >> 8 & 0x3f) as u16;
     let multiplier = (fields >> 16 & 0xff) as u16;
@@ -165,7 +166,7 @@ impl Booked {
 
 impl Original for Booked {
     fn play(&mut self, call: &mut Call, cover: &mut Cover) -> Answer {
-        match call[0] & 0xff {
+        let answer = match call[0] & 0xff {
             FRESH => {
                 let monitor = (call[2] != 0).then_some((call[3] as u16, call[4]));
                 *self = Self::fresh(call[1] as u16, monitor);
@@ -195,7 +196,9 @@ impl Original for Booked {
                 }
                 self.shown(Reply::default(), call)
             }
-        }
+        };
+        reached_by_loss(&answer, cover);
+        answer
     }
 }
 
@@ -426,7 +429,6 @@ impl Booked {
             return WRONG_ROOM;
         }
         let beyond = |t: i64| t.unsigned_abs() > TIME_LIMIT.unsigned_abs();
-        let scales = [call[11] >> 8 & 0xff, call[11] >> 40 & 0xff];
         let range = [
             (told.t4.is_some_and(beyond), "observe: refused 1 for T4"),
             (converted.is_some_and(beyond), "observe: refused 1 for T3"),
@@ -437,10 +439,6 @@ impl Booked {
             (
                 told.offset.unsigned_abs() > OFFSET_LIMIT.unsigned_abs(),
                 "observe: refused 1 for the offset",
-            ),
-            (
-                told.quality.is_some() && scales.iter().any(|s| *s > 63),
-                "observe: refused 1 for a scale",
             ),
         ];
         let awaits = self.ledger.awaits(told.key);

@@ -2,10 +2,11 @@
 use super::{super::CAPACITY, Booked};
 use crate::{
     cover::Cover,
+    part::Answer,
     sender::measurements::{MeasurementSummary, Told},
 };
 
-pub const LINES: [&str; 79] = [
+pub const LINES: [&str; 82] = [
     "fresh: copies 0 counts as 1",
     "fresh: copies above 1",
     "fresh: with a monitor",
@@ -49,7 +50,6 @@ pub const LINES: [&str; 79] = [
     "observe: refused 1 for T3",
     "observe: refused 1 for the reference",
     "observe: refused 1 for the offset",
-    "observe: refused 1 for a scale",
     "observe: refused 4",
     "observe: refused 2",
     "observe: refused 1 before 2",
@@ -85,6 +85,10 @@ pub const LINES: [&str; 79] = [
     "slot: made anew for a freed number",
     "monitor: advance",
     "monitor: idle",
+    "shown: no figure of loss",
+    "shown: no figure of loss, and replies",
+    "shown: a loss of 0",
+    "shown: a loss above 0",
 ];
 
 impl Booked {
@@ -201,6 +205,16 @@ impl Booked {
         let negative = a.sender_packets.is_some() && a.forward_missing.is_none();
         cover.reached_if(negative, "direct: forward missing negative");
     }
+}
+
+/// The words of the snapshot's first two groups: unique replies and thousandths, 0 where these are absent.
+pub fn reached_by_loss(answer: &Answer, cover: &mut Cover) {
+    let (unique, thousandths) = (answer[17], answer[31]);
+    cover.reached_if(thousandths == 0, "shown: no figure of loss");
+    let replies = thousandths == 0 && unique > 0;
+    cover.reached_if(replies, "shown: no figure of loss, and replies");
+    cover.reached_if(thousandths == 1 << 32, "shown: a loss of 0");
+    cover.reached_if(thousandths > 1 << 32, "shown: a loss above 0");
 }
 
 pub fn reached_by_step(highest: Option<u32>, reflector: u32, cover: &mut Cover) {

@@ -189,14 +189,6 @@ pub fn scripts(random: &mut Random, long: bool) -> Vec<Script> {
     all
 }
 
-pub fn sample(random: &mut Random) -> Vec<Script> {
-    vec![
-        typical(random, 80, true),
-        dense(random, 80),
-        limits(random, 30),
-    ]
-}
-
 /// A believable link: a probe each 100 ms, 1 to 3 copies, some loss, some reordering, counters and follow-ups.
 fn typical(random: &mut Random, calls: usize, digests: bool) -> Script {
     let copies = random.of(&[0, 1, 1, 2, 3]);
@@ -442,11 +434,7 @@ fn limits(random: &mut Random, turns: u32) -> Script {
         } else {
             r.of(&[0, OFFSET_LIMIT, -OFFSET_LIMIT, 1])
         };
-        let scale = if r.chance(80) {
-            r.of(&[64, 65, 255])
-        } else {
-            r.of(&[0, 32, 63])
-        };
+        let scale = r.of(&[0, 32, 63]);
         let earlier = draw.recent[draw.random.below(draw.recent.len() as u64) as usize].1;
         let r = &mut draw.random;
         let drawn = Drawn {

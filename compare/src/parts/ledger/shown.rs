@@ -197,7 +197,10 @@ impl Booked {
             s.probes_evicted,
             s.replies_evicted,
             s.unobserved_requested_replies,
-            thousandths(s.unobserved_requested_replies, s.requested_replies),
+            flagged(thousandths(
+                s.unobserved_requested_replies,
+                s.requested_replies,
+            )),
         ]);
         words.at(32);
     }
@@ -381,10 +384,11 @@ fn known(d: &DelaySummary) -> u64 {
     there[0] | there[1] << 1 | there[2] << 2
 }
 
-/// Document 01: 1,000 times unobserved by requested, rounded down. The original has no such figure.
-fn thousandths(unobserved: u64, requested: u64) -> u64 {
+/// Document 01: 1,000 times unobserved by requested, rounded down; none with nothing requested (document 02, Q-5). The original has no
+/// such figure.
+fn thousandths(unobserved: u64, requested: u64) -> Option<u32> {
     let product = 1_000 * u128::from(unobserved);
-    product.checked_div(u128::from(requested)).unwrap_or(0) as u64
+    product.checked_div(u128::from(requested)).map(|n| n as u32)
 }
 
 fn point(p: Option<CounterPoint>) -> [u64; 2] {

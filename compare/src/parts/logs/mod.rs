@@ -2,6 +2,9 @@
 //!
 //! A program of the emulator takes long to start, so `play_logs` plays many logs in one run, by the same function as
 //! `linkreport`; `linkreport` itself is run on some of them.
+mod figures;
+#[cfg(feature = "host")]
+pub mod hosted;
 mod kinds;
 mod original;
 mod record;
@@ -17,6 +20,7 @@ use std::{
 };
 
 use crate::{cover::Cover, random::Random};
+pub use figures::{conversions, host, yard};
 use kinds::Made;
 use original::{Conversion, LINES};
 pub use shipped::{files, play as shipped};
@@ -77,6 +81,8 @@ struct Played<'a> {
     lists: u64,
     python: bool,
     failed: bool,
+    began: Instant,
+    said: Instant,
 }
 
 impl<'a> Played<'a> {
@@ -90,6 +96,17 @@ impl<'a> Played<'a> {
             lists: 0,
             python: Command::new("python3").arg("--version").output().is_ok(),
             failed: false,
+            began: Instant::now(),
+            said: Instant::now(),
+        }
+    }
+
+    /// How far it is, on standard error, each ten seconds.
+    fn say(&mut self) {
+        if self.said.elapsed() >= Duration::from_secs(10) {
+            let at = self.began.elapsed().as_secs();
+            eprintln!("compare: {} logs, {at} s", self.total);
+            self.said = Instant::now();
         }
     }
 
@@ -102,6 +119,7 @@ impl<'a> Played<'a> {
         let reports = play_all(self.start, logs);
         *self.kinds.entry(kind).or_default() += logs.len() as u64;
         self.total += logs.len() as u64;
+        self.say();
         for (i, (made, text)) in logs.iter().zip(&expected).enumerate() {
             let same = reports.get(i).is_some_and(|r| r == text.as_bytes());
             let alone = (self.total as usize + i) % every == 0;

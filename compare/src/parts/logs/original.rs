@@ -12,7 +12,7 @@ use super::{
 use crate::{
     cover::Cover,
     sender::{
-        measurements::{Follow, Ledger, Told},
+        measurements::{Follow, Ledger, MeasurementSummary, Told},
         session_state::State,
     },
     time,
@@ -118,13 +118,22 @@ impl Link {
         Some(i64::try_from(time).expect("a converted time fits a word"))
     }
 
+    pub fn snapshot(&self) -> MeasurementSummary {
+        self.ledger.snapshot()
+    }
+
+    /// How many calls were played, and how many of them refused.
+    pub fn calls(&self) -> (u64, u64) {
+        (self.played, self.turned_away)
+    }
+
     fn report(&self) -> String {
         let s = self.ledger.snapshot();
         let (f, d) = (&s.follow_up, &s.direct_measurement);
         let loss = (s.requested_replies, s.unobserved_requested_replies);
-        let thousandths = (1000 * loss.1).checked_div(loss.0).unwrap_or(0);
         let shown = |v: Option<i128>| v.map_or("-".into(), |v| v.to_string());
         let missing = |v: Option<u64>| shown(v.map(i128::from));
+        let thousandths = missing((1000 * loss.1).checked_div(loss.0));
         let state = match (self.monitor, s.session_state.state) {
             (None, _) => "none",
             (_, State::Idle) => "idle",

@@ -161,8 +161,8 @@ pub enum Refused {
     BadRecord(usize),
 }
 
-/// Reads a log as document 01 says: 9, then 7, then 8, and only then the records.
-pub fn read(bytes: &[u8]) -> Result<(Settings, Vec<Record>), Refused> {
+/// The records that a log's trailer speaks of, good or bad.
+pub fn placed(bytes: &[u8]) -> Result<Vec<Record>, Refused> {
     if bytes.len() > MOST_BYTES {
         return Err(Refused::TooLong);
     }
@@ -175,13 +175,17 @@ pub fn read(bytes: &[u8]) -> Result<(Settings, Vec<Record>), Refused> {
         return Err(Refused::BadTrailer);
     }
     let first = bytes.len() - distance as usize;
-    let records: Vec<Record> = bytes[first..bytes.len() - TRAILER]
-        .chunks_exact(RECORD)
-        .map(|r| Record(r.try_into().unwrap()))
-        .collect();
+    let records = bytes[first..bytes.len() - TRAILER].chunks_exact(RECORD);
+    Ok(records.map(|r| Record(r.try_into().unwrap())).collect())
+}
+
+/// Reads a log as document 01 says: 9, then 7, then 8, and only then the records.
+pub fn read(bytes: &[u8]) -> Result<(Settings, Vec<Record>), Refused> {
+    let records = placed(bytes)?;
     if let Some(bad) = records.iter().position(|r| !r.good()) {
         return Err(Refused::BadRecord(bad));
     }
+    let end = &bytes[bytes.len() - TRAILER..];
     let settings = Settings {
         copies: number(end, 8, 2) as u16,
         threshold: number(end, 10, 2) as u16,

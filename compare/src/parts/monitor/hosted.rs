@@ -1,12 +1,10 @@
-//! The same scripts through the library that hosts link, in this process: the port's side of part `host_monitor`.
+//! The port's side of part `host_monitor`: the scripts through the library that hosts link, in this process.
 use super::{digest, ADVANCE, DIGEST, FRESH, IDLE, LOAD, PART, REPLY, SENT, SHOW};
 use crate::part::Part;
 use ambrulicciu::{calls, calls::Queued, Watch};
 use std::collections::HashSet;
 
 pub const HOSTED: Part = Part {
-    name: "host_monitor",
-    program: "-",
     here: Some(play),
     ..PART
 };
@@ -34,7 +32,7 @@ fn play(given: &[u8]) -> Vec<u8> {
 }
 
 fn summary(watch: &Watch) -> [u64; 6] {
-    let mut shown = [0; 6];
+    let mut shown = [u64::MAX; 6];
     calls::monitor_summary(&watch.monitor, &mut shown);
     shown
 }
@@ -76,7 +74,7 @@ fn one(watch: &mut Watch, call: &[u64]) -> [u64; 16] {
     } else {
         rose(3) + 2 * rose(4) + 3 * rose(5)
     };
-    let mut deadline = [0; 2];
+    let mut deadline = [u64::MAX; 2];
     calls::monitor_deadline(&watch.monitor, &watch.queue, &mut deadline);
     let (mut first, mut second, mut third) = (0, 0, watch.monitor[TIMEOUT]);
     if call[0] == SHOW {

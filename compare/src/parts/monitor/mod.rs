@@ -27,16 +27,17 @@ const SHOW: u64 = 6;
 /// A call whose last word is 1 answers with the queue's digests too.
 const DIGEST: usize = 7;
 
+/// The original's side; hosted.rs has the port's, in this process.
 pub const PART: Part = Part {
-    name: "monitor",
-    program: "play_monitor",
+    name: "host_monitor",
+    program: "-",
     here: None,
     call_words: 8,
     answer_words: 16,
     lines: &LINES,
     fresh: || Box::new(Watched(Watch::fresh(1, 0))),
     scripts: scripts::scripts,
-    sample: scripts::sample,
+    sample: |_| vec![],
     show,
     answer: &[
         "refusal",

@@ -20,16 +20,6 @@ pub fn scripts(random: &mut Random, long: bool) -> Vec<Script> {
     all
 }
 
-pub fn sample(random: &mut Random) -> Vec<Script> {
-    vec![
-        typical(random, 150),
-        dense(random, 300),
-        dense(random, 300),
-        limits(random),
-        limits(random),
-    ]
-}
-
 fn with_digest(mut call: Call) -> Call {
     call[DIGEST] = 1;
     call

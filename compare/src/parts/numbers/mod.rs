@@ -1,4 +1,6 @@
 //! Estimates (error_estimate.rs) and clock quality (clock_quality.rs).
+#[cfg(feature = "host")]
+pub mod hosted;
 mod scripts;
 
 use super::{COUNTS_FULL, COUNT_BOUND, OUT_OF_RANGE};

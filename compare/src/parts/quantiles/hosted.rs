@@ -1,5 +1,7 @@
 //! The same scripts through the library that hosts link, in this process: the port's side of part `host_quantiles`.
-use super::{BUCKET, DIGEST, FRESH, LOAD, PART, PERCENTILE, PERCENTILE_SHORT, RECORD, RECORD_SHORT};
+use super::{
+    BUCKET, DIGEST, FRESH, LOAD, PART, PERCENTILE, PERCENTILE_SHORT, RECORD, RECORD_SHORT,
+};
 use crate::{digest::Digest, part::Part};
 use ambrulicciu::{calls, Value};
 
@@ -9,6 +11,9 @@ pub const HOSTED: Part = Part {
     here: Some(play),
     ..PART
 };
+
+/// What an answer's word holds before the call.
+const JUNK: u64 = 0x5a5a_5a5a_5a5a_5a5a;
 
 /// The words of a series (signed, count, minimum, maximum) and its room.
 struct Series {
@@ -32,7 +37,12 @@ impl Series {
 
     /// The refusal, whether it was recorded or shows a value, and the value.
     fn play(&mut self, call: &[u64]) -> [u64; 3] {
-        let lent = self.room.len() - if call[0] >= RECORD_SHORT { call[2] as usize } else { 0 };
+        let lent = self.room.len()
+            - if call[0] >= RECORD_SHORT {
+                call[2] as usize
+            } else {
+                0
+            };
         match call[0] {
             FRESH => *self = Self::fresh(call[1] != 0),
             RECORD | RECORD_SHORT => {
@@ -42,15 +52,23 @@ impl Series {
                 return [number.into(), recorded[0], 0];
             }
             PERCENTILE | PERCENTILE_SHORT => {
-                let percents = [f64::from_bits(call[1]), 50.0, 99.0];
+                let asked = f64::from_bits(call[1]);
+                // Several at once, as many as the last digit says, are each as alone; one that is not is made a difference.
+                let percents = [asked, 50.0, 99.0, 0.0, asked, 100.0, 12.5, 99.9, 50.0];
+                let percents = &percents[..1 + (call[1] ^ self.words[1]) as usize % 9];
                 let (number, present, shown) = self.percentiles(lent, percents);
-                // Several at once are each as alone; one that is not is made a difference.
-                for (percent, value) in percents.into_iter().zip(shown) {
-                    if (number, present, [value]) != self.percentiles(lent, [percent]) {
+                for (percent, value) in percents.iter().zip(&shown) {
+                    if (number, present, vec![*value]) != self.percentiles(lent, &[*percent]) {
                         return [u64::MAX; 3];
                     }
                 }
-                return [number, present, shown[0]];
+                // What has no value is left as it was, and shown as 0.
+                let first = if present == 1 {
+                    shown[0]
+                } else {
+                    shown[0] ^ JUNK
+                };
+                return [number, present, first];
             }
             LOAD => {
                 self.room[4096..].fill(0);
@@ -63,15 +81,19 @@ impl Series {
     }
 
     /// The refusal, whether there are values, and the values.
-    fn percentiles<const N: usize>(&self, lent: usize, percents: [f64; N]) -> (u64, u64, [u64; N]) {
-        let (mut shown, mut present) = ([0; N], [0]);
+    fn percentiles(&self, lent: usize, percents: &[f64]) -> (u64, u64, Vec<u64>) {
+        let (mut shown, mut present) = (vec![JUNK; percents.len()], [JUNK]);
         let number = calls::quantiles_percentiles(
             &self.words,
             &self.room[..lent],
-            &percents,
+            percents,
             &mut shown,
             &mut present,
         );
+        // A refusal leaves the answer as it was.
+        if number != 0 && present[0] == JUNK {
+            present[0] = 0;
+        }
         (number.into(), present[0], shown)
     }
 

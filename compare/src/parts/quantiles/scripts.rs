@@ -15,6 +15,10 @@ enum Kind {
     Falling,
     Constant,
     Edges,
+    Three,
+    Sawtooth,
+    Outliers,
+    NearlyRising,
 }
 
 const KINDS: [Kind; 6] = [
@@ -26,6 +30,14 @@ const KINDS: [Kind; 6] = [
     Kind::Edges,
 ];
 
+/// What a full exact room is searched in besides: each is a shape of bench/shapes.rs.
+const SHAPES: [Kind; 4] = [
+    Kind::Three,
+    Kind::Sawtooth,
+    Kind::Outliers,
+    Kind::NearlyRising,
+];
+
 fn drawn(random: &mut Random, kind: Kind, i: u64, base: u64) -> u64 {
     match kind {
         Kind::Sized => random.sized(),
@@ -34,6 +46,12 @@ fn drawn(random: &mut Random, kind: Kind, i: u64, base: u64) -> u64 {
         Kind::Falling => (base >> 8).wrapping_sub(i * 977),
         Kind::Constant => base,
         Kind::Edges => random.edge(),
+        Kind::Three => (base >> 8).wrapping_add(random.below(3) * 1_250_000),
+        Kind::Sawtooth => (base >> 8).wrapping_add(i % 128 * 7_919),
+        Kind::Outliers if i % 455 == 13 => (base >> 8).wrapping_add(5_000_000_000 + random.below(1_000_000_000)),
+        Kind::Outliers => (base >> 8).wrapping_add(random.below(1_000_000)),
+        Kind::NearlyRising if i % 205 == 7 => (base >> 8).wrapping_add(random.below(4096) * 977),
+        Kind::NearlyRising => (base >> 8).wrapping_add(i * 977),
     }
 }
 
@@ -113,6 +131,9 @@ pub fn scripts(random: &mut Random, long: bool) -> Vec<Script> {
         for length in [4095, 4096, 4097, 4098] {
             let kind = random.of(&KINDS);
             all.push(series(random, signed, kind, length, 4));
+        }
+        for kind in KINDS.into_iter().chain(SHAPES) {
+            all.push(series(random, signed, kind, 4096, 10));
         }
         let kinds = if long { &KINDS[..] } else { &KINDS[..2] };
         for kind in kinds {

@@ -14,8 +14,11 @@ unobserved-replies-requires c κs = search needs
 thousandths-of-requires : tie.Need-thousandths-of-requires
 thousandths-of-requires c κs = search needs
 
+figure-of-requires : tie.Need-figure-of-requires
+figure-of-requires c κs = search needs
+
 returns : tie.Need-returns
-returns c = rw (c .thousandths-of .ensures, c .before .unobserved-replies .ensures) refl
+returns c = rw (c .figure-of .ensures, c .before .thousandths-of .ensures, c .before .before .unobserved-replies .ensures) refl
 
 pub loss-of-spec : {M : Type 1} → statement M
-loss-of-spec = tie.close (tie.spec unobserved-replies-requires thousandths-of-requires returns)
+loss-of-spec = tie.close (tie.spec unobserved-replies-requires thousandths-of-requires figure-of-requires returns)

@@ -17,35 +17,14 @@ slice-aggregate-read-full c = simp length-take (omega arith)
 read-full-requires : tie.Need-read-full-requires
 read-full-requires c κs = search needs
 
-absent-requires : tie.Need-absent-requires
-absent-requires c κs = search needs
+slice-reshare-prefix-report : tie.Need-slice-reshare-prefix-report
+slice-reshare-prefix-report c = search needs
 
-slice-reshare-prefix-report-log : tie.Need-slice-reshare-prefix-report-log
-slice-reshare-prefix-report-log c = search needs
+slice-aggregate-report : tie.Need-slice-aggregate-report
+slice-aggregate-report c = simp length-take (omega arith)
 
-slice-aggregate-report-log : tie.Need-slice-aggregate-report-log
-slice-aggregate-report-log c = simp length-take (omega arith)
-
-report-log-requires : tie.Need-report-log-requires
-report-log-requires c κs = search needs
-
-size-of-requires : tie.Need-size-of-requires
-size-of-requires c κs = search needs
-
-slice-reshare-prefix-write-all : tie.Need-slice-reshare-prefix-write-all
-slice-reshare-prefix-write-all c = search needs
-
-slice-aggregate-write-all : tie.Need-slice-aggregate-write-all
-slice-aggregate-write-all c = simp length-take (omega arith)
-
-write-all-requires : tie.Need-write-all-requires
-write-all-requires c κs = search needs
-
-slice-aggregate-write-all-2 : tie.Need-slice-aggregate-write-all-2
-slice-aggregate-write-all-2 c = search needs
-
-write-all-requires-2 : tie.Need-write-all-requires-2
-write-all-requires-2 c κs = search needs
+report-requires : tie.Need-report-requires
+report-requires c κs = search needs
 
 same-length : tie.Need-same-length
 same-length c = search needs
@@ -79,16 +58,9 @@ turn-spec =
     slice-relend-prefix-read-full
     slice-aggregate-read-full
     read-full-requires
-    absent-requires
-    slice-reshare-prefix-report-log
-    slice-aggregate-report-log
-    report-log-requires
-    size-of-requires
-    slice-reshare-prefix-write-all
-    slice-aggregate-write-all
-    write-all-requires
-    slice-aggregate-write-all-2
-    write-all-requires-2
+    slice-reshare-prefix-report
+    slice-aggregate-report
+    report-requires
     same-length
     same-length-2
     same-length-3

@@ -42,7 +42,7 @@ use denote.Triple.Walked.{says, Stays, stay-none, stay-none-slice, walkOf, AllGo
 use denote.Exit.{yes}
 use Rattle.probe_queue.specs.declared.Probe.{Probe}
 use Rattle.probe_queue.specs.Queue.{nil}
-use Rattle.probe_queue.proofs.Calls.{asks, calls-plain, unless}
+use Rattle.walking.proofs.Calls.{asks, calls-plain, unless}
 use Rattle.probe_queue.proofs.SliceCalls.{at-list, sliced-val}
 use Rattle.probe_queue.proofs.Probe as P
 use Rattle.probe_queue.proofs.Probe.Laws as P′
@@ -128,7 +128,7 @@ module _ {M : Type 1} (𝓤 : URA M) (H : Heap 𝓤) (A : Atoms 𝓤) (W : Given
         alloc1 ! (λ l₀. alloc1 ! (λ l₁. alloc1 ! (λ l₂. alloc1 ! (λ l₃. alloc1 ! (λ l₄. alloc1 ! (λ l₅. alloc1 ! (λ l₆. alloc1 ! (λ l₇. alloc1 ! (λ l₈. alloc0 ! $ params1 ! $
         pass1 ! (init ! 14 refl (tt, (tt, (record { fits = room .0 }, tt)))) $ pass1 ! (init ! 12 refl (tt, record { fits = n-fits })) $ pass0 ! $
         move ! (18 ∷ []) $ use1 W (‵ (flft κ q) ⊛ ‵ Own) opened $ split ! $
-        calls-plain ! (fmOf 𝓤 H (W .laws) 𝓣) absent.ended (absent.clauses 𝓤 H A mem run) known to-absent (asks 𝓤 H A [] tt tt _ tt _ (id⊢ 𝓤 (emp 𝓤))) (λ (d : Probe). d ≡ nil) (λ d e. id⊢ 𝓤 _) (no-more !) (λ d v ed is.
+        calls-plain ! (fmOf 𝓤 H (W .laws) 𝓣) absent.ended (absent.clauses 𝓤 H A mem run) known to-absent (asks 𝓤 H A [] tt tt _ tt _ (id⊢ 𝓤 (emp 𝓤))) (λ (d : Probe) _. d ≡ nil) (λ d ws. id⊢ 𝓤 _) (no-more !) (λ d v _ ed is.
         land ! (from ! (stop !)) (init ! 12 refl (LL.lawful P.the-type P′.the-laws 𝓤 H A W .typed d _ is .0)) $
         rewrite ! 12 (λ (w : Val). ‵ (fat fullShare P′.mir l₃ 0 w)) (ap only (LL.tells P.the-type P′.the-laws d (v ∷ []) is) ∙ ap P′.lowered ed) refl $
         assigns ! (of-opd ! (load ! (from ! (fld ! refl (stop !))) (look-in ! 16 (sub ! 1 refl (whole !))))) (from ! (stop !)) (init ! 10 refl (tt, record { fits = room .0 })) $

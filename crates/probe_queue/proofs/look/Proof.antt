@@ -49,7 +49,7 @@ use Rattle.probe_queue.specs.declared.Probe.{Probe}
 use Rattle.probe_queue.specs.declared.Ring.{Ring}
 use Rattle.probe_queue.specs.declared.Rule.{Rule}
 use Rattle.probe_queue.specs.Queue.{nil, Held, place, at, passes, leading, queued}
-use Rattle.probe_queue.proofs.Calls.{asks, calls-plain, calls-with, whiles, unless}
+use Rattle.walking.proofs.Calls.{asks, calls-plain, calls-gave, whiles, unless}
 use Rattle.probe_queue.proofs.Leading.{leads}
 use Rattle.probe_queue.proofs.Probe as P
 use Rattle.probe_queue.proofs.Probe.Laws as P′
@@ -212,17 +212,17 @@ module _ {M : Type 1} (𝓤 : URA M) (H : Heap 𝓤) (A : Atoms 𝓤) (W : Given
           whiles ! (load ! (from ! (stop !)) (look ! 4 refl))
           (λ less.
           -- place_of(ring, i)
-          calls-plain ! (fmOf 𝓤 H (W .laws) 𝓣) place-of.ended (place-of.clauses 𝓤 H A mem run) (known .0) (to-place (i .0)) (ask-place (i .0) (ltb→lt (i .0) (ring .len) less)) (λ (n : ℕ). n ≡ place ring (i .0)) (λ n e. id⊢ 𝓤 _)
-          (and-then ! (load ! (from ! (stop !)) (look ! 17 refl)) (and-then ! (load ! (from ! (stop !)) (look ! 11 refl)) (no-more !))) (λ n v en is.
+          calls-plain ! (fmOf 𝓤 H (W .laws) 𝓣) place-of.ended (place-of.clauses 𝓤 H A mem run) (known .0) (to-place (i .0)) (ask-place (i .0) (ltb→lt (i .0) (ring .len) less)) (λ (n : ℕ) _. n ≡ place ring (i .0)) (λ n ws. id⊢ 𝓤 _)
+          (and-then ! (load ! (from ! (stop !)) (look ! 17 refl)) (and-then ! (load ! (from ! (stop !)) (look ! 11 refl)) (no-more !))) (λ n v _ en is.
           land ! (from ! (stop !)) (init ! 8 refl (uint-lawful 𝓤 H A W w64 .typed n _ is .0)) $ rewrite ! 8 (λ (w : Val). ‵ (fat fullShare (tyInt w64) l₆ 0 w)) (ap only (is .0)) refl $
           -- front(queue, at), with a copy of the slice
           move ! (1 ∷ []) $ use1 W (‵ Own ⊛ ‵ Own) (shr-slice-copy 𝓤 H A W (named 0) κ P.the-row .twice x (s ∷ [])) $ split ! $ move ! (2 ∷ 0 ∷ []) $ join ! $
-          calls-with ! (fmOf 𝓤 H (W .laws) 𝓣) front.ended (front.clauses 𝓤 H A mem run) (known .1 .0) (to-front n) (‵ (flft κ q) ⊛ ‵ ftrue) (ask-front n (is .1)) (id⊢ 𝓤 _) (λ (p : Probe). p ≡ getD ys n nil) (λ p e. id⊢ 𝓤 _)
-          (and-then ! (load ! (from ! (stop !)) (look ! 18 refl)) (and-then ! (load ! (from ! (stop !)) (look ! 8 refl)) (no-more !))) (λ p v′ ep is′. split ! $ move ! (1 ∷ []) $ drop ! $
+          calls-gave ! (fmOf 𝓤 H (W .laws) 𝓣) front.ended (front.clauses 𝓤 H A mem run) (known .1 .0) (to-front n) (‵ (flft κ q) ⊛ ‵ ftrue) (ask-front n (is .1)) (id⊢ 𝓤 _) (λ (p : Probe) _. p ≡ getD ys n nil) (λ p ws. id⊢ 𝓤 _)
+          (and-then ! (load ! (from ! (stop !)) (look ! 18 refl)) (and-then ! (load ! (from ! (stop !)) (look ! 8 refl)) (no-more !))) (λ p v′ _ ep is′. move ! (1 ∷ []) $ drop ! $ split ! $ move ! (1 ∷ []) $ drop ! $
           land ! (from ! (stop !)) (init ! 6 refl (LL.lawful P.the-type P′.the-laws 𝓤 H A W .typed p _ is′ .0)) $ rewrite ! 6 (λ (w : Val). ‵ (fat fullShare P′.mir l₇ 0 w)) (ap only (LL.tells P.the-type P′.the-laws p (v′ ∷ []) is′)) refl $
           -- goes_on(probe, rule)
-          calls-plain ! (fmOf 𝓤 H (W .laws) 𝓣) on.ended (on.clauses 𝓤 H A mem run) (known .1 .1) (to-on p) (ask-on p (subst (Is P.the-row p) (LL.tells P.the-type P′.the-laws p (v′ ∷ []) is′) is′)) (λ (t : Bool). t ≡ passes rule p) (λ t e. id⊢ 𝓤 _)
-          (and-then ! (load ! (from ! (stop !)) (look ! 7 refl)) (and-then ! (load ! (from ! (stop !)) (look ! 15 refl)) (no-more !))) (λ t v″ et is″.
+          calls-plain ! (fmOf 𝓤 H (W .laws) 𝓣) on.ended (on.clauses 𝓤 H A mem run) (known .1 .1) (to-on p) (ask-on p (subst (Is P.the-row p) (LL.tells P.the-type P′.the-laws p (v′ ∷ []) is′) is′)) (λ (t : Bool) _. t ≡ passes rule p) (λ t ws. id⊢ 𝓤 _)
+          (and-then ! (load ! (from ! (stop !)) (look ! 7 refl)) (and-then ! (load ! (from ! (stop !)) (look ! 15 refl)) (no-more !))) (λ t v″ _ et is″.
           land ! (from ! (stop !)) (store ! 4 refl (bool-lawful 𝓤 H A W .typed t _ is″ .0)) $ rewrite ! 4 (λ (w : Val). ‵ (fat fullShare tyBool l₈ 0 w)) (ap only is″) refl $
           assigns ! (un ! (load ! (from ! (stop !)) (look ! 4 refl)) tt) (from ! (stop !)) (init ! 2 refl (tt, tt)) $
           unless ! (load ! (from ! (stop !)) (look ! 2 refl))

@@ -45,7 +45,7 @@ use Rattle.scope.specs.Limits.{capacity}
 use Rattle.probe_queue.specs.declared.Probe.{Probe}
 use Rattle.probe_queue.specs.declared.Ring.{Ring}
 use Rattle.probe_queue.specs.Queue.{nil, Held, place, unmarked, popped}
-use Rattle.probe_queue.proofs.Calls.{asks, calls-plain, whiles}
+use Rattle.walking.proofs.Calls.{asks, calls-plain, whiles}
 use Rattle.probe_queue.proofs.SliceCalls.{at-list, sliced-val, calls-mut, calls-seen}
 use Rattle.probe_queue.proofs.Probe as P
 use Rattle.probe_queue.proofs.Probe.Laws as P′
@@ -182,8 +182,8 @@ module _ {M : Type 1} (𝓤 : URA M) (H : Heap 𝓤) (A : Atoms 𝓤) (W : Given
           whiles ! (load ! (from ! (stop !)) (look ! 12 refl))
           (λ less.
           -- place_of(ring, i)
-          calls-plain ! (fmOf 𝓤 H (W .laws) 𝓣) place-of-fn.ended (place-of-fn.clauses 𝓤 H A mem run) (known .0) (to-place (i .0)) (ask-place (i .0) (ltb→lt (i .0) count less)) (λ (n : ℕ). n ≡ place ring (i .0)) (λ n e. id⊢ 𝓤 _)
-          (and-then ! (load ! (from ! (stop !)) (look ! 27 refl)) (and-then ! (load ! (from ! (stop !)) (look ! 21 refl)) (no-more !))) (λ n v en is.
+          calls-plain ! (fmOf 𝓤 H (W .laws) 𝓣) place-of-fn.ended (place-of-fn.clauses 𝓤 H A mem run) (known .0) (to-place (i .0)) (ask-place (i .0) (ltb→lt (i .0) count less)) (λ (n : ℕ) _. n ≡ place ring (i .0)) (λ n ws. id⊢ 𝓤 _)
+          (and-then ! (load ! (from ! (stop !)) (look ! 27 refl)) (and-then ! (load ! (from ! (stop !)) (look ! 21 refl)) (no-more !))) (λ n v _ en is.
           land ! (from ! (stop !)) (init ! 18 refl (uint-lawful 𝓤 H A W w64 .typed n _ is .0)) $ rewrite ! 18 (λ (w : Val). ‵ (fat fullShare (tyInt w64) l₆ 0 w)) (ap only (is .0)) refl $
           -- front(queue, at)
           assigns ! (addr ! (from ! (fld ! refl (hop ! (look-in ! 28 (sub ! 0 refl (whole !))) (stop !))))) (from ! (stop !)) (init ! 10 refl (tt, tt)) $

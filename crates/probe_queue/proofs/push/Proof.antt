@@ -41,7 +41,7 @@ use denote.Triple.Walked.{says, Stays, stay-none, stay-slice, walkOf, AllGo, goe
 use denote.Exit.{yes}
 use Rattle.probe_queue.specs.declared.Probe.{Probe}
 use Rattle.probe_queue.specs.Queue.{nil}
-use Rattle.probe_queue.proofs.Calls.{unless}
+use Rattle.walking.proofs.Calls.{unless}
 use Rattle.probe_queue.proofs.SliceCalls.{at-list, sliced-val}
 use Rattle.probe_queue.proofs.Probe as P
 use Rattle.probe_queue.proofs.Probe.Laws as P′

@@ -44,7 +44,7 @@ use denote.Exit.{yes}
 use Rattle.probe_queue.specs.declared.Probe.{Probe}
 use Rattle.probe_queue.specs.declared.Ring.{Ring}
 use Rattle.probe_queue.specs.Queue.{nil, Held, place, unmark, placeIf, unmarked}
-use Rattle.probe_queue.proofs.Calls.{asks, calls-plain, whiles}
+use Rattle.walking.proofs.Calls.{asks, calls-plain, whiles}
 use Rattle.probe_queue.proofs.SliceCalls.{at-list, sliced-val, calls-mut, calls-seen}
 use Rattle.probe_queue.proofs.Probe as P
 use Rattle.probe_queue.proofs.Probe.Laws as P′
@@ -211,8 +211,8 @@ module _ {M : Type 1} (𝓤 : URA M) (H : Heap 𝓤) (A : Atoms 𝓤) (W : Given
           whiles ! (load ! (from ! (stop !)) (look ! 12 refl))
           (λ less.
           -- place_of(ring, i)
-          calls-plain ! (fmOf 𝓤 H (W .laws) 𝓣) place-of-fn.ended (place-of-fn.clauses 𝓤 H A mem run) (known .0) (to-place (i .0)) (ask-place (i .0) (ltb→lt (i .0) (ring .len) less)) (λ (n : ℕ). n ≡ place ring (i .0)) (λ n e. id⊢ 𝓤 _)
-          (and-then ! (load ! (from ! (stop !)) (look ! 29 refl)) (and-then ! (load ! (from ! (stop !)) (look ! 23 refl)) (no-more !))) (λ n v en is.
+          calls-plain ! (fmOf 𝓤 H (W .laws) 𝓣) place-of-fn.ended (place-of-fn.clauses 𝓤 H A mem run) (known .0) (to-place (i .0)) (ask-place (i .0) (ltb→lt (i .0) (ring .len) less)) (λ (n : ℕ) _. n ≡ place ring (i .0)) (λ n ws. id⊢ 𝓤 _)
+          (and-then ! (load ! (from ! (stop !)) (look ! 29 refl)) (and-then ! (load ! (from ! (stop !)) (look ! 23 refl)) (no-more !))) (λ n v _ en is.
           land ! (from ! (stop !)) (init ! 20 refl (uint-lawful 𝓤 H A W w64 .typed n _ is .0)) $ rewrite ! 20 (λ (w : Val). ‵ (fat fullShare (tyInt w64) l₆ 0 w)) (ap only (is .0)) refl $
           -- front(queue, at)
           assigns ! (addr ! (from ! (fld ! refl (hop ! (look-in ! 30 (sub ! 0 refl (whole !))) (stop !))))) (from ! (stop !)) (init ! 10 refl (tt, tt)) $
@@ -221,12 +221,12 @@ module _ {M : Type 1} (𝓤 : URA M) (H : Heap 𝓤) (A : Atoms 𝓤) (W : Given
           (λ ν δ. (and-then ! (load ! (from ! (stop !)) (look ! 8 refl)) (and-then ! (load ! (from ! (stop !)) (look ! 20 refl)) (no-more !)))) (λ ν δ p v′ ep is′.
           land ! (from ! (stop !)) (init ! 18 refl (LL.lawful P.the-type P′.the-laws 𝓤 H A W .typed p _ is′ .0)) $ rewrite ! 18 (λ (w : Val). ‵ (fat fullShare P′.mir l₇ 0 w)) (ap only (LL.tells P.the-type P′.the-laws p (v′ ∷ []) is′)) refl $
           -- unmarked(probe, sequence)
-          calls-plain ! (fmOf 𝓤 H (W .laws) 𝓣) unmarked-fn.ended (unmarked-fn.clauses 𝓤 H A mem run) (known .1 .1 .0) (to-unmarked p) (ask-unmarked p (subst (Is P.the-row p) (LL.tells P.the-type P′.the-laws p (v′ ∷ []) is′) is′)) (λ (c : Probe). c ≡ unmark sq p) (λ c e. id⊢ 𝓤 _)
-          (and-then ! (load ! (from ! (stop !)) (look ! 19 refl)) (and-then ! (load ! (from ! (stop !)) (look ! 27 refl)) (no-more !))) (λ c v‴ ec is‴.
+          calls-plain ! (fmOf 𝓤 H (W .laws) 𝓣) unmarked-fn.ended (unmarked-fn.clauses 𝓤 H A mem run) (known .1 .1 .0) (to-unmarked p) (ask-unmarked p (subst (Is P.the-row p) (LL.tells P.the-type P′.the-laws p (v′ ∷ []) is′) is′)) (λ (c : Probe) _. c ≡ unmark sq p) (λ c ws. id⊢ 𝓤 _)
+          (and-then ! (load ! (from ! (stop !)) (look ! 19 refl)) (and-then ! (load ! (from ! (stop !)) (look ! 27 refl)) (no-more !))) (λ c v‴ _ ec is‴.
           land ! (from ! (stop !)) (init ! 16 refl (LL.lawful P.the-type P′.the-laws 𝓤 H A W .typed c _ is‴ .0)) $ rewrite ! 16 (λ (w : Val). ‵ (fat fullShare P′.mir l₈ 0 w)) (ap only (LL.tells P.the-type P′.the-laws c (v‴ ∷ []) is‴)) refl $
           -- place_if(probe, sequence, at)
-          calls-plain ! (fmOf 𝓤 H (W .laws) 𝓣) place-if-fn.ended (place-if-fn.clauses 𝓤 H A mem run) (known .1 .1 .1 .0) (to-place-if p n) (ask-place-if p n (subst (Is P.the-row p) (LL.tells P.the-type P′.the-laws p (v′ ∷ []) is′) is′) (is .1)) (λ (k : ℕ). k ≡ placeIf sq p n) (λ k e. id⊢ 𝓤 _)
-          (and-then ! (load ! (from ! (stop !)) (look ! 19 refl)) (and-then ! (load ! (from ! (stop !)) (look ! 27 refl)) (and-then ! (load ! (from ! (stop !)) (look ! 21 refl)) (no-more !)))) (λ to w et to-is.
+          calls-plain ! (fmOf 𝓤 H (W .laws) 𝓣) place-if-fn.ended (place-if-fn.clauses 𝓤 H A mem run) (known .1 .1 .1 .0) (to-place-if p n) (ask-place-if p n (subst (Is P.the-row p) (LL.tells P.the-type P′.the-laws p (v′ ∷ []) is′) is′) (is .1)) (λ (k : ℕ) _. k ≡ placeIf sq p n) (λ k ws. id⊢ 𝓤 _)
+          (and-then ! (load ! (from ! (stop !)) (look ! 19 refl)) (and-then ! (load ! (from ! (stop !)) (look ! 27 refl)) (and-then ! (load ! (from ! (stop !)) (look ! 21 refl)) (no-more !)))) (λ to w _ et to-is.
           land ! (from ! (stop !)) (init ! 14 refl (uint-lawful 𝓤 H A W w64 .typed to _ to-is .0)) $ rewrite ! 14 (λ (w : Val). ‵ (fat fullShare (tyInt w64) l₉ 0 w)) (ap only (to-is .0)) refl $
           -- push(queue, to, changed)
           assigns ! (addr ! (from ! (fld ! refl (hop ! (look-in ! 30 (sub ! 0 refl (whole !))) (stop !))))) (from ! (stop !)) (init ! 4 refl (tt, tt)) $

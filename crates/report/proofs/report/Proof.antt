@@ -4,15 +4,15 @@ use mathlib.Core.Bool.{Bool}
 use mathlib.Core.List.{List, _++_}
 use Prim.Native.Nat.{ℕ, _+_}
 use native.Mathlib.Omega.{arith}
+use lib.Dec.{lit≤}
 use lib.ListN.{length, drop}
 use denote.Ref.{now}
 use borrow.Author.Tests.{eq-eqb, ne-eqb}
 use Rattle.decimal.specs.Writing.{Stands, over}
-use Rattle.decimal.proofs.Places.{then}
 use Rattle.report.specs.declared.Answer.the-variants.{Written}
-use Rattle.report.specs.Lines.{textOf}
-use Rattle.report.specs.Parts.{countLines, measureLines}
-use Rattle.report.proofs.Joined.{text-joined}
+use Rattle.template.specs.Filled.{filled, places}
+use Rattle.template.specs.declared.Shown.{Shown}
+use Rattle.report.specs.Lines.{template, valuesOf, textOf}
 use Rattle.report.specs.Report.{Outcome, outcome, pickOutcome, written, wrong, reportOf}
 use borrow.Author.Needs.{needs}
 use Rattle.report.proofs.report.Statement.{statement}
@@ -33,28 +33,33 @@ returns c =
     let start = c .before .before in
     sym (ap (λ (b : Bool). pickOutcome b (written (textOf (start .args .figures)) (now (start .args .buffer))) (wrong (now (start .args .buffer)))) (ne-eqb _ _ (c .if1 .taken)))
 
-put-count-lines-requires : tie.Need-put-count-lines-requires
-put-count-lines-requires c κs = search needs
+values-of-requires : tie.Need-values-of-requires
+values-of-requires c κs = search needs
 
-put-measure-lines-requires : tie.Need-put-measure-lines-requires
-put-measure-lines-requires c κs = search needs
+slice-aggregate-fill : tie.Need-slice-aggregate-fill
+slice-aggregate-fill c = search needs
+
+fill-requires : tie.Need-fill-requires
+unfolding places valuesOf
+fill-requires c κs = rw (c .before .before .values-of .ensures, c .before .before .before .if1 .left) (lit≤ tt, lit≤ tt)
 
 same-length : tie.Need-same-length
 same-length c = search needs
 
 returns-2 : tie.Need-returns-2
-unfolding reportOf
+unfolding reportOf textOf
 returns-2 c =
-    let second = c .before .before in
-    let first = second .before .before .before .before in
-    let test = first .before .before in
+    let last = c .before .before in
+    let values = last .before .before .before in
+    let test = values .before in
     let start = test .before .before in
     let before = now (start .args .buffer) in
-    stands 901 (countLines (start .args .figures) ++ measureLines (start .args .figures)) before _ _ (then (omega (arith, test .if1 .left)) (first .put-count-lines .ensures) (second .put-measure-lines .ensures))
-    ∙ ap (λ (t : List ℕ). written t before) (text-joined (start .args .figures))
-    ∙ sym (ap (λ (b : Bool). pickOutcome b (written (textOf (start .args .figures)) before) (wrong before)) (eq-eqb _ _ (test .if1 .left)))
+    let figures = start .args .figures in
+    stands _ _ before _ _ (last .fill .ensures)
+    ∙ ap (λ (vs : List Shown). written (filled template vs) before) (values .values-of .ensures)
+    ∙ sym (ap (λ (b : Bool). pickOutcome b (written (textOf figures) before) (wrong before)) (eq-eqb _ _ (test .if1 .left)))
 
 pub report-spec : {M : Type 1} → statement M
 report-spec =
     tie.close
-    (tie.spec returns put-count-lines-requires put-measure-lines-requires same-length returns-2)
+    (tie.spec returns values-of-requires slice-aggregate-fill fill-requires same-length returns-2)

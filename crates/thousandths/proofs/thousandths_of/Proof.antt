@@ -6,6 +6,7 @@ use native.Mathlib.Omega.{arith}
 use native.Mathlib.Nat.{mod-lt}
 use borrow.Author.Tests.{eq-eqb, ne-eqb}
 use Rattle.thousandths.specs.Thousandths.{thousandthsOf, thousandthsBy}
+use Rattle.thousandths.specs.declared.Thousandths.the-variants.{Known}
 use Rattle.thousandths.proofs.Places.{three, at-most-one}
 use borrow.Author.Needs.{needs}
 use Rattle.thousandths.proofs.thousandths_of.Statement.{statement}
@@ -27,32 +28,32 @@ tenfold-requires-2 c κs = search needs
 tenfold-requires-3 : tie.Need-tenfold-requires-3
 tenfold-requires-3 c κs = search needs
 
-div-result : tie.Need-div-result
-div-result c = search needs
+div-figure : tie.Need-div-figure
+div-figure c = search needs
 
-mul-result : tie.Need-mul-result
-mul-result c = record { fits = omega (arith, at-most-one (c .before .before .before .before .args .unobserved) (c .before .before .before .before .args .requested) (c .before .before .before .before .pre)) }
+mul-figure : tie.Need-mul-figure
+mul-figure c = record { fits = omega (arith, at-most-one (c .before .before .before .before .args .unobserved) (c .before .before .before .before .args .requested) (c .before .before .before .before .pre)) }
 
-mul-result-2 : tie.Need-mul-result-2
-mul-result-2 c = search needs
+mul-figure-2 : tie.Need-mul-figure-2
+mul-figure-2 c = search needs
 
-add-result : tie.Need-add-result
-add-result c = record { fits = omega (arith, at-most-one (c .before .before .before .before .before .args .unobserved) (c .before .before .before .before .before .args .requested) (c .before .before .before .before .before .pre), c .before .before .before .tenfold .ensures .2) }
+add-figure : tie.Need-add-figure
+add-figure c = record { fits = omega (arith, at-most-one (c .before .before .before .before .before .args .unobserved) (c .before .before .before .before .before .args .requested) (c .before .before .before .before .before .pre), c .before .before .before .tenfold .ensures .2) }
 
-mul-result-3 : tie.Need-mul-result-3
-mul-result-3 c = search needs
+mul-figure-3 : tie.Need-mul-figure-3
+mul-figure-3 c = search needs
 
-add-result-2 : tie.Need-add-result-2
-add-result-2 c = record { fits = omega (arith, at-most-one (c .before .before .before .before .before .before .args .unobserved) (c .before .before .before .before .before .before .args .requested) (c .before .before .before .before .before .before .pre), c .before .before .before .before .tenfold .ensures .2, c .before .before .before .tenfold2 .ensures .2) }
+add-figure-2 : tie.Need-add-figure-2
+add-figure-2 c = record { fits = omega (arith, at-most-one (c .before .before .before .before .before .before .args .unobserved) (c .before .before .before .before .before .before .args .requested) (c .before .before .before .before .before .before .pre), c .before .before .before .before .tenfold .ensures .2, c .before .before .before .tenfold2 .ensures .2) }
 
-add-result-3 : tie.Need-add-result-3
-add-result-3 c = record { fits = omega (arith, at-most-one (c .before .before .before .before .before .before .before .args .unobserved) (c .before .before .before .before .before .before .before .args .requested) (c .before .before .before .before .before .before .before .pre), c .before .before .before .before .before .tenfold .ensures .2, c .before .before .before .before .tenfold2 .ensures .2, c .before .before .before .tenfold3 .ensures .2) }
+add-figure-3 : tie.Need-add-figure-3
+add-figure-3 c = record { fits = omega (arith, at-most-one (c .before .before .before .before .before .before .before .args .unobserved) (c .before .before .before .before .before .before .before .args .requested) (c .before .before .before .before .before .before .before .pre), c .before .before .before .before .before .tenfold .ensures .2, c .before .before .before .before .tenfold2 .ensures .2, c .before .before .before .tenfold3 .ensures .2) }
 
 returns-2 : tie.Need-returns-2
 unfolding thousandthsOf
 returns-2 c =
-    three (c .before .before .before .before .before .before .before .args .unobserved) (c .before .before .before .before .before .before .before .args .requested) (omega (arith, c .before .before .before .before .before .before .if1 .left)) _ _ _ _ _
-    (c .before .before .before .before .before .tenfold .ensures .0) (c .before .before .before .before .before .tenfold .ensures .1) (c .before .before .before .before .tenfold2 .ensures .0) (c .before .before .before .before .tenfold2 .ensures .1) (c .before .before .before .tenfold3 .ensures .0)
+    ap Known (three (c .before .before .before .before .before .before .before .args .unobserved) (c .before .before .before .before .before .before .before .args .requested) (omega (arith, c .before .before .before .before .before .before .if1 .left)) _ _ _ _ _
+    (c .before .before .before .before .before .tenfold .ensures .0) (c .before .before .before .before .before .tenfold .ensures .1) (c .before .before .before .before .tenfold2 .ensures .0) (c .before .before .before .before .tenfold2 .ensures .1) (c .before .before .before .tenfold3 .ensures .0))
     ∙ sym (ap (λ (b : Bool). thousandthsBy b (c .before .before .before .before .before .before .before .args .unobserved) (c .before .before .before .before .before .before .before .args .requested)) (ne-eqb _ _ (c .before .before .before .before .before .before .if1 .left)))
 
 pub thousandths-of-spec : {M : Type 1} → statement M
@@ -64,11 +65,11 @@ thousandths-of-spec =
     tenfold-requires
     tenfold-requires-2
     tenfold-requires-3
-    div-result
-    mul-result
-    mul-result-2
-    add-result
-    mul-result-3
-    add-result-2
-    add-result-3
+    div-figure
+    mul-figure
+    mul-figure-2
+    add-figure
+    mul-figure-3
+    add-figure-2
+    add-figure-3
     returns-2)

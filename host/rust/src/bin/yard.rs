@@ -5,8 +5,8 @@
 #![forbid(unsafe_code)]
 
 use ambrulicciu::{
-    report_of_log, Accepted, ClockQuality, Counters, Estimate, FollowUp, Format, Key, Link, Log, Observation, Packet, Parts, Quantiles,
-    Refusal, Rooms, Settings,
+    calls, report_of_log, Accepted, ClockQuality, Counters, Estimate, FollowUp, Format, Key, Link, Log, Observation, Packet, Parts, Quantiles,
+    Refusal, Rooms, Settings, ROWS,
 };
 use std::{
     collections::{HashMap, VecDeque},
@@ -195,6 +195,10 @@ fn show(host: &Host, secret: &[u32; 8], file: Option<&String>) {
     let report = host.link.report(records, host.turned_away);
     print!("{report}");
     let figures = host.link.snapshot();
+    match figures.thousandths.get() {
+        Some(lost) => println!("loss: {lost} of 1,000"),
+        None => println!("loss: - (nothing was requested)"),
+    }
     let ms = |ns: u64| ns as f64 / MS as f64;
     if let Ok(Some([middle, most])) = host.round_trips.percentiles([50.0, 100.0]) {
         println!("round trips: half within {:.3} ms, all within {:.3} ms", ms(middle), ms(most));
@@ -206,7 +210,7 @@ fn show(host: &Host, secret: &[u32; 8], file: Option<&String>) {
         println!("both clocks together within {error:.6} ms by their own account");
     }
     let log = host.log.bytes().expect("at most 682 records");
-    let again = report_of_log(&log, secret, &mut Rooms::new()).expect("rooms of their size");
+    let again = report_of_log(&log, secret, &mut Rooms::new(), &mut vec![calls::Queued::default(); ROWS]).expect("a good log");
     assert_eq!(again, report, "the report of the log must be the report of the link");
     if let Some(file) = file {
         fs::write(file, log).expect("the log written");
