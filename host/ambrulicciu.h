@@ -30,6 +30,7 @@
  *       queue    98,304    the monitor's probes that await a reply, if the link is watched
  *     together  475,808    (377,408 without a monitor); ambrulicciu_link below has them all, and a word
  *   A series of quantiles: state 32, room 92,160 (signed: 149,512). A report: a buffer of 1,024. A log: at most 65,536.
+ *   A summary of bit errors, one for each direction: 64.
  *   A room may hold anything when a link is made fresh: it need not be cleared.
  *
  * A HOST IN SHORT (host/c has a whole one)
@@ -68,6 +69,10 @@ extern "C" {
 #define AMBRULICCIU_TOO_LONG 9    /* link_log::TOO_LONG: more than 65,536 bytes */
 #define AMBRULICCIU_BAD_TRAILER 7 /* host_log_read::BAD_TRAILER: no trailer of a log at the end */
 #define AMBRULICCIU_BAD_RECORD 8  /* log_record::BAD_RECORD: a record that is none */
+/* Of bit errors, in this order: */
+#define AMBRULICCIU_TOO_MUCH_PADDING 14 /* scope_requests::TOO_MUCH_PADDING: padding above 65,535 bytes, or a sample above 524,280 bits */
+#define AMBRULICCIU_BAD_PATTERN 13      /* scope_requests::BAD_PATTERN: a pattern's text that is none */
+#define AMBRULICCIU_SHORT_ROOM 12       /* scope_requests::SHORT_ROOM: a room too short for what is to be written */
 
 /* ---- version -----------------------------------------------------------------------------------------------------------------------
  * Of this header: 1,000,000 times the first part, 1,000 times the second, and the third. */
@@ -96,6 +101,7 @@ typedef struct { uint64_t word[72]; } ambrulicciu_ledger;
 typedef struct { uint64_t word[12]; } ambrulicciu_monitor;
 typedef struct { uint64_t word[12]; } ambrulicciu_clock_quality;
 typedef struct { uint64_t word[4]; } ambrulicciu_quantiles;
+typedef struct { uint64_t word[8]; } ambrulicciu_bit_summary;
 typedef struct { uint64_t word[2]; } ambrulicciu_key;
 typedef struct { uint64_t word[3]; } ambrulicciu_slot;
 typedef struct { uint64_t word[4]; } ambrulicciu_probe;
@@ -435,6 +441,78 @@ uint8_t ambrulicciu_quantiles_record(ambrulicciu_quantiles *quantiles, uint64_t 
 uint8_t ambrulicciu_quantiles_percentiles(const ambrulicciu_quantiles *quantiles, const uint64_t *room, size_t room_length,
                                           const double *percents, size_t percents_length, uint64_t *shown, size_t shown_length,
                                           uint64_t *present);
+
+/* ---- bit errors --------------------------------------------------------------------------------------------------------------------
+ * How many bits of a reply's padding were wrong on the way (draft-gandhi-ippm-stamp-ber-07), for a link in either direction. The padding is
+ * held against a pattern that is repeated as often as it takes; the first bit of a byte is the highest, and a run of wrong bits goes over
+ * the borders of bytes. A host parses the pattern once; for each accepted reply it hands over the reply's items; and it records the sample
+ * in two summaries: forward_errors and forward_burst in one, reverse_errors and reverse_burst in the other. */
+
+/* What a reply's items make. */
+#define AMBRULICCIU_BITS_UNUSABLE 0    /* no sample: nothing is to be counted */
+#define AMBRULICCIU_BITS_UNSUPPORTED 1 /* the reflector does not do this: the host asks it no more */
+#define AMBRULICCIU_BITS_SAMPLED 2     /* a sample */
+
+typedef struct {
+    uint64_t errors;  /* bits that differ */
+    uint64_t longest; /* the longest run of them */
+} ambrulicciu_bit_errors_found;
+
+typedef struct {
+    uint64_t class_;              /* AMBRULICCIU_BITS_..; only the last has more, and otherwise the other fields stay */
+    uint64_t bits;                /* of the padding */
+    uint64_t forward_errors;      /* that the reflector counted */
+    uint64_t forward_burst_known; /* whether it told the longest run */
+    uint64_t forward_burst;
+    uint64_t reverse_errors;      /* counted here */
+    uint64_t reverse_burst;
+} ambrulicciu_bit_sample;
+
+typedef struct {
+    uint64_t packets_received;
+    uint64_t packets_with_errors;
+    uint64_t padding_bits;
+    uint64_t bit_errors;
+    uint64_t burst_samples;
+    uint64_t max_burst_known;
+    uint64_t max_burst_bits;
+    uint64_t bit_error_ratio_known; /* 0 while no bits were counted */
+    double bit_error_ratio;
+    uint64_t bit_errors_per_million_known;
+    double bit_errors_per_million;
+    uint64_t packets_with_errors_per_million_known; /* 0 while no packet was */
+    double packets_with_errors_per_million;
+    uint64_t average_max_burst_known; /* 0 while no burst was */
+    double average_max_burst_bits;
+} ambrulicciu_bit_figures;
+
+/* The bytes of a pattern in hexadecimal digits of either case, with or without one leading 0x, to the start of the room; `length` is how
+ * many. The rest of the room stays. Refuses 13: empty behind the 0x, an odd number of digits, a character that is none; then 12: a room
+ * shorter than the bytes. */
+uint8_t ambrulicciu_parse_pattern(const uint8_t *text, size_t text_length, uint8_t *room, size_t room_length, uint64_t *length);
+
+/* The bits of the padding that differ from the pattern, repeated; an empty pattern differs nowhere. Changes only `counts`. Refuses 14:
+ * padding above 65,535 bytes. Stack: 2 KB. */
+uint8_t ambrulicciu_bit_errors(const uint8_t *padding, size_t padding_length, const uint8_t *pattern, size_t pattern_length,
+                               ambrulicciu_bit_errors_found *counts);
+
+/* What a reply's items make, in the packet's order, HMAC too. An item of the extension area (RFC 8972, 4) is one word: its header's four
+ * bytes as they stand in the packet (flags, type, two of length), the first highest, then 32 bits of where its value begins in `bytes`. A
+ * value reaches as far as the bytes do. `size` is the padding that the host sends, `intact` whether the reply's HMAC verified (or none was
+ * due), `wanted` whether it asks for bursts. Changes only `answer`. Refuses 14: a size above 65,535. Stack: 2 KB. */
+uint8_t ambrulicciu_bit_observation(const uint64_t *items, size_t items_length, const uint8_t *bytes, size_t bytes_length,
+                                    const uint8_t *pattern, size_t pattern_length, size_t size, uint32_t intact, uint32_t wanted,
+                                    ambrulicciu_bit_sample *answer);
+
+/* No packet yet. Refuses nothing. */
+uint8_t ambrulicciu_bit_summary_fresh(ambrulicciu_bit_summary *summary);
+
+/* One packet more: its bits, the wrong ones, and the longest run of them; `known` 0: that is not known. Refuses 14: more than 524,280 bits;
+ * then 4: a count or a sum at 2^63 or beyond. */
+uint8_t ambrulicciu_bit_summary_record(ambrulicciu_bit_summary *summary, uint64_t bits, uint32_t errors, uint32_t known, uint32_t burst);
+
+/* Changes only `shown`. Refuses nothing. */
+uint8_t ambrulicciu_bit_summary_show(const ambrulicciu_bit_summary *summary, ambrulicciu_bit_figures *shown);
 
 /* ---- the log -----------------------------------------------------------------------------------------------------------------------
  * A log is the list of calls on one link: a record of 96 bytes for each, then a trailer of 24 bytes. The program linkreport plays it from

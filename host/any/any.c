@@ -453,6 +453,70 @@ static void try_quantiles(void) {
     done("quantiles_percentiles", ambrulicciu_quantiles_percentiles(q, room, words, percents, count, shown, other, present), "5");
 }
 
+/* ---- bit errors */
+
+static void try_bits(void) {
+    static const char digits[] = "0123456789abcdefABCDEFxX0123456789abcdefABCDEF0123456789abcdefg";
+    size_t size = drawn() % 40;
+    uint8_t *text = lend(size, 1);
+    uint64_t kinds = drawn() % 8 ? 10 + drawn() % 6 : sizeof digits - 1;
+    for (size_t i = 0; i < size && drawn() % 64; i++)
+        text[i] = (uint8_t)digits[drawn() % kinds];
+    if (size > 1 && drawn() % 2)
+        memcpy(text, "0x", 2);
+    size_t room = drawn() % 24;
+    uint8_t *bytes = lend(room, 0);
+    uint64_t *length = lend(8, 0);
+    ready();
+    done("parse_pattern", ambrulicciu_parse_pattern(text, size, bytes, room, length), "dc");
+    size_t padding = drawn() % 16 ? drawn() % 300 : 65530 + drawn() % 10;
+    uint8_t *sent = lend(padding, 1);
+    size_t pattern_length = drawn() % 4 ? drawn() % 9 : drawn() % 600;
+    uint8_t *pattern = lend(pattern_length, 1);
+    ambrulicciu_bit_errors_found *counts = lend(sizeof *counts, 0);
+    ready();
+    done("bit_errors", ambrulicciu_bit_errors(sent, padding, pattern, pattern_length, counts), "e");
+    size_t count = drawn() % 6, wire = drawn() % 64;
+    uint64_t told = drawn() % 8 ? drawn() % 20 : number();
+    pattern_length %= 5;
+    int whole = drawn() % 2; /* a reply as a reflector writes it: the pattern, a count and a burst of 0, the padding */
+    if (whole) {
+        count = 4;
+        told = drawn() % 1500;
+        pattern_length = 1 + drawn() % 600;
+        wire = pattern_length + 8 + told;
+    }
+    uint64_t *items = lend(8 * count, 1);
+    uint8_t *packet = lend(wire, 1);
+    pattern = lend(pattern_length, 1);
+    static const uint64_t types[6] = {1, 8, 240, 241, 242, 5};
+    for (size_t i = 0; !whole && i < count && drawn() % 16; i++)
+        items[i] = (uint64_t)(drawn() % 8 ? 0 : drawn() % 256) << 56 | types[drawn() % 6] << 48 | (drawn() % 2 ? 4 : drawn() % 20) << 32 | drawn() % 70;
+    if (whole) {
+        memcpy(packet, pattern, pattern_length);
+        memset(packet + pattern_length, 0, 8);
+        items[0] = 240ull << 48 | (uint64_t)pattern_length << 32;
+        items[1] = 241ull << 48 | 4ull << 32 | pattern_length;
+        items[2] = 242ull << 48 | 4ull << 32 | (pattern_length + 4);
+        items[3] = 1ull << 48 | told << 32 | (pattern_length + 8);
+    }
+    ambrulicciu_bit_sample *sample = lend(sizeof *sample, 0);
+    ready();
+    done("bit_observation", ambrulicciu_bit_observation(items, count, packet, wire, pattern, pattern_length, told, (uint32_t)number(), (uint32_t)number(), sample), "e");
+    ambrulicciu_bit_summary *summary = lend(sizeof *summary, 0);
+    ready();
+    done("bit_summary_fresh", ambrulicciu_bit_summary_fresh(summary), "");
+    summary = lend(sizeof *summary, 0);
+    if (drawn() % 4)
+        ambrulicciu_bit_summary_fresh(summary);
+    ready();
+    done("bit_summary_record", ambrulicciu_bit_summary_record(summary, drawn() % 4 ? drawn() % 524290 : number(), (uint32_t)number(), (uint32_t)number(), (uint32_t)number()), "e4");
+    summary = lend(sizeof *summary, 1);
+    ambrulicciu_bit_figures *figures = lend(sizeof *figures, 0);
+    ready();
+    done("bit_summary_show", ambrulicciu_bit_summary_show(summary, figures), "");
+}
+
 /* ---- logs and reports */
 
 static size_t bytes_of(size_t right) {
@@ -589,7 +653,7 @@ static void try_reports(void) {
 
 int main(int argc, char **argv) {
     static void (*const tries[])(void) = {try_version, try_fresh, try_sent, try_accept, try_lookup, try_observe, try_answered, try_reads, try_watched_sent,
-                                          try_watched_accept, try_monitor, try_estimates, try_quality, try_quantiles, try_writers, try_logs, try_again, try_reports};
+                                          try_watched_accept, try_monitor, try_estimates, try_quality, try_quantiles, try_bits, try_writers, try_logs, try_again, try_reports};
     long rounds = argc > 1 ? atol(argv[1]) : 500;
     seed = argc > 2 ? strtoull(argv[2], NULL, 10) : 1;
     for (long round = 0; round < rounds; round++)

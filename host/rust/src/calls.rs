@@ -43,6 +43,29 @@ pub struct Observation {
 
 const _: () = assert!(std::mem::size_of::<Observation>() == 24 * 4);
 
+/// What a summary of bit errors shows; a value is 0 where its `_known` is.
+#[repr(C)]
+#[derive(Clone, Copy, Debug, Default, PartialEq)]
+pub struct BitFigures {
+    pub packets_received: u64,
+    pub packets_with_errors: u64,
+    pub padding_bits: u64,
+    pub bit_errors: u64,
+    pub burst_samples: u64,
+    pub max_burst_known: u64,
+    pub max_burst_bits: u64,
+    pub bit_error_ratio_known: u64,
+    pub bit_error_ratio: f64,
+    pub bit_errors_per_million_known: u64,
+    pub bit_errors_per_million: f64,
+    pub packets_with_errors_per_million_known: u64,
+    pub packets_with_errors_per_million: f64,
+    pub average_max_burst_known: u64,
+    pub average_max_burst_bits: f64,
+}
+
+const _: () = assert!(std::mem::size_of::<BitFigures>() == 15 * 8);
+
 /// A probe in the monitor's queue; mark 0: its sequence is not marked.
 #[repr(C)]
 #[derive(Clone, Copy, Debug, Default, PartialEq, Eq)]
@@ -210,6 +233,35 @@ extern "C" {
     fn ambrulicciu_clock_quality_fresh(quality: &mut [u64; 12]) -> u8;
     fn ambrulicciu_clock_quality_record(quality: &mut [u64; 12], estimated: u32, sender: u16, reflector: u16) -> u8;
     fn ambrulicciu_clock_quality_summary(quality: &[u64; 12], shown: &mut Quality) -> u8;
+    fn ambrulicciu_parse_pattern(
+        text: *const u8,
+        text_length: usize,
+        room: *mut u8,
+        room_length: usize,
+        length: &mut [u64; 1],
+    ) -> u8;
+    fn ambrulicciu_bit_errors(
+        padding: *const u8,
+        padding_length: usize,
+        pattern: *const u8,
+        pattern_length: usize,
+        counts: &mut [u64; 2],
+    ) -> u8;
+    fn ambrulicciu_bit_observation(
+        items: *const u64,
+        items_length: usize,
+        bytes: *const u8,
+        bytes_length: usize,
+        pattern: *const u8,
+        pattern_length: usize,
+        size: usize,
+        intact: u32,
+        wanted: u32,
+        answer: &mut [u64; 7],
+    ) -> u8;
+    fn ambrulicciu_bit_summary_fresh(summary: &mut [u64; 8]) -> u8;
+    fn ambrulicciu_bit_summary_record(summary: &mut [u64; 8], bits: u64, errors: u32, known: u32, burst: u32) -> u8;
+    fn ambrulicciu_bit_summary_show(summary: &[u64; 8], shown: &mut BitFigures) -> u8;
     fn ambrulicciu_quantiles_fresh(quantiles: &mut [u64; 4], signed: u32) -> u8;
     fn ambrulicciu_quantiles_record(
         quantiles: &mut [u64; 4],
@@ -534,6 +586,43 @@ pub fn clock_quality_record(quality: &mut [u64; 12], estimated: u32, sender: u16
 
 pub fn clock_quality_summary(quality: &[u64; 12], shown: &mut Quality) -> u8 {
     unsafe { ambrulicciu_clock_quality_summary(quality, shown) }
+}
+
+pub fn parse_pattern(text: &[u8], room: &mut [u8], length: &mut [u64; 1]) -> u8 {
+    unsafe { ambrulicciu_parse_pattern(text.as_ptr(), text.len(), room.as_mut_ptr(), room.len(), length) }
+}
+
+pub fn bit_errors(padding: &[u8], pattern: &[u8], counts: &mut [u64; 2]) -> u8 {
+    unsafe { ambrulicciu_bit_errors(padding.as_ptr(), padding.len(), pattern.as_ptr(), pattern.len(), counts) }
+}
+
+pub fn bit_observation(items: &[u64], bytes: &[u8], pattern: &[u8], size: usize, intact: u32, wanted: u32, answer: &mut [u64; 7]) -> u8 {
+    unsafe {
+        ambrulicciu_bit_observation(
+            items.as_ptr(),
+            items.len(),
+            bytes.as_ptr(),
+            bytes.len(),
+            pattern.as_ptr(),
+            pattern.len(),
+            size,
+            intact,
+            wanted,
+            answer,
+        )
+    }
+}
+
+pub fn bit_summary_fresh(summary: &mut [u64; 8]) -> u8 {
+    unsafe { ambrulicciu_bit_summary_fresh(summary) }
+}
+
+pub fn bit_summary_record(summary: &mut [u64; 8], bits: u64, errors: u32, known: u32, burst: u32) -> u8 {
+    unsafe { ambrulicciu_bit_summary_record(summary, bits, errors, known, burst) }
+}
+
+pub fn bit_summary_show(summary: &[u64; 8], shown: &mut BitFigures) -> u8 {
+    unsafe { ambrulicciu_bit_summary_show(summary, shown) }
 }
 
 pub fn quantiles_fresh(quantiles: &mut [u64; 4], signed: u32) -> u8 {

@@ -5,6 +5,7 @@
 //! [`calls`], whose functions are safe: the library is proved to touch no memory but what it is lent, whatever that holds.
 #![deny(unsafe_code)]
 
+mod bits;
 #[allow(unsafe_code)]
 pub mod calls;
 mod estimate;
@@ -16,6 +17,7 @@ mod quantiles;
 mod refusal;
 mod shown;
 
+pub use bits::{bit_errors, bit_observation, pattern_of, BitErrors, BitObservation, BitSummary, Item};
 pub use estimate::{Estimate, Parts};
 pub use link::{report_of_log, Accepted, Found, Key, Link, Packet, Rooms, Session, State, Watch};
 pub use log::{Log, Settings};

@@ -1,7 +1,7 @@
 //! What a call refuses.
 use std::fmt;
 
-/// Why a call was refused; its number is document 01's.
+/// Why a call was refused; its number is document 01's, or document 02's from 10 on.
 #[derive(Clone, Copy, Debug, PartialEq, Eq)]
 #[repr(u8)]
 pub enum Refusal {
@@ -14,10 +14,13 @@ pub enum Refusal {
     BadTrailer = 7,
     BadRecord = 8,
     TooLong = 9,
+    ShortRoom = 12,
+    BadPattern = 13,
+    TooMuchPadding = 14,
 }
 
 impl Refusal {
-    const ALL: [Refusal; 9] = [
+    const ALL: [Refusal; 12] = [
         Refusal::OutOfRange,
         Refusal::NotAwaiting,
         Refusal::QueueFull,
@@ -27,6 +30,9 @@ impl Refusal {
         Refusal::BadTrailer,
         Refusal::BadRecord,
         Refusal::TooLong,
+        Refusal::ShortRoom,
+        Refusal::BadPattern,
+        Refusal::TooMuchPadding,
     ];
 }
 
@@ -42,6 +48,9 @@ impl fmt::Display for Refusal {
             Refusal::BadTrailer => "no trailer of a log at the end",
             Refusal::BadRecord => "a record that is none",
             Refusal::TooLong => "more than 65,536 bytes",
+            Refusal::ShortRoom => "a room too short for what is to be written",
+            Refusal::BadPattern => "a pattern that is no hexadecimal text",
+            Refusal::TooMuchPadding => "padding above 65,535 bytes, or a sample of more bits than that",
         })
     }
 }
@@ -52,6 +61,6 @@ impl std::error::Error for Refusal {}
 pub fn served(number: u8) -> Result<(), Refusal> {
     match number {
         0 => Ok(()),
-        _ => Err(*Refusal::ALL.iter().find(|r| **r as u8 == number).expect("one of document 01's numbers")),
+        _ => Err(*Refusal::ALL.iter().find(|r| **r as u8 == number).expect("one of the documents' numbers")),
     }
 }

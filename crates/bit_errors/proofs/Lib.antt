@@ -1,0 +1,5 @@
+mod Windows
+mod Parts
+mod Patterns
+mod Words
+pub mod Determined

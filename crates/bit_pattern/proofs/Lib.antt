@@ -1,0 +1,3 @@
+mod Digits
+mod Laws
+pub mod Determined

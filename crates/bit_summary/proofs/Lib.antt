@@ -1,0 +1,3 @@
+mod Steps
+pub mod Shows
+pub mod Determined

@@ -1,0 +1,4 @@
+pub mod Summary
+pub mod Record
+pub mod Shown
+pub mod Samples

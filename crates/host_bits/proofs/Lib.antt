@@ -1,0 +1,3 @@
+mod Answers
+pub mod Back
+pub mod Determined
