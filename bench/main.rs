@@ -5,6 +5,7 @@ mod ledger;
 mod monitor;
 mod numbers;
 mod quantiles;
+mod shapes;
 mod stopwatch;
 mod table;
 mod texts;
@@ -30,10 +31,15 @@ pub mod tlv;
 
 fn main() {
     let mut table = table::Table::new();
+    if std::env::args().nth(1).as_deref() == Some("shapes") {
+        shapes::rows(&mut table);
+        return table.print();
+    }
     ledger::rows(&mut table);
     monitor::rows(&mut table);
     numbers::rows(&mut table);
     quantiles::rows(&mut table);
+    shapes::rows(&mut table);
     texts::rows(&mut table);
     table.print();
 }

@@ -2,13 +2,14 @@
 -- Assumes nothing.
 use mathlib.Core.List.{List, [], _∷_}
 use mathlib.Core.Path.{_≡_, refl}
-use mathlib.Core.Logic.{⊎-elim}
-use Prim.Native.Nat.{ℕ, _+_, _-_, _%_, _^_, _≤_, _<_}
+use mathlib.Core.Logic.{_⊎_, ⊎-elim}
+use Prim.Native.Nat.{ℕ, zero, suc, _+_, _-_, _%_, _^_, _≤_, _<_}
+use native.Mathlib.Nat.{add-zero}
 use native.Mathlib.Omega.{arith}
 use lib.ListN.{length, getD, take}
 use Rattle.exact_rank.specs.Rank.{shifted}
 use Rattle.exact_rank.specs.Counting.{below}
-use Rattle.exact_rank.specs.Passes.{Least, Most}
+use Rattle.exact_rank.specs.Passes.{Least, Most, Nearer, Shorter}
 use Rattle.exact_rank.proofs.Counting.{below-grows, below-take-lt, below-take-ge, below-take-grows, below-take-one, lt-or-le}
 
 module _ (key : ℕ → ℕ) (xs : List ℕ) (low high : ℕ) where
@@ -151,3 +152,69 @@ module _ (bias : ℕ) (xs : List ℕ) (low high : ℕ) (ordered : low ≤ high) 
       (λ g. most-stays-below (shifted bias) xs low high i inside (high - distance) h (omega (arith, e, l, g, near)))
       (λ g. most-stays-above (shifted bias) xs low high i inside (high - distance) h (omega (arith, e, g, small, ordered, word)))
       (lt-or-le (d + shifted bias (getD xs i 0)) (2 ^ 64))
+
+-- what `shorter` gives
+abbrev Picked : ℕ → ℕ → ℕ → Type 0
+Picked d distance r = (r ≤ distance) × (((r ≡ d) × (d < distance)) ⊎ ((r ≡ distance) × (distance ≤ d)))
+
+module _ (bias : ℕ) (xs : List ℕ) (i : ℕ) (inside : i < length xs) (d distance r : ℕ) (small : d < 2 ^ 64) (picked : Picked d distance r) where
+  pub nearer-one : (low : ℕ) → (d + low) % 2 ^ 64 ≡ shifted bias (getD xs i 0) → Nearer (shifted bias) xs low i 1 distance r
+  nearer-one low is = (
+    picked .0,
+    λ high ordered word near h.
+        ⊎-elim
+        (λ w. rw (w .0) (least-nearer bias xs low high ordered word i inside d small distance near is (w .1) h))
+        (λ w. rw (w .0) (least-not-nearer bias xs low high ordered word i inside d small distance near is (w .1) h))
+        (picked .1),
+  )
+
+  pub shorter-one : (high : ℕ) → high < 2 ^ 64 → (d + shifted bias (getD xs i 0)) % 2 ^ 64 ≡ high → Shorter (shifted bias) xs high i 1 distance r
+  shorter-one high word is = (
+    picked .0,
+    λ low ordered near h.
+        ⊎-elim
+        (λ w. rw (w .0) (most-nearer bias xs low high ordered word i inside d small distance near is (w .1) h))
+        (λ w. rw (w .0) (most-not-nearer bias xs low high ordered word i inside d small distance near is (w .1) h))
+        (picked .1),
+  )
+
+module _ (key : ℕ → ℕ) (xs : List ℕ) (i m n : ℕ) where
+  further : i + (m + n) ≡ i + m + n
+  further = omega arith
+
+  pub nearer-on : (low a b c : ℕ) → Nearer key xs low i m a b → Nearer key xs low (i + m) n b c → Nearer key xs low i (m + n) a c
+  nearer-on low a b c h g = (
+    omega (arith, h .0, g .0),
+    λ high ordered word near t. rw further (g .1 high ordered word (omega (arith, h .0, near)) (h .1 high ordered word near t)),
+  )
+
+  pub shorter-on : (high a b c : ℕ) → Shorter key xs high i m a b → Shorter key xs high (i + m) n b c → Shorter key xs high i (m + n) a c
+  shorter-on high a b c h g = (
+    omega (arith, h .0, g .0),
+    λ low ordered near t. rw further (g .1 low ordered (omega (arith, h .0, near)) (h .1 low ordered near t)),
+  )
+
+-- a key that is low itself is where the keys begin, whatever samples follow; one that is high is where they end
+module _ (key : ℕ → ℕ) (xs : List ℕ) (low high i : ℕ) where
+  next : (n : ℕ) → i + suc n ≡ i + n + 1
+  next n = omega arith
+
+  pub least-at-low : (n : ℕ) → i + n ≤ length xs → Least key (take i xs) low high low → Least key (take (i + n) xs) low high low
+  least-at-low zero l h = rw (add-zero i) h
+  least-at-low (suc n) l h =
+      let g : Least key (take (i + n) xs) low high low = least-at-low n (omega (arith, l)) h in
+      rw (next n)
+      (⊎-elim
+      (λ z. least-stays-below key xs low high (i + n) (omega (arith, l)) low g z)
+      (λ z. least-stays-above key xs low high (i + n) (omega (arith, l)) low g z)
+      (lt-or-le (key (getD xs (i + n) 0)) low))
+
+  pub most-at-high : (n : ℕ) → i + n ≤ length xs → Most key (take i xs) low high high → Most key (take (i + n) xs) low high high
+  most-at-high zero l h = rw (add-zero i) h
+  most-at-high (suc n) l h =
+      let g : Most key (take (i + n) xs) low high high = most-at-high n (omega (arith, l)) h in
+      rw (next n)
+      (⊎-elim
+      (λ z. most-stays-above key xs low high (i + n) (omega (arith, l)) high g z)
+      (λ z. most-stays-below key xs low high (i + n) (omega (arith, l)) high g z)
+      (lt-or-le high (key (getD xs (i + n) 0))))

@@ -7,6 +7,8 @@ pub mod Shifts
 pub mod Leading
 pub mod Stepping
 pub mod Steps
+pub mod Parting
+pub mod Around
 pub mod Sorting
 pub mod Samples
 pub mod Counted

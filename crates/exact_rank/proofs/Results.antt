@@ -34,3 +34,20 @@ same-ranks rank count l (suc zero) m = l
 same-ranks rank count l (suc (suc zero)) m = l
 same-ranks rank count l (suc (suc (suc zero))) m = l
 same-ranks rank count l (suc (suc (suc (suc k)))) m = absurd (omega (arith, m))
+
+-- each of four, as the function gives it
+pub four-at : (f : ℕ → ℕ) (xs : List ℕ) → length xs ≡ 4 → (k : ℕ) → k < 4 → getD (map f xs) k 0 ≡ f (getD xs k 0)
+four-at f [] e k l = absurd (omega (arith, e))
+four-at f (x ∷ xs) e zero l = refl
+four-at f (x ∷ []) e (suc k) l = absurd (omega (arith, e))
+four-at f (x ∷ y ∷ xs) e (suc zero) l = refl
+four-at f (x ∷ y ∷ []) e (suc (suc k)) l = absurd (omega (arith, e))
+four-at f (x ∷ y ∷ z ∷ xs) e (suc (suc zero)) l = refl
+four-at f (x ∷ y ∷ z ∷ []) e (suc (suc (suc k))) l = absurd (omega (arith, e))
+four-at f (x ∷ y ∷ z ∷ w ∷ xs) e (suc (suc (suc zero))) l = refl
+four-at f (x ∷ y ∷ z ∷ w ∷ xs) e (suc (suc (suc (suc k)))) l = absurd (omega (arith, l))
+
+-- one function after another
+pub map-after : (f g : ℕ → ℕ) (xs : List ℕ) → map f (map g xs) ≡ map (λ (x : ℕ). f (g x)) xs
+map-after f g [] = refl
+map-after f g (x ∷ xs) = rw (map-after f g xs)

@@ -3,16 +3,16 @@
 use mathlib.Core.Bool.{Bool, true, false}
 use mathlib.Core.List.{List, [], _∷_, map}
 use mathlib.Core.Path.{_≡_, refl, sym, ap, _∙_}
-use Prim.Native.Nat.{ℕ, zero, suc, _+_, _^_, _≤_, _<_, suc-le-suc}
+use Prim.Native.Nat.{ℕ, zero, suc, _+_, _-_, _^_, _≤_, _<_, suc-le-suc}
 use native.Mathlib.Nat.{le-of-suc-le-suc, not-suc-le-zero, zero-lt-suc}
 use native.Mathlib.Numerals.{add-one}
 use native.Mathlib.Omega.{arith}
 use lib.Dec.{leb}
 use lib.ListN.{length, getD, take}
 use lib.Seq.{length-take-le, getD-take}
-use Rattle.exact_rank.specs.Rank.{unsigned, shifted, choose, insert, sorted, atRank, atRanks, InOrder}
+use Rattle.exact_rank.specs.Rank.{unsigned, shifted, choose, insert, sorted, atRank, atRanks, InOrder, InReverse}
 use Rattle.exact_rank.specs.Counting.{KeyOfRank}
-use Rattle.exact_rank.proofs.Sorting.{length-sorted, sorted-is-counted, one-key, sorted-same}
+use Rattle.exact_rank.proofs.Sorting.{length-sorted, sorted-is-counted, one-key, sorted-same, falling-is-counted}
 
 -- every sample is a word
 data Words : List ℕ → Type 0 where
@@ -105,3 +105,21 @@ in-order-at key xs count rank within l h =
     let b : getD first (suc i) 0 ≡ getD xs (suc i) 0 = getD-take count xs (suc i) 0 (omega (arith, m, long)) in
     rw (a, b) (rw (add-one i) at (h i (omega (arith, m, long)))))
     in sym (rw (sorted-same key first rising) (getD-take count xs rank 0 l))
+
+-- where the samples are in reverse order, the sample of a rank stands at the rank counted from the last
+pub in-reverse-at : (bias : ℕ) (xs : List ℕ) (count rank : ℕ) → count ≤ length xs → ((i : ℕ) → getD xs i 0 < 2 ^ 64) → rank < count
+    → InReverse (shifted bias) xs count → getD xs (count - 1 - rank) 0 ≡ atRank (shifted bias) xs count rank
+in-reverse-at bias xs count rank within small l h =
+    let first : List ℕ = take count xs in
+    let long : length first ≡ count = length-take-le count xs within in
+    let falling : (i : ℕ) → suc i < length first → shifted bias (getD first (suc i) 0) ≤ shifted bias (getD first i 0) =
+    (λ i m.
+    let a : getD first i 0 ≡ getD xs i 0 = getD-take count xs i 0 (omega (arith, m, long)) in
+    let b : getD first (suc i) 0 ≡ getD xs (suc i) 0 = getD-take count xs (suc i) 0 (omega (arith, m, long)) in
+    rw (a, b) (rw (add-one i) at (h i (omega (arith, m, long)))))
+    in
+    let at : getD first (length first - 1 - rank) 0 ≡ getD xs (count - 1 - rank) 0 =
+    rw long (getD-take count xs (count - 1 - rank) 0 (omega (arith, l)))
+    in
+    counted-is-sample xs count within small bias rank (getD xs (count - 1 - rank) 0) l (small (count - 1 - rank))
+    (rw at at (falling-is-counted (shifted bias) first falling rank (omega (arith, l, long))))

@@ -4,7 +4,7 @@ use mathlib.Core.Bool.{Bool, true, false}
 use mathlib.Core.List.{List, [], _∷_}
 use mathlib.Core.Path.{_≡_, refl, sym, ap, _∙_}
 use mathlib.Core.Logic.{⊎-elim}
-use Prim.Native.Nat.{ℕ, zero, suc, _+_, _≤_, _<_, suc-le-suc}
+use Prim.Native.Nat.{ℕ, zero, suc, _+_, _-_, _≤_, _<_, suc-le-suc}
 use native.Mathlib.Nat.{le-refl, le-trans, le-of-suc-le-suc, not-suc-le-zero, zero-lt-suc, eq-or-lt-of-le}
 use native.Mathlib.Omega.{arith}
 use lib.Dec.{leb, ltb}
@@ -12,7 +12,7 @@ use lib.ListN.{length, getD}
 use borrow.Author.Tests.{leb-true, leb-false, le-leb}
 use Rattle.exact_rank.specs.Rank.{choose, insert, sorted}
 use Rattle.exact_rank.specs.Counting.{oneIf, below, KeyOfRank}
-use Rattle.exact_rank.proofs.Counting.{one-below, none-below, one-if-most, below-grows, lt-or-le}
+use Rattle.exact_rank.proofs.Counting.{one-below, none-below, one-if-most, below-grows, below-length, lt-or-le}
 
 choose-length : (t : Bool) (x y : ℕ) (ys zs : List ℕ) → length zs ≡ suc (length ys)
     → length (choose t (x ∷ y ∷ ys) (y ∷ zs)) ≡ suc (suc (length ys))
@@ -143,3 +143,61 @@ module _ (key : ℕ → ℕ) where
   sorted-same (x ∷ []) h = refl
   sorted-same (x ∷ y ∷ ys) h =
       rw (sorted-same (y ∷ ys) (λ i l. h (suc i) (suc-le-suc l)), le-leb (key x) (key y) (h zero (suc-le-suc (zero-lt-suc (length ys)))))
+
+  -- every key is at most k
+  data To (k : ℕ) : List ℕ → Type 0 where
+    none : To k []
+    more : {y : ℕ} {ys : List ℕ} → key y ≤ k → To k ys → To k (y ∷ ys)
+
+  abbrev Falling : List ℕ → Type 0
+  Falling xs = (i : ℕ) → suc i < length xs → key (getD xs (suc i) 0) ≤ key (getD xs i 0)
+
+  to-higher : {j k : ℕ} {ys : List ℕ} → j ≤ k → To j ys → To k ys
+  to-higher l none = none
+  to-higher l (more h t) = more (le-trans h l) (to-higher l t)
+
+  falling-to : (x : ℕ) (xs : List ℕ) → Falling (x ∷ xs) → To (key x) xs
+  falling-to x [] h = none
+  falling-to x (y ∷ ys) h =
+      let l : key y ≤ key x = h zero (suc-le-suc (zero-lt-suc (length ys))) in
+      more l (to-higher l (falling-to y ys (λ i m. h (suc i) (suc-le-suc m))))
+
+  to-at : {k : ℕ} {ys : List ℕ} → To k ys → (i : ℕ) → i < length ys → key (getD ys i 0) ≤ k
+  to-at none i l = absurd (not-suc-le-zero l)
+  to-at (more h t) zero l = h
+  to-at (more h t) (suc i) l = to-at t i (le-of-suc-le-suc l)
+
+  to-all-through : {k : ℕ} {ys : List ℕ} → To k ys → below key (k + 1) ys ≡ length ys
+  unfolding below
+  to-all-through none = refl
+  to-all-through {k} (more {y} h t) = omega (arith, one-below (key y) (k + 1) (omega (arith, h)), to-all-through t)
+
+  -- in a list that falls, the key at a place is the key of the rank counted from its end
+  falling-few : (xs : List ℕ) → Falling xs → (j : ℕ) → j < length xs → below key (key (getD xs j 0)) xs + j + 1 ≤ length xs
+  unfolding below
+  falling-few [] h j l = absurd (not-suc-le-zero l)
+  falling-few (x ∷ xs) h zero l =
+      omega (arith, none-below (key x) (key x) (le-refl (key x)), below-length key (key x) xs)
+  falling-few (x ∷ xs) h (suc j) l =
+      omega (
+        arith,
+        none-below (key x) (key (getD xs j 0)) (to-at (falling-to x xs h) j (le-of-suc-le-suc l)),
+        falling-few xs (λ i m. h (suc i) (suc-le-suc m)) j (le-of-suc-le-suc l),
+      )
+
+  falling-enough : (xs : List ℕ) → Falling xs → (j : ℕ) → j < length xs → length xs ≤ below key (key (getD xs j 0) + 1) xs + j
+  unfolding below
+  falling-enough [] h j l = absurd (not-suc-le-zero l)
+  falling-enough (x ∷ xs) h zero l =
+      omega (arith, one-below (key x) (key x + 1) (omega arith), to-all-through (falling-to x xs h))
+  falling-enough (x ∷ xs) h (suc j) l =
+      omega (arith, falling-enough xs (λ i m. h (suc i) (suc-le-suc m)) j (le-of-suc-le-suc l))
+
+  pub falling-is-counted : (xs : List ℕ) → Falling xs → (rank : ℕ) → rank < length xs
+      → KeyOfRank key xs rank (key (getD xs (length xs - 1 - rank) 0))
+  falling-is-counted xs h rank l =
+      let inside : length xs - 1 - rank < length xs = omega (arith, l) in
+      record {
+        fewBelow = omega (arith, l, falling-few xs h (length xs - 1 - rank) inside);
+        enoughThrough = omega (arith, l, falling-enough xs h (length xs - 1 - rank) inside);
+      }

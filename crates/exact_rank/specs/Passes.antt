@@ -1,8 +1,8 @@
 -- What one pass over the samples tells, each in terms of `below`, the count of lower keys.
 use mathlib.Core.List.{List}
-use Prim.Native.Nat.{ℕ, zero, suc, _+_, _-_, _*_, _≤_, _<_}
+use Prim.Native.Nat.{ℕ, zero, suc, _+_, _-_, _*_, _^_, _≤_, _<_}
 use mathlib.Core.Path.{_≡_}
-use lib.ListN.{getD}
+use lib.ListN.{getD, take}
 use Rattle.exact_rank.specs.Counting.{below}
 
 -- r is where the keys from low to high begin: no key lies from low up to r, and one is r itself unless r is high
@@ -18,6 +18,20 @@ pub record Most (key : ℕ → ℕ) (xs : List ℕ) (low high r : ℕ) : Type 0 
   pub to : r ≤ high
   pub noneAfter : below key (r + 1) xs ≡ below key (high + 1) xs
   pub met : low < r → below key r xs < below key (r + 1) xs
+
+-- n samples more, from i on: where a distance led from low to where the keys begin, r does
+abbrev pub Nearer : (ℕ → ℕ) → List ℕ → ℕ → ℕ → ℕ → ℕ → ℕ → Type 0
+Nearer key xs low i n distance r =
+    (r ≤ distance)
+    × ((high : ℕ) → low ≤ high → high < 2 ^ 64 → distance ≤ high - low → Least key (take i xs) low high (low + distance)
+    → Least key (take (i + n) xs) low high (low + r))
+
+-- n samples more, from i on: where a distance led back from high to where the keys end, r does
+abbrev pub Shorter : (ℕ → ℕ) → List ℕ → ℕ → ℕ → ℕ → ℕ → ℕ → Type 0
+Shorter key xs high i n distance r =
+    (r ≤ distance)
+    × ((low : ℕ) → low ≤ high → distance ≤ high - low → Most key (take i xs) low high (high - distance)
+    → Most key (take (i + n) xs) low high (high - r))
 
 -- the lower of two numbers
 abbrev pub capped : ℕ → ℕ → ℕ

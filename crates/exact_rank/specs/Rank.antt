@@ -2,7 +2,7 @@
 -- which samples are ordered, so that the signed order is the same law at another key.
 use mathlib.Core.Bool.{Bool, true, false}
 use mathlib.Core.List.{List, [], _∷_, map}
-use Prim.Native.Nat.{ℕ, _+_, _%_, _^_, _≤_, _<_}
+use Prim.Native.Nat.{ℕ, _+_, _-_, _%_, _^_, _≤_, _<_}
 use lib.Dec.{leb}
 use lib.ListN.{getD, take}
 
@@ -45,6 +45,10 @@ atRanks key samples count ranks = map (atRank key samples count) ranks
 abbrev pub InOrder : (ℕ → ℕ) → List ℕ → ℕ → Type 0
 InOrder key samples count = (k : ℕ) → k + 1 < count → key (getD samples k 0) ≤ key (getD samples (k + 1) 0)
 
+-- no sample has a higher key than the one before it
+abbrev pub InReverse : (ℕ → ℕ) → List ℕ → ℕ → Type 0
+InReverse key samples count = (k : ℕ) → k + 1 < count → key (getD samples (k + 1) 0) ≤ key (getD samples k 0)
+
 -- every rank is that of a sample
 abbrev pub Ranks : List ℕ → ℕ → Type 0
 Ranks ranks count = (k : ℕ) → k < 4 → getD ranks k 0 < count
@@ -52,3 +56,7 @@ Ranks ranks count = (k : ℕ) → k < 4 → getD ranks k 0 < count
 -- the samples that stand at the ranks
 unfoldable pub standingAt : List ℕ → List ℕ → List ℕ
 standingAt samples ranks = map (λ (rank : ℕ). getD samples rank 0) ranks
+
+-- the ranks as counted from the last of `count` samples
+unfoldable pub backRanks : ℕ → List ℕ → List ℕ
+backRanks count ranks = map (λ (rank : ℕ). count - 1 - rank) ranks

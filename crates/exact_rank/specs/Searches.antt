@@ -74,6 +74,35 @@ LedWith counts low high shift node s t = (SameKeys s node × Led counts low high
 abbrev pub EndedWith : ℕ → Search → Search → Search → Type 0
 EndedWith value node s t = (SameKeys s node × (s .rank ≡ node .rank) × EndedAt value s t) ⊎ (t ≡ s)
 
+-- s in the keys below a value that `under` keys are below
+abbrev pub lowerPart : ℕ → ℕ → Search → Search
+lowerPart value under s = record { low = s .low; high = value - 1; rank = s .rank; before = s .before; through = under }
+
+-- s in the keys above a value that `reach` keys are at most
+abbrev pub upperPart : ℕ → ℕ → Search → Search
+upperPart value reach s = record { low = value + 1; high = s .high; rank = s .rank; before = reach; through = s .through }
+
+-- a key lies below the value, or above it, wherever s is to go there
+abbrev pub Partable : ℕ → ℕ → ℕ → Search → Type 0
+Partable value under reach s = (s .rank < under → 0 < value) × (reach ≤ s .rank → value < 2 ^ 64 - 1)
+
+-- t is s parted at a value: in the keys below it, ended at it, or in the keys above it
+abbrev pub Parted : ℕ → ℕ → ℕ → Search → Search → Type 0
+Parted value under reach s t =
+    ((s .rank < under) × (t ≡ lowerPart value under s))
+    ⊎ (((under ≤ s .rank) × (s .rank < reach) × EndedAt value s t) ⊎ ((reach ≤ s .rank) × (t ≡ upperPart value reach s)))
+
+-- t is s parted where it is among the node's keys, else s
+abbrev pub PartedWith : ℕ → ℕ → ℕ → Search → Search → Search → Type 0
+PartedWith value under reach node s t = (SameKeys s node × Parted value under reach s t) ⊎ (t ≡ s)
+
+-- the first search is parted, and the others with it
+pub record AllParted (value under reach : ℕ) (f g : Four) : Type 0 where
+  pub first : Parted value under reach (f .first) (g .first)
+  pub second : PartedWith value under reach (f .first) (f .second) (g .second)
+  pub third : PartedWith value under reach (f .first) (f .third) (g .third)
+  pub fourth : PartedWith value under reach (f .first) (f .fourth) (g .fourth)
+
 -- the counts lead the first search, and each that is among its keys
 pub record LeadsAll (counts : List ℕ) (low high shift : ℕ) (f : Four) : Type 0 where
   pub first : Leads counts low high shift (f .first)

@@ -5,7 +5,7 @@ ghost use mathlib.Core.Path.{_≡_};
 ghost use mathlib.Core.Logic.{_⊎_};
 ghost use Prim.Native.Nat.{ℕ, _+_, _-_, _*_, _^_, _<_, _≤_};
 ghost use lib.ListN.{length, take};
-ghost use Rattle.exact_rank.specs.Rank.{unsigned, shifted, signed, atRank, atRanks, Ranks, standingAt};
+ghost use Rattle.exact_rank.specs.Rank.{unsigned, shifted, signed, atRank, atRanks, Ranks, standingAt, backRanks};
 ghost use Rattle.exact_rank.specs.Passes.{capped, sumTo, Placed};
 ghost use Rattle.exact_rank.specs.Searches.{
   AllInside,
@@ -16,6 +16,10 @@ ghost use Rattle.exact_rank.specs.Searches.{
   Led,
   LedWith,
   EndedWith,
+  Partable,
+  Parted,
+  PartedWith,
+  AllParted,
   LeadsAll,
   AllLed,
   AllEnded,
@@ -35,6 +39,12 @@ const SIGNED: u64 = 9223372036854775808;
 // With more keys than these in its range, a search first finds where they begin and end: two passes, which pay where most
 // keys would otherwise fall into few parts.
 const MANY: u64 = 256;
+
+// With more keys than these in its range, a search first looks at a few samples for a key at which to part them.
+const SOME: u64 = 128;
+
+// The greatest key.
+const LAST: u64 = 18446744073709551615;
 
 // A search for the sample of a rank, counted from 0. Its key is one of low to high. While these differ, `before` samples have
 // a key below low, and `through` have one of at most high.
@@ -199,23 +209,23 @@ fn all_ended(value: u64, four: Four) -> Four
     }
 }
 
-// Where the node's keys begin: looked for where there are many.
+// Where the node's keys begin: looked for where there are many, or nothing is known of it yet.
 fn begin(samples: &[u64], count: usize, bias: u64, node: Search) -> u64
     requires { ⌜ (count ≤ length (now samples)) × (node .low ≤ node .high) × (node .before ≤ node .through) ⌝ }
     ensures { λ r. ⌜ Begins (shifted bias) (take count (now (samples .entry))) (node .low) (node .high) r ⌝ }
 {
-    if node.through - node.before > MANY {
+    if (node.through - node.before > MANY) | (node.low == 0) {
         return passes::least(samples, count, bias, node.low, node.high);
     }
     node.low
 }
 
-// Where the node's keys end, from `low`: looked for where there are many.
+// Where the node's keys end, from `low`: looked for where there are many, or nothing is known of it yet.
 fn finish(samples: &[u64], count: usize, bias: u64, low: u64, node: Search) -> u64
     requires { ⌜ (count ≤ length (now samples)) × (low ≤ node .high) × (node .before ≤ node .through) ⌝ }
     ensures { λ r. ⌜ Ends (shifted bias) (take count (now (samples .entry))) low (node .high) r ⌝ }
 {
-    if node.through - node.before > MANY {
+    if (node.through - node.before > MANY) | (node.high == LAST) {
         return passes::most(samples, count, bias, low, node.high);
     }
     node.high
@@ -233,6 +243,90 @@ fn divided(samples: &[u64], count: usize, bias: u64, four: Four) -> Four
     let shift = shift_of(high - low);
     let counts = passes::digits(samples, count, bias, low, high, shift);
     all_led(&counts, low, high, shift, four)
+}
+
+// The search, parted at a value.
+fn part(value: u64, under: u64, reach: u64, search: Search) -> Search
+    requires { ⌜ Partable value under reach search ⌝ }
+    ensures { λ r. ⌜ Parted value under reach search r ⌝ }
+{
+    if search.rank < under {
+        return Search {
+            low: search.low,
+            high: value - 1,
+            rank: search.rank,
+            before: search.before,
+            through: under,
+        };
+    }
+    if search.rank < reach {
+        return ended(value, search);
+    }
+    Search {
+        low: value + 1,
+        high: search.high,
+        rank: search.rank,
+        before: reach,
+        through: search.through,
+    }
+}
+
+// The search, parted with the node where it is among the node's keys.
+fn part_with(value: u64, under: u64, reach: u64, node: Search, search: Search) -> Search
+    requires { ⌜ Partable value under reach search ⌝ }
+    ensures { λ r. ⌜ PartedWith value under reach node search r ⌝ }
+{
+    if search.low == node.low {
+        if search.high == node.high {
+            return part(value, under, reach, search);
+        }
+    }
+    search
+}
+
+// The first search, parted at a value, and the others that are among the same keys.
+fn all_parted(value: u64, under: u64, reach: u64, four: Four) -> Four
+    requires { ⌜ Partable value under reach (four .first) × Partable value under reach (four .second)
+        × Partable value under reach (four .third) × Partable value under reach (four .fourth) ⌝ }
+    ensures { λ r. ⌜ AllParted value under reach four r ⌝ }
+{
+    let node = four.first;
+    Four {
+        first: part(value, under, reach, node),
+        second: part_with(value, under, reach, node, four.second),
+        third: part_with(value, under, reach, node, four.third),
+        fourth: part_with(value, under, reach, node, four.fourth),
+    }
+}
+
+// The keys of the first search, parted at one of them, and every search among them led on.
+fn parted(samples: &[u64], count: usize, bias: u64, value: u64, four: Four) -> Four
+    requires { ⌜ (count ≤ length (now samples)) × AllInside (shifted bias) (take count (now samples)) four
+        × (four .first .low < four .first .high) × (four .first .low ≤ value) × (value ≤ four .first .high) ⌝ }
+    ensures { λ r. ⌜ Stepped (shifted bias) (take count (now (samples .entry))) four r ⌝ }
+{
+    let around = passes::around(samples, count, bias, value);
+    all_parted(value, around.under, around.reach, four)
+}
+
+// The keys of the first search, parted at one of them where a few samples show that this pays, else counted by digits.
+fn narrowed(samples: &[u64], count: usize, bias: u64, four: Four) -> Four
+    requires { ⌜ (count ≤ length (now samples)) × AllInside (shifted bias) (take count (now samples)) four
+        × (four .first .low < four .first .high) ⌝ }
+    ensures { λ r. ⌜ Stepped (shifted bias) (take count (now (samples .entry))) four r ⌝ }
+{
+    let node = four.first;
+    if node.through - node.before > SOME {
+        let guess = passes::guessed(samples, count, bias, node.low, node.high);
+        if guess.pays {
+            if node.low <= guess.value {
+                if guess.value <= node.high {
+                    return parted(samples, count, bias, guess.value, four);
+                }
+            }
+        }
+    }
+    divided(samples, count, bias, four)
 }
 
 // One step of the first search. The first and the last rank of a range are read off in one pass.
@@ -254,7 +348,7 @@ fn step(samples: &[u64], count: usize, bias: u64, four: Four) -> Four
             four,
         );
     }
-    divided(samples, count, bias, four)
+    narrowed(samples, count, bias, four)
 }
 
 // The four searches, with the first at its end.
@@ -353,6 +447,27 @@ fn read_four(samples: &[u64], ranks: [u64; 4]) -> [u64; 4]
     ]
 }
 
+// The rank as counted from the last of `count` samples.
+fn back_rank(count: usize, rank: u64) -> u64
+    requires { ⌜ rank < count ⌝ }
+    ensures { λ r. ⌜ r ≡ count - 1 - rank ⌝ }
+{
+    count as u64 - 1 - rank
+}
+
+// Four ranks as counted from the last of `count` samples.
+fn back_ranks(count: usize, ranks: [u64; 4]) -> [u64; 4]
+    requires { ⌜ Ranks ranks count ⌝ }
+    ensures { λ r. ⌜ r ≡ backRanks count ranks ⌝ }
+{
+    [
+        back_rank(count, ranks[0]),
+        back_rank(count, ranks[1]),
+        back_rank(count, ranks[2]),
+        back_rank(count, ranks[3]),
+    ]
+}
+
 // The samples of four ranks in an order.
 fn pick_four(samples: &[u64], count: usize, bias: u64, ranks: [u64; 4]) -> [u64; 4]
     requires { ⌜ (count ≤ length (now samples)) × Ranks ranks count ⌝ }
@@ -360,6 +475,9 @@ fn pick_four(samples: &[u64], count: usize, bias: u64, ranks: [u64; 4]) -> [u64;
 {
     if passes::in_order(samples, count, bias) {
         return read_four(samples, ranks);
+    }
+    if passes::in_reverse(samples, count, bias) {
+        return read_four(samples, back_ranks(count, ranks));
     }
     search_four(samples, count, bias, ranks)
 }

@@ -1,15 +1,15 @@
 // `percentiles` of `Quantiles` in src/stats/quantiles.rs: as many percentiles as the caller lends words for the answer.
 ghost use mathlib.Core.Path.{_≡_};
 ghost use mathlib.Core.Bool.{false};
-ghost use mathlib.Core.List.{_++_, map};
+ghost use mathlib.Core.List.{map};
 ghost use Prim.Native.Nat.{_+_, _<_, _≤_};
-ghost use lib.ListN.{length, take, drop};
+ghost use lib.ListN.{length, drop};
 ghost use Rattle.buckets.specs.Signed.{bucketCount, order};
-ghost use Rattle.exact_rank.specs.Rank.{atRank, atRanks, Ranks};
+ghost use Rattle.exact_rank.specs.Rank.{atRanks, Ranks};
 ghost use Rattle.histogram.specs.Histogram.{total};
 ghost use Rattle.quantiles.specs.State.{crossed};
-ghost use Rattle.percentiles.specs.Percentiles.{outcome, spoilt, clamped, histogramValue, valueAt, percentile, percentilesOf};
-ghost use Rattle.percentiles.specs.Fours.{fourRanks, putFour};
+ghost use Rattle.percentiles.specs.Percentiles.{outcome, spoilt, clamped, histogramValue, percentile, percentilesOf};
+ghost use Rattle.percentiles.specs.Fours.{orLast, rankAt, fourRanks, putFour};
 use quantiles::Quantiles;
 
 // The answer of `percentiles`: refusal 5; no samples, so no values; or the values, in the lent answer.
@@ -45,18 +45,6 @@ fn clamp(signed: bool, word: u64, low: u64, high: u64) -> u64
     word
 }
 
-// The sample of a rank in sorted order.
-fn exact_value(q: Quantiles, room: &[u64], rank: u64) -> u64
-    requires { ⌜ (q .count ≤ length (now room)) × (rank < q .count) ⌝ }
-    ensures { λ r. ⌜ r ≡ atRank (order (q .signed)) (now (room .entry)) (q .count) rank ⌝ }
-{
-    let count = q.count as usize;
-    if q.signed {
-        return exact_rank::pick_signed(room, count, rank);
-    }
-    exact_rank::pick_unsigned(room, count, rank)
-}
-
 // The value that a histogram shows for a rank.
 fn histogram_value(q: Quantiles, room: &[u64], rank: u64) -> u64
     requires { ⌜ (length (now room) ≡ 4096 + bucketCount (q .signed)) × (total (drop 4096 (now room)) ≡ q .count) × (rank < q .count) ⌝ }
@@ -72,46 +60,34 @@ fn histogram_value(q: Quantiles, room: &[u64], rank: u64) -> u64
     clamp(q.signed, buckets::shown_by(q.signed, place), q.min, q.max)
 }
 
-// The value of a rank.
-fn value_at(q: Quantiles, room: &[u64], rank: u64) -> u64
-    requires { ⌜ (length (now room) ≡ 4096 + bucketCount (q .signed)) × (4096 < q .count → total (drop 4096 (now room)) ≡ q .count) × (rank < q .count) ⌝ }
-    ensures { λ r. ⌜ r ≡ valueAt q (now (room .entry)) rank ⌝ }
+// The place i, or the last of `many` where there is no such place.
+fn or_last(many: usize, i: usize) -> usize
+    requires { ⌜ 0 < many ⌝ }
+    ensures { λ r. ⌜ (r ≡ orLast many i) × (r < many) ⌝ }
 {
-    if q.count <= 4096 {
-        return exact_value(q, room, rank);
-    }
-    histogram_value(q, room, rank)
+    if i < many { i } else { many - 1 }
 }
 
-// The value of each percentile, where the first `from` are shown already.
-fn show_rest(q: Quantiles, room: &[u64], ps: &[f64], shown: &mut [u64], from: usize)
-    requires { ⌜ (length (now room) ≡ 4096 + bucketCount (q .signed)) × (4096 < q .count → total (drop 4096 (now room)) ≡ q .count) × (0 < q .count) × (length (now shown) ≡ length (now ps))
-        × (from ≤ length (now ps)) × (now shown ≡ map (percentile q (now room)) (take from (now ps)) ++ drop from (now shown)) ⌝ }
-    ensures { λ r. ⌜ now (shown .exit) ≡ map (percentile q (now (room .entry))) (now (ps .entry)) ⌝ }
+// The rank of a percentile, or of the last.
+fn rank_at(q: Quantiles, ps: &[f64], i: usize) -> u64
+    requires { ⌜ 0 < length (now ps) ⌝ }
+    ensures { λ r. ⌜ r ≡ rankAt (now (ps .entry)) (q .count) i ⌝ }
 {
-    let mut i = from;
-    while i < ps.len() {
-        let p = ps[i];
-        let rank = rank::rank(p, q.count);
-        shown[i] = value_at(q, room, rank);
-        i += 1;
-    }
+    let place = or_last(ps.len(), i);
+    let p = ps[place];
+    rank::rank(p, q.count)
 }
 
 // The ranks of four percentiles, from a place on.
 fn four_ranks(q: Quantiles, ps: &[f64], i: usize) -> [u64; 4]
-    requires { ⌜ i + 4 ≤ length (now ps) ⌝ }
+    requires { ⌜ i < length (now ps) ⌝ }
     ensures { λ r. ⌜ r ≡ fourRanks (now (ps .entry)) (q .count) i ⌝ }
 {
-    let first = ps[i];
-    let second = ps[i + 1];
-    let third = ps[i + 2];
-    let fourth = ps[i + 3];
     [
-        rank::rank(first, q.count),
-        rank::rank(second, q.count),
-        rank::rank(third, q.count),
-        rank::rank(fourth, q.count),
+        rank_at(q, ps, i),
+        rank_at(q, ps, i + 1),
+        rank_at(q, ps, i + 2),
+        rank_at(q, ps, i + 3),
     ]
 }
 
@@ -127,39 +103,47 @@ fn exact_four(q: Quantiles, room: &[u64], ranks: [u64; 4]) -> [u64; 4]
     exact_rank::pick_four_unsigned(room, count, ranks)
 }
 
-// The values of four percentiles of an exact room, from a place on.
+// The values of four percentiles of an exact room, from a place on; the last one again where there are fewer.
 fn show_four(q: Quantiles, room: &[u64], ps: &[f64], shown: &mut [u64], i: usize)
-    requires { ⌜ (q .count ≤ length (now room)) × (q .count ≤ 4096) × (0 < q .count) × (length (now shown) ≡ length (now ps)) × (i + 4 ≤ length (now ps)) ⌝ }
+    requires { ⌜ (q .count ≤ length (now room)) × (q .count ≤ 4096) × (0 < q .count) × (length (now shown) ≡ length (now ps)) × (i < length (now ps)) ⌝ }
     ensures { λ r. ⌜ now (shown .exit) ≡ putFour q (now (room .entry)) (now (ps .entry)) (now (shown .entry)) i ⌝ }
 {
     let ranks = four_ranks(q, ps, i);
     let four = exact_four(q, room, ranks);
-    shown[i] = four[0];
-    shown[i + 1] = four[1];
-    shown[i + 2] = four[2];
-    shown[i + 3] = four[3];
+    let first = or_last(ps.len(), i);
+    let second = or_last(ps.len(), i + 1);
+    let third = or_last(ps.len(), i + 2);
+    let fourth = or_last(ps.len(), i + 3);
+    shown[first] = four[0];
+    shown[second] = four[1];
+    shown[third] = four[2];
+    shown[fourth] = four[3];
 }
 
-// The values of the percentiles of an exact room, four by four while four are left; how many are shown.
-fn show_fours(q: Quantiles, room: &[u64], ps: &[f64], shown: &mut [u64]) -> usize
+// The percentiles of an exact room, four by four.
+fn show_exact(q: Quantiles, room: &[u64], ps: &[f64], shown: &mut [u64])
     requires { ⌜ (q .count ≤ length (now room)) × (q .count ≤ 4096) × (0 < q .count) × (length (now shown) ≡ length (now ps)) ⌝ }
-    ensures { λ r. ⌜ (r ≤ length (now (ps .entry))) × (now (shown .exit) ≡ map (percentile q (now (room .entry))) (take r (now (ps .entry))) ++ drop r (now (shown .entry))) ⌝ }
+    ensures { λ r. ⌜ now (shown .exit) ≡ map (percentile q (now (room .entry))) (now (ps .entry)) ⌝ }
 {
     let mut i = 0;
-    while ps.len() - i >= 4 {
+    while i < ps.len() {
         show_four(q, room, ps, shown, i);
         i += 4;
     }
-    i
 }
 
-// The percentiles of an exact room: blocks of four, and the rest one by one.
-fn show_exact(q: Quantiles, room: &[u64], ps: &[f64], shown: &mut [u64])
-    requires { ⌜ (length (now room) ≡ 4096 + bucketCount (q .signed)) × (q .count ≤ 4096) × (0 < q .count) × (length (now shown) ≡ length (now ps)) ⌝ }
+// The percentiles of buckets that hold the count.
+fn show_buckets(q: Quantiles, room: &[u64], ps: &[f64], shown: &mut [u64])
+    requires { ⌜ (length (now room) ≡ 4096 + bucketCount (q .signed)) × (4096 < q .count) × (total (drop 4096 (now room)) ≡ q .count) × (length (now shown) ≡ length (now ps)) ⌝ }
     ensures { λ r. ⌜ now (shown .exit) ≡ map (percentile q (now (room .entry))) (now (ps .entry)) ⌝ }
 {
-    let from = show_fours(q, room, ps, shown);
-    show_rest(q, room, ps, shown, from);
+    let mut i = 0;
+    while i < ps.len() {
+        let p = ps[i];
+        let rank = rank::rank(p, q.count);
+        shown[i] = histogram_value(q, room, rank);
+        i += 1;
+    }
 }
 
 // The percentiles of a histogram.
@@ -170,7 +154,7 @@ fn show_histogram(q: Quantiles, room: &[u64], ps: &[f64], shown: &mut [u64]) -> 
     if is_spoilt(q, room) {
         return Showing::Refused;
     }
-    show_rest(q, room, ps, shown, 0);
+    show_buckets(q, room, ps, shown);
     Showing::Shown
 }
 

@@ -39,8 +39,8 @@ returns-2 c =
     (c .before .before .before .before .before .before .before .before .pre .1 .first) (c .before .before .before .before .before .before .before .before .pre .2) (omega (arith, c .before .before .if2 .taken)) (c .before .most .ensures))
     (c .all-ended2 .ensures)
 
-divided-requires : tie.Need-divided-requires
-divided-requires c κs = search needs
+narrowed-requires : tie.Need-narrowed-requires
+narrowed-requires c κs = search needs
 
 returns-3 : tie.Need-returns-3
 returns-3 c = search needs
@@ -56,5 +56,5 @@ step-spec =
     most-requires
     all-ended-requires-2
     returns-2
-    divided-requires
+    narrowed-requires
     returns-3)

@@ -21,11 +21,11 @@ returns c =
     let p = c .before .before .before .before .before .pre in
     way-spoilt (a .q) (now (a .room)) (now (a .ps)) (now (a .shown)) (p .0) (p .1) (p .2) (p .3) (sym (c .before .is-spoilt .ensures) ∙ c .if1 .taken)
 
-show-rest-requires : tie.Need-show-rest-requires
-show-rest-requires c κs =
+show-buckets-requires : tie.Need-show-buckets-requires
+show-buckets-requires c κs =
     let a = c .before .before .before .before .before .before .args in
     let p = c .before .before .before .before .before .before .pre in
-    (p .0, λ h. unspoilt-total (a .q) (now (a .room)) (sym (c .before .before .is-spoilt .ensures) ∙ c .before .if1 .left), omega (arith, p .3), p .1, omega arith, refl)
+    (p .0, p .3, unspoilt-total (a .q) (now (a .room)) (sym (c .before .before .is-spoilt .ensures) ∙ c .before .if1 .left), p .1)
 
 same-length : tie.Need-same-length
 same-length c = search needs
@@ -34,9 +34,9 @@ returns-2 : tie.Need-returns-2
 returns-2 c =
     let a = c .before .before .before .before .before .before .before .before .before .args in
     let p = c .before .before .before .before .before .before .before .before .before .pre in
-    ap (λ (l : List ℕ). outcome Shown l) (c .before .before .show-rest .ensures)
+    ap (λ (l : List ℕ). outcome Shown l) (c .before .before .show-buckets .ensures)
     ∙ way-histogram (a .q) (now (a .room)) (now (a .ps)) (now (a .shown)) (p .0) (p .1) (p .2) (p .3) (sym (c .before .before .before .before .before .is-spoilt .ensures) ∙ c .before .before .before .before .if1 .left)
 
 pub show-histogram-spec : {M : Type 1} → statement M
 show-histogram-spec =
-    tie.close (tie.spec is-spoilt-requires returns show-rest-requires same-length returns-2)
+    tie.close (tie.spec is-spoilt-requires returns show-buckets-requires same-length returns-2)

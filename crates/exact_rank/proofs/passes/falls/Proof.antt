@@ -12,10 +12,10 @@ use Rattle.exact_rank.proofs.passes.falls.Statement.{statement}
 use Rattle.exact_rank.proofs.passes.falls.Tie as tie
 
 abbrev Inv-loop : tie.InvT-loop
-Inv-loop samples bias base n₀ j₀ n j = (j ≤ 64) × (base + 64 < length samples) × (n ≡ 0 → (k : ℕ) → k < j → shifted bias (getD samples (base + k) 0) ≤ shifted bias (getD samples (base + k + 1) 0))
+Inv-loop samples bias base n₀ j₀ n j = (j ≤ 16) × (base + 16 < length samples) × (n ≡ 0 → (k : ℕ) → k < j → shifted bias (getD samples (base + k) 0) ≤ shifted bias (getD samples (base + k + 1) 0))
 
 abbrev μ-loop : tie.MeasureT-loop
-μ-loop samples bias base n₀ j₀ n j = 64 - j
+μ-loop samples bias base n₀ j₀ n j = 16 - j
 
 loop-holds : tie.Need-loop-holds Inv-loop μ-loop
 loop-holds c = search needs

@@ -1,4 +1,4 @@
--- `exact_rank::passes::rising_blocks` meets its contract: whole blocks of 64 steps that do not fall.
+-- `exact_rank::passes::rising_blocks` meets its contract: whole blocks of 16 steps that do not fall.
 -- Assumes nothing.
 use Prim.Native.Nat.{ℕ, _≤_, _<_, _-_, _+_}
 use native.Mathlib.Omega.{arith}

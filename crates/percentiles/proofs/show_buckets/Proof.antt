@@ -1,4 +1,4 @@
--- `percentiles::show_rest` meets its contract. The loop's invariant: the percentiles passed have their values, and the words after them are as
+-- `percentiles::show_buckets` meets its contract. The loop's invariant: the percentiles passed have their values, and the words after them are as
 -- they were. Assumes nothing.
 use mathlib.Core.Path.{_≡_, refl, sym, _∙_, ap, subst}
 use borrow.Author.Needs.{needs}
@@ -11,19 +11,19 @@ use denote.Ref.{now}
 use lib.ListN.{length, getD, take, drop, set, length-set}
 use Rattle.rank.specs.Rank.{rank-below}
 use Rattle.percentiles.specs.Percentiles.{percentile}
-use Rattle.percentiles.proofs.Values.{shown-next, shown-all, percentile-is}
-use Rattle.percentiles.proofs.show_rest.Statement.{statement}
-use Rattle.percentiles.proofs.show_rest.Tie as tie
+use Rattle.percentiles.proofs.Values.{shows-histogram, shown-next, shown-all, percentile-is}
+use Rattle.percentiles.proofs.show_buckets.Statement.{statement}
+use Rattle.percentiles.proofs.show_buckets.Tie as tie
 
 abbrev Inv-loop : tie.InvT-loop
-Inv-loop q room ps shown₀ from i₀ shown i = (i ≤ length ps) × (length shown₀ ≡ length ps) × (length shown ≡ length ps) × (shown ≡ map (percentile q room) (take i ps) ++ drop i shown₀)
+Inv-loop q room ps shown₀ i₀ shown i = (i ≤ length ps) × (length shown₀ ≡ length ps) × (length shown ≡ length ps) × (shown ≡ map (percentile q room) (take i ps) ++ drop i shown₀)
 
 abbrev μ-loop : tie.MeasureT-loop
-μ-loop q room ps shown₀ from i₀ shown i = length ps - i
+μ-loop q room ps shown₀ i₀ shown i = length ps - i
 
 loop-holds : tie.Need-loop-holds Inv-loop μ-loop
 loop-holds c =
-    let p = c .before .before .before .pre in (p .4, p .3, p .3, p .5)
+    let p = c .before .before .before .pre in (omega arith, p .3, p .3, refl)
 
 mul-p : tie.Need-mul-p Inv-loop μ-loop
 mul-p c = search needs
@@ -34,11 +34,11 @@ shared-slice-read-p c = search needs
 rank-requires : tie.Need-rank-requires Inv-loop μ-loop
 rank-requires c κs = tt
 
-value-at-requires : tie.Need-value-at-requires Inv-loop μ-loop
-value-at-requires c κs =
+histogram-value-requires : tie.Need-histogram-value-requires Inv-loop μ-loop
+histogram-value-requires c κs =
     let a = c .before .before .before .before .before .before .before .args in
     let p = c .before .before .before .before .before .before .before .pre in
-    (p .0, p .1, subst (λ (r : ℕ). r < a .q .count) (sym (c .rank .ensures)) (rank-below (getD (now (a .ps)) (c .before .before .before .loop .i) nan) (a .q .count) (p .2)))
+    (p .0, p .2, subst (λ (r : ℕ). r < a .q .count) (sym (c .rank .ensures)) (rank-below (getD (now (a .ps)) (c .before .before .before .loop .i) nan) (a .q .count) (omega (arith, p .1))))
 
 mul-shown : tie.Need-mul-shown Inv-loop μ-loop
 mul-shown c = search needs
@@ -59,10 +59,10 @@ loop-again c =
     let t = c .before .before .before .loop-test .taken in (
       omega (arith, t),
       l .inv .1,
-      length-set (l .shown) (l .i) (c .value-at .result) ∙ l .inv .2,
-      ap (λ (s : List ℕ). set s (l .i) (c .value-at .result)) (l .inv .3)
-          ∙ shown-next (percentile (a .q) (now (a .room))) (now (a .ps)) nan (now (a .shown)) (l .i) (c .value-at .result) t (l .inv .1)
-          (percentile-is (a .q) (now (a .room)) (getD (now (a .ps)) (l .i) nan) (c .before .rank .result) (c .value-at .result) (c .before .rank .ensures) (c .value-at .ensures)),
+      length-set (l .shown) (l .i) (c .histogram-value .result) ∙ l .inv .2,
+      ap (λ (s : List ℕ). set s (l .i) (c .histogram-value .result)) (l .inv .3)
+          ∙ shown-next (percentile (a .q) (now (a .room))) (now (a .ps)) nan (now (a .shown)) (l .i) (c .histogram-value .result) t (l .inv .1)
+          (percentile-is (a .q) (now (a .room)) (getD (now (a .ps)) (l .i) nan) (c .before .rank .result) (c .histogram-value .result) (c .before .rank .ensures) (c .histogram-value .ensures ∙ shows-histogram (a .q) (now (a .room)) (c .before .rank .result) (c .before .before .before .before .before .before .before .before .pre .1))),
     )
 
 same-length : tie.Need-same-length Inv-loop μ-loop
@@ -73,8 +73,8 @@ returns c =
     let a = c .before .before .before .before .before .args in
     c .before .loop .inv .3 ∙ shown-all (percentile (a .q) (now (a .room))) (now (a .ps)) (now (a .shown)) (c .before .loop .i) (c .loop-test .left) (c .before .loop .inv .1)
 
-pub show-rest-spec : {M : Type 1} → statement M
-show-rest-spec =
+pub show-buckets-spec : {M : Type 1} → statement M
+show-buckets-spec =
     tie.close
     (tie.spec
     Inv-loop
@@ -83,7 +83,7 @@ show-rest-spec =
     mul-p
     shared-slice-read-p
     rank-requires
-    value-at-requires
+    histogram-value-requires
     mul-shown
     slice-write-shown
     add-i
