@@ -5,10 +5,10 @@ use mathlib.Core.Path.{_≡_, refl, sym, ap, _∙_}
 use Prim.Native.Nat.{ℕ, _+_, _-_, _*_, _^_, _≤_, _<_}
 use native.Mathlib.Omega.{arith}
 use lib.ListN.{getD}
-use Rattle.exact_rank.specs.Passes.{capped, edge, sumTo, Placed}
+use Rattle.sample_passes.specs.Passes.{capped, edge, sumTo, Placed}
 use Rattle.exact_rank.specs.Searches.{Leads, Led}
 use Rattle.exact_rank.specs.declared.Search.{Search}
-use Rattle.exact_rank.proofs.Digits.{next-digit, sum-more, sum-grows}
+use Rattle.sample_passes.proofs.DigitCounts.{next-digit, sum-more, sum-grows}
 
 module _ (counts : List ℕ) (low high shift : ℕ) (s : Search) (leads : Leads counts low high shift s) (digit left : ℕ)
     (placed : Placed counts (s .rank - s .before) digit left) where

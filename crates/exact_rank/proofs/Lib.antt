@@ -1,14 +1,10 @@
 -- What the proofs of several functions use.
 pub mod Counting
-pub mod Ends
-pub mod Digits
-pub mod Blocks
 pub mod Shifts
 pub mod Leading
 pub mod Stepping
 pub mod Steps
 pub mod Parting
-pub mod Around
 pub mod Sorting
 pub mod Samples
 pub mod Counted

@@ -5,11 +5,15 @@ use mathlib.Core.Path.{_≡_, refl, sym, ap, _∙_}
 use mathlib.Core.Logic.{_⊎_, inl, inr, ⊎-elim}
 use Prim.Native.Nat.{ℕ, _+_, _-_, _^_, _≤_, _<_}
 use native.Mathlib.Omega.{arith}
-use Rattle.exact_rank.specs.Counting.{below, KeyOfRank}
+use lib.ListN.{take}
+use Rattle.sample_passes.specs.Keys.{shifted}
+use Rattle.sample_passes.specs.Passes.{Gathered}
+use Rattle.exact_rank.specs.Counting.{KeyOfRank}
+use Rattle.sample_passes.specs.Counting.{below}
 use Rattle.exact_rank.specs.Searches.{Inside, AllInside, Follows, SameKeys, EndedAt, lowerPart, upperPart, Partable, Parted, PartedWith, AllParted, Stepped}
 use Rattle.exact_rank.specs.declared.Search.{Search}
 use Rattle.exact_rank.specs.declared.Four.{Four}
-use Rattle.exact_rank.proofs.Counting.{lt-or-le, below-grows, below-none}
+use Rattle.sample_passes.proofs.Counting.{lt-or-le, below-grows, below-none}
 use Rattle.exact_rank.proofs.Stepping.{follows-self, end-follows}
 
 module _ (key : ℕ → ℕ) (xs : List ℕ) where
@@ -99,3 +103,14 @@ module _ (key : ℕ → ℕ) (xs : List ℕ) where
                 };
             narrower = parted-narrower (f .first) (inside .first) going (g .first) l m (h .first);
           }
+
+  -- what is counted of the keys that a search has gathered is counted of all samples
+  pub gathered-count : (s : Search) → Inside key xs s → s .low < s .high → (keys : List ℕ) → Gathered key xs (s .low) (s .high) keys
+      → s .through - s .before ≤ 256 → (v : ℕ) → s .low ≤ v → v ≤ s .high + 1
+      → s .before + below (shifted 0) v (take (s .through - s .before) keys) ≡ below key v xs
+  gathered-count s h going keys g few v l m =
+      omega (
+        arith,
+        h .beforeIs going,
+        g (s .through - s .before) v (omega (arith, h .beforeIs going, h .throughIs going, h .fewBelow, h .enoughThrough)) few l m,
+      )

@@ -10,7 +10,8 @@ use native.Mathlib.Omega.{arith}
 use lib.Dec.{leb}
 use lib.ListN.{length, getD, take}
 use lib.Seq.{length-take-le, getD-take}
-use Rattle.exact_rank.specs.Rank.{unsigned, shifted, choose, insert, sorted, atRank, atRanks, InOrder, InReverse}
+use Rattle.exact_rank.specs.Rank.{unsigned, choose, insert, sorted, atRank, atRanks}
+use Rattle.sample_passes.specs.Keys.{shifted, InOrder, InReverse}
 use Rattle.exact_rank.specs.Counting.{KeyOfRank}
 use Rattle.exact_rank.proofs.Sorting.{length-sorted, sorted-is-counted, one-key, sorted-same, falling-is-counted}
 

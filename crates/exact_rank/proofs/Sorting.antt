@@ -11,8 +11,9 @@ use lib.Dec.{leb, ltb}
 use lib.ListN.{length, getD}
 use borrow.Author.Tests.{leb-true, leb-false, le-leb}
 use Rattle.exact_rank.specs.Rank.{choose, insert, sorted}
-use Rattle.exact_rank.specs.Counting.{oneIf, below, KeyOfRank}
-use Rattle.exact_rank.proofs.Counting.{one-below, none-below, one-if-most, below-grows, below-length, lt-or-le}
+use Rattle.exact_rank.specs.Counting.{KeyOfRank}
+use Rattle.sample_passes.specs.Counting.{oneIf, below}
+use Rattle.sample_passes.proofs.Counting.{one-below, none-below, one-if-most, below-grows, below-length, lt-or-le}
 
 choose-length : (t : Bool) (x y : ℕ) (ys zs : List ℕ) → length zs ≡ suc (length ys)
     → length (choose t (x ∷ y ∷ ys) (y ∷ zs)) ≡ suc (suc (length ys))

@@ -7,13 +7,14 @@ use Prim.Native.Nat.{ℕ, _+_, _-_, _*_, _^_, _≤_, _<_}
 use native.Mathlib.Omega.{arith}
 use lib.ListN.{getD}
 use lib.Pow.{pow-pos}
-use Rattle.exact_rank.specs.Counting.{below, KeyOfRank}
-use Rattle.exact_rank.specs.Passes.{Least, Most, capped, edge, Counted, sumTo}
-use Rattle.exact_rank.specs.Searches.{Inside, AllInside, Follows, AllFollow, SameKeys, EndedAt, Leads, Led, LedWith, EndedWith, LeadsAll, AllLed, AllEnded, Begins, Ends, Stepped}
+use Rattle.exact_rank.specs.Counting.{KeyOfRank}
+use Rattle.sample_passes.specs.Counting.{below}
+use Rattle.sample_passes.specs.Passes.{Least, Most, capped, edge, Counted, sumTo}
+use Rattle.exact_rank.specs.Searches.{Inside, AllInside, Follows, AllFollow, SameKeys, EndedAt, Leads, Led, LedWith, EndedWith, LeadsAll, AllLed, AllEnded, Stepped}
 use Rattle.exact_rank.specs.declared.Search.{Search}
 use Rattle.exact_rank.specs.declared.Four.{Four}
-use Rattle.exact_rank.proofs.Counting.{lt-or-le}
-use Rattle.exact_rank.proofs.Digits.{next-digit, sum-more, sum-counted, sum-all}
+use Rattle.sample_passes.proofs.Counting.{lt-or-le}
+use Rattle.sample_passes.proofs.DigitCounts.{next-digit, sum-more, sum-counted, sum-all}
 
 module _ (key : ℕ → ℕ) (xs : List ℕ) where
   pub follows-self : (s : Search) → Inside key xs s → Follows key xs s s

@@ -6,13 +6,14 @@ use mathlib.Core.Logic.{_⊎_, inl, inr, ⊎-elim}
 use Prim.Native.Nat.{ℕ, _+_, _-_, _*_, _^_, _≤_, _<_}
 use native.Mathlib.Omega.{arith}
 use lib.ListN.{length, take}
-use Rattle.exact_rank.specs.Rank.{shifted}
-use Rattle.exact_rank.specs.Counting.{below, KeyOfRank}
-use Rattle.exact_rank.specs.Passes.{Counted}
-use Rattle.exact_rank.specs.Searches.{Inside, AllInside, Follows, AllFollow, SameKeys, Leads, Led, LedWith, LeadsAll, AllLed, AllEnded, Begins, Ends, Stepped, AllAtEnd, whole, turnedOnce}
+use Rattle.sample_passes.specs.Keys.{shifted}
+use Rattle.exact_rank.specs.Counting.{KeyOfRank}
+use Rattle.sample_passes.specs.Counting.{below}
+use Rattle.sample_passes.specs.Passes.{Least, Most, Counted}
+use Rattle.exact_rank.specs.Searches.{Inside, AllInside, Follows, AllFollow, SameKeys, Leads, Led, LedWith, LeadsAll, AllLed, AllEnded, Stepped, AllAtEnd, whole, turnedOnce}
 use Rattle.exact_rank.specs.declared.Search.{Search}
 use Rattle.exact_rank.specs.declared.Four.{Four}
-use Rattle.exact_rank.proofs.Counting.{below-none, below-whole}
+use Rattle.sample_passes.proofs.Counting.{below-none, below-whole}
 use Rattle.exact_rank.proofs.Stepping.{follows-self, follows-on, end-follows, ended-follows, leads-from, led-follows, led-narrower}
 
 module _ (key : ℕ → ℕ) (xs : List ℕ) where
@@ -52,8 +53,8 @@ module _ (key : ℕ → ℕ) (xs : List ℕ) where
           narrower = omega (arith, h .first .low, h .first .high, going);
         }
 
-    module _ (counts : List ℕ) (low high shift : ℕ) (begins : Begins key xs (f .first .low) (f .first .high) low)
-        (ends : Ends key xs low (f .first .high) high) (counted : Counted key xs low high (2 ^ shift) counts) (span : high - low < 256 * 2 ^ shift)
+    module _ (counts : List ℕ) (low high shift : ℕ) (begins : Least key xs (f .first .low) (f .first .high) low)
+        (ends : Most key xs low (f .first .high) high) (counted : Counted key xs low high (2 ^ shift) counts) (span : high - low < 256 * 2 ^ shift)
         (few : (k : ℕ) → below key k xs < 2 ^ 64) where
       leads-with : (s : Search) → Inside key xs s → SameKeys s (f .first) → Leads counts low high shift s
       leads-with s h e =

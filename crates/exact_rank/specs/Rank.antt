@@ -2,17 +2,14 @@
 -- which samples are ordered, so that the signed order is the same law at another key.
 use mathlib.Core.Bool.{Bool, true, false}
 use mathlib.Core.List.{List, [], _∷_, map}
-use Prim.Native.Nat.{ℕ, _+_, _-_, _%_, _^_, _≤_, _<_}
+use Prim.Native.Nat.{ℕ, _-_, _^_, _<_}
 use lib.Dec.{leb}
 use lib.ListN.{getD, take}
+use Rattle.sample_passes.specs.Keys.{shifted}
 
 -- the key of an unsigned sample is the sample
 abbrev pub unsigned : ℕ → ℕ
 unsigned x = x
-
--- a key whose order starts at the sample 2^64 - bias and goes round
-abbrev pub shifted : ℕ → ℕ → ℕ
-shifted bias x = (x + bias) % 2 ^ 64
 
 -- the key of a signed sample in two's complement: -2^63 has key 0, and -1, 0 and 1 follow one another
 abbrev pub signed : ℕ → ℕ
@@ -40,14 +37,6 @@ atRank key samples count rank = getD (sorted key (take count samples)) rank 0
 -- the samples of several ranks
 unfoldable pub atRanks : (ℕ → ℕ) → List ℕ → ℕ → List ℕ → List ℕ
 atRanks key samples count ranks = map (atRank key samples count) ranks
-
--- no sample has a lower key than the one before it
-abbrev pub InOrder : (ℕ → ℕ) → List ℕ → ℕ → Type 0
-InOrder key samples count = (k : ℕ) → k + 1 < count → key (getD samples k 0) ≤ key (getD samples (k + 1) 0)
-
--- no sample has a higher key than the one before it
-abbrev pub InReverse : (ℕ → ℕ) → List ℕ → ℕ → Type 0
-InReverse key samples count = (k : ℕ) → k + 1 < count → key (getD samples (k + 1) 0) ≤ key (getD samples k 0)
 
 -- every rank is that of a sample
 abbrev pub Ranks : List ℕ → ℕ → Type 0

@@ -4,8 +4,8 @@ use mathlib.Core.Path.{_≡_}
 use mathlib.Core.Logic.{_⊎_}
 use Prim.Native.Nat.{ℕ, _+_, _-_, _*_, _^_, _≤_, _<_}
 use lib.ListN.{getD}
-use Rattle.exact_rank.specs.Counting.{below}
-use Rattle.exact_rank.specs.Passes.{edge, sumTo}
+use Rattle.sample_passes.specs.Counting.{below}
+use Rattle.sample_passes.specs.Passes.{edge, sumTo}
 use Rattle.exact_rank.specs.declared.Search.{Search}
 use Rattle.exact_rank.specs.declared.Four.{Four}
 
@@ -123,18 +123,6 @@ pub record AllEnded (value : ℕ) (f g : Four) : Type 0 where
   pub second : EndedWith value (f .first) (f .second) (g .second)
   pub third : EndedWith value (f .first) (f .third) (g .third)
   pub fourth : EndedWith value (f .first) (f .fourth) (g .fourth)
-
--- r is a lower end for the keys from low to high
-pub record Begins (key : ℕ → ℕ) (xs : List ℕ) (low high r : ℕ) : Type 0 where
-  pub from : low ≤ r
-  pub to : r ≤ high
-  pub noneBefore : below key r xs ≡ below key low xs
-
--- r is an upper end for the keys from low to high
-pub record Ends (key : ℕ → ℕ) (xs : List ℕ) (low high r : ℕ) : Type 0 where
-  pub from : low ≤ r
-  pub to : r ≤ high
-  pub noneAfter : below key (r + 1) xs ≡ below key (high + 1) xs
 
 -- one step: every search follows, and the first has fewer keys left
 pub record Stepped (key : ℕ → ℕ) (xs : List ℕ) (f g : Four) : Type 0 where

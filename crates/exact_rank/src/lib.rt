@@ -1,12 +1,14 @@
 // The samples of given ranks: what the exact mode of src/stats/quantiles.rs reads out of its sorted copy. Here nothing is
-// copied and the samples are not touched: a search counts the keys of 256 equal parts of a range, and goes on in the part
-// that holds the rank. Searches for several ranks share each count that they have in common.
+// copied and the samples are not touched. A search holds a range of keys and goes on in the part that has its rank: few keys
+// are gathered and told apart in place, more are parted at a key that some samples show, or counted by 256 equal parts.
+// Searches for several ranks share each pass that they have in common.
 ghost use mathlib.Core.Path.{_≡_};
 ghost use mathlib.Core.Logic.{_⊎_};
 ghost use Prim.Native.Nat.{ℕ, _+_, _-_, _*_, _^_, _<_, _≤_};
 ghost use lib.ListN.{length, take};
-ghost use Rattle.exact_rank.specs.Rank.{unsigned, shifted, signed, atRank, atRanks, Ranks, standingAt, backRanks};
-ghost use Rattle.exact_rank.specs.Passes.{capped, sumTo, Placed};
+ghost use Rattle.exact_rank.specs.Rank.{unsigned, signed, atRanks, Ranks, standingAt, backRanks};
+ghost use Rattle.sample_passes.specs.Keys.{shifted};
+ghost use Rattle.sample_passes.specs.Passes.{capped, sumTo, Placed};
 ghost use Rattle.exact_rank.specs.Searches.{
   AllInside,
   AllFollow,
@@ -23,28 +25,17 @@ ghost use Rattle.exact_rank.specs.Searches.{
   LeadsAll,
   AllLed,
   AllEnded,
-  Begins,
-  Ends,
   Stepped,
   AllAtEnd,
   whole,
   turnedOnce,
 };
 
-mod passes;
-
 // What is added to a signed sample, so that its key is in unsigned order.
 const SIGNED: u64 = 9223372036854775808;
 
-// With more keys than these in its range, a search first finds where they begin and end: two passes, which pay where most
-// keys would otherwise fall into few parts.
-const MANY: u64 = 256;
-
-// With more keys than these in its range, a search first looks at a few samples for a key at which to part them.
-const SOME: u64 = 128;
-
-// The greatest key.
-const LAST: u64 = 18446744073709551615;
+// A range with no more keys than these is gathered; one with more is parted or divided.
+const FEW: u64 = 256;
 
 // A search for the sample of a rank, counted from 0. Its key is one of low to high. While these differ, `before` samples have
 // a key below low, and `through` have one of at most high.
@@ -209,39 +200,17 @@ fn all_ended(value: u64, four: Four) -> Four
     }
 }
 
-// Where the node's keys begin: looked for where there are many, or nothing is known of it yet.
-fn begin(samples: &[u64], count: usize, bias: u64, node: Search) -> u64
-    requires { ⌜ (count ≤ length (now samples)) × (node .low ≤ node .high) × (node .before ≤ node .through) ⌝ }
-    ensures { λ r. ⌜ Begins (shifted bias) (take count (now (samples .entry))) (node .low) (node .high) r ⌝ }
-{
-    if (node.through - node.before > MANY) | (node.low == 0) {
-        return passes::least(samples, count, bias, node.low, node.high);
-    }
-    node.low
-}
-
-// Where the node's keys end, from `low`: looked for where there are many, or nothing is known of it yet.
-fn finish(samples: &[u64], count: usize, bias: u64, low: u64, node: Search) -> u64
-    requires { ⌜ (count ≤ length (now samples)) × (low ≤ node .high) × (node .before ≤ node .through) ⌝ }
-    ensures { λ r. ⌜ Ends (shifted bias) (take count (now (samples .entry))) low (node .high) r ⌝ }
-{
-    if (node.through - node.before > MANY) | (node.high == LAST) {
-        return passes::most(samples, count, bias, low, node.high);
-    }
-    node.high
-}
-
-// The keys of the first search, counted by digits, and every search among them led on.
+// The keys of the first search, counted by digits from where they begin to where they end, and every search among them led on.
 fn divided(samples: &[u64], count: usize, bias: u64, four: Four) -> Four
     requires { ⌜ (count ≤ length (now samples)) × AllInside (shifted bias) (take count (now samples)) four
         × (four .first .low < four .first .high) ⌝ }
     ensures { λ r. ⌜ Stepped (shifted bias) (take count (now (samples .entry))) four r ⌝ }
 {
     let node = four.first;
-    let low = begin(samples, count, bias, node);
-    let high = finish(samples, count, bias, low, node);
+    let low = sample_passes::least(samples, count, bias, node.low, node.high);
+    let high = sample_passes::most(samples, count, bias, low, node.high);
     let shift = shift_of(high - low);
-    let counts = passes::digits(samples, count, bias, low, high, shift);
+    let counts = sample_passes::digits(samples, count, bias, low, high, shift);
     all_led(&counts, low, high, shift, four)
 }
 
@@ -305,26 +274,72 @@ fn parted(samples: &[u64], count: usize, bias: u64, value: u64, four: Four) -> F
         × (four .first .low < four .first .high) × (four .first .low ≤ value) × (value ≤ four .first .high) ⌝ }
     ensures { λ r. ⌜ Stepped (shifted bias) (take count (now (samples .entry))) four r ⌝ }
 {
-    let around = passes::around(samples, count, bias, value);
+    let around = sample_passes::around(samples, count, bias, value);
     all_parted(value, around.under, around.reach, four)
 }
 
-// The keys of the first search, parted at one of them where a few samples show that this pays, else counted by digits.
+// The value, or the nearer end of a range where it is not in it.
+fn within(value: u64, low: u64, high: u64) -> u64
+    requires { ⌜ low ≤ high ⌝ }
+    ensures { λ r. ⌜ (low ≤ r) × (r ≤ high) ⌝ }
+{
+    if value < low {
+        return low;
+    }
+    if high < value {
+        return high;
+    }
+    value
+}
+
+// The keys of the first search, which are few, gathered and parted at the one that has the rank, and every search among them led on.
+fn picked(samples: &[u64], count: usize, bias: u64, four: Four) -> Four
+    requires { ⌜ (count ≤ length (now samples)) × AllInside (shifted bias) (take count (now samples)) four
+        × (four .first .low < four .first .high) × (four .first .through - four .first .before ≤ 256) ⌝ }
+    ensures { λ r. ⌜ Stepped (shifted bias) (take count (now (samples .entry))) four r ⌝ }
+{
+    let node = four.first;
+    let mut keys = [0u64; 256];
+    sample_passes::gather(samples, count, bias, node.low, node.high, &mut keys);
+    let held = (node.through - node.before) as usize;
+    let value = within(
+        sample_guess::chosen(&keys, held, node.rank - node.before),
+        node.low,
+        node.high,
+    );
+    let around = sample_passes::around(&keys, held, 0, value);
+    all_parted(
+        value,
+        node.before + around.under,
+        node.before + around.reach,
+        four,
+    )
+}
+
+// The keys of the first search: gathered where they are few; else parted at one of them where a few samples show that this pays; else
+// counted by digits.
 fn narrowed(samples: &[u64], count: usize, bias: u64, four: Four) -> Four
     requires { ⌜ (count ≤ length (now samples)) × AllInside (shifted bias) (take count (now samples)) four
         × (four .first .low < four .first .high) ⌝ }
     ensures { λ r. ⌜ Stepped (shifted bias) (take count (now (samples .entry))) four r ⌝ }
 {
     let node = four.first;
-    if node.through - node.before > SOME {
-        let guess = passes::guessed(samples, count, bias, node.low, node.high);
-        if guess.pays {
-            if node.low <= guess.value {
-                if guess.value <= node.high {
-                    return parted(samples, count, bias, guess.value, four);
-                }
-            }
-        }
+    let held = node.through - node.before;
+    if held <= FEW {
+        return picked(samples, count, bias, four);
+    }
+    let guess = sample_guess::guessed(
+        samples,
+        count,
+        bias,
+        node.low,
+        node.high,
+        node.rank - node.before,
+        held,
+    );
+    if guess.pays {
+        let value = within(guess.value, node.low, node.high);
+        return parted(samples, count, bias, value, four);
     }
     divided(samples, count, bias, four)
 }
@@ -338,13 +353,13 @@ fn step(samples: &[u64], count: usize, bias: u64, four: Four) -> Four
     let node = four.first;
     if node.rank == node.before {
         return all_ended(
-            passes::least(samples, count, bias, node.low, node.high),
+            sample_passes::least(samples, count, bias, node.low, node.high),
             four,
         );
     }
     if node.through - node.rank == 1 {
         return all_ended(
-            passes::most(samples, count, bias, node.low, node.high),
+            sample_passes::most(samples, count, bias, node.low, node.high),
             four,
         );
     }
@@ -473,38 +488,13 @@ fn pick_four(samples: &[u64], count: usize, bias: u64, ranks: [u64; 4]) -> [u64;
     requires { ⌜ (count ≤ length (now samples)) × Ranks ranks count ⌝ }
     ensures { λ r. ⌜ r ≡ atRanks (shifted bias) (now (samples .entry)) count ranks ⌝ }
 {
-    if passes::in_order(samples, count, bias) {
+    if sample_passes::in_order(samples, count, bias) {
         return read_four(samples, ranks);
     }
-    if passes::in_reverse(samples, count, bias) {
+    if sample_passes::in_reverse(samples, count, bias) {
         return read_four(samples, back_ranks(count, ranks));
     }
     search_four(samples, count, bias, ranks)
-}
-
-// The sample of a rank in an order: four searches for one rank go together all the way.
-fn pick(samples: &[u64], count: usize, bias: u64, rank: u64) -> u64
-    requires { ⌜ (count ≤ length (now samples)) × (rank < count) ⌝ }
-    ensures { λ r. ⌜ r ≡ atRank (shifted bias) (now (samples .entry)) count rank ⌝ }
-{
-    let four = pick_four(samples, count, bias, [rank, rank, rank, rank]);
-    four[0]
-}
-
-// The sample of a rank among unsigned samples.
-pub fn pick_unsigned(samples: &[u64], count: usize, rank: u64) -> u64
-    requires { ⌜ (count ≤ length (now samples)) × (rank < count) ⌝ }
-    ensures { λ r. ⌜ r ≡ atRank unsigned (now (samples .entry)) count rank ⌝ }
-{
-    pick(samples, count, 0, rank)
-}
-
-// The sample of a rank among signed samples, in two's complement.
-pub fn pick_signed(samples: &[u64], count: usize, rank: u64) -> u64
-    requires { ⌜ (count ≤ length (now samples)) × (rank < count) ⌝ }
-    ensures { λ r. ⌜ r ≡ atRank signed (now (samples .entry)) count rank ⌝ }
-{
-    pick(samples, count, SIGNED, rank)
 }
 
 // The samples of four ranks among unsigned samples.

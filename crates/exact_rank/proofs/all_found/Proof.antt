@@ -5,7 +5,7 @@ use Prim.Native.Nat.{ℕ, _-_}
 use mathlib.Core.List.{List}
 use lib.ListN.{take}
 use borrow.Author.Needs.{needs}
-use Rattle.exact_rank.specs.Rank.{shifted}
+use Rattle.sample_passes.specs.Keys.{shifted}
 use Rattle.exact_rank.proofs.Steps.{all-inside, turned-inside, four-turns-follow, four-turns-end}
 use Rattle.exact_rank.proofs.all_found.Statement.{statement}
 use Rattle.exact_rank.proofs.all_found.Tie as tie

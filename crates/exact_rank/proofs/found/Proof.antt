@@ -3,7 +3,7 @@
 use Prim.Native.Nat.{_≤_, _-_}
 use native.Mathlib.Omega.{arith}
 use lib.ListN.{length, take}
-use Rattle.exact_rank.specs.Rank.{shifted}
+use Rattle.sample_passes.specs.Keys.{shifted}
 use Rattle.exact_rank.specs.Searches.{AllFollow}
 use Rattle.exact_rank.proofs.Steps.{all-follow-self, all-follow-on, all-inside}
 use Rattle.exact_rank.proofs.found.Statement.{statement}

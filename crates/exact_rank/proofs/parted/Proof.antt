@@ -4,8 +4,8 @@ use native.Mathlib.Omega.{arith}
 use lib.ListN.{take}
 use denote.Ref.{now}
 use borrow.Author.Needs.{needs}
-use Rattle.exact_rank.specs.Rank.{shifted}
-use Rattle.exact_rank.proofs.Counting.{below-whole, below-take-most}
+use Rattle.sample_passes.specs.Keys.{shifted}
+use Rattle.sample_passes.proofs.Counting.{below-whole, below-take-most}
 use Rattle.exact_rank.proofs.Parting.{partable, all-parted-stepped}
 use Rattle.exact_rank.proofs.parted.Statement.{statement}
 use Rattle.exact_rank.proofs.parted.Tie as tie

@@ -6,7 +6,8 @@ use mathlib.Core.Path.{ap, _∙_}
 use native.Mathlib.Omega.{arith}
 use lib.ListN.{getD}
 use borrow.Author.Needs.{needs}
-use Rattle.exact_rank.specs.Rank.{shifted, atRank, atRanks, standingAt, backRanks}
+use Rattle.exact_rank.specs.Rank.{atRank, atRanks, standingAt, backRanks}
+use Rattle.sample_passes.specs.Keys.{shifted}
 use Rattle.exact_rank.proofs.Samples.{in-order-at, in-reverse-at}
 use Rattle.exact_rank.proofs.Results.{four-same, four-at, map-after}
 use Rattle.exact_rank.proofs.pick_four.Statement.{statement}

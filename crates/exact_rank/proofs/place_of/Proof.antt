@@ -4,8 +4,8 @@ use Prim.Native.Nat.{_≤_, _<_, _-_, _+_}
 use mathlib.Core.Path.{_≡_}
 use native.Mathlib.Omega.{arith}
 use borrow.Author.Needs.{needs}
-use Rattle.exact_rank.specs.Passes.{sumTo}
-use Rattle.exact_rank.proofs.Digits.{sum-more}
+use Rattle.sample_passes.specs.Passes.{sumTo}
+use Rattle.sample_passes.proofs.DigitCounts.{sum-more}
 use Rattle.exact_rank.proofs.place_of.Statement.{statement}
 use Rattle.exact_rank.proofs.place_of.Tie as tie
 

@@ -5,7 +5,8 @@ use mathlib.Core.Path.{ap}
 use native.Mathlib.Omega.{arith}
 use lib.ListN.{getD, take}
 use borrow.Author.Needs.{needs}
-use Rattle.exact_rank.specs.Rank.{shifted, atRank, atRanks}
+use Rattle.exact_rank.specs.Rank.{atRank, atRanks}
+use Rattle.sample_passes.specs.Keys.{shifted}
 use Rattle.exact_rank.specs.declared.Search.{Search}
 use Rattle.exact_rank.proofs.Samples.{counted-is-sample}
 use Rattle.exact_rank.proofs.Steps.{whole-inside, end-key}

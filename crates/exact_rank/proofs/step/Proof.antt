@@ -4,7 +4,7 @@ use Prim.Native.Nat.{_-_}
 use native.Mathlib.Omega.{arith}
 use lib.ListN.{take}
 use borrow.Author.Needs.{needs}
-use Rattle.exact_rank.specs.Rank.{shifted}
+use Rattle.sample_passes.specs.Keys.{shifted}
 use Rattle.exact_rank.proofs.Stepping.{least-key, most-key}
 use Rattle.exact_rank.proofs.Steps.{all-ended-stepped}
 use Rattle.exact_rank.proofs.step.Statement.{statement}
