@@ -56,7 +56,7 @@ module _ (x : monitor.Stand) (marks : Marks) (ok : Kept x marks) where
   plain-served : (n : ℕ) (q : Plain) → n ≡ 0 → choose (eqb n 0) q p ≡ q
   plain-served n q e = ap (λ (r : ℕ). choose (eqb r 0) q p) e
 
-  ring-sent : (s t : ℕ) → refusalOfSent m (length (x .room)) t ≡ 0 → playRing (sending s t) x .stand ≡ sentIf true m (x .room) s t
+  pub ring-sent : (s t : ℕ) → refusalOfSent m (length (x .room)) t ≡ 0 → playRing (sending s t) x .stand ≡ sentIf true m (x .room) s t
   unfolding playRing sentTo answered
   ring-sent s t e = kept-served (refusalOfSent m (length (x .room)) t) (sentIf true m (x .room) s t) e
 
@@ -69,7 +69,7 @@ module _ (x : monitor.Stand) (marks : Marks) (ok : Kept x marks) where
       subst (λ (q : Plain). Next (sentIf true m (x .room) s t) q) (plain-sent s t e)
       (subst (λ (y : monitor.Stand). Next y (playPlain (sending s t) p .plain)) (ring-sent s t e) (agrees x marks ok (sending s t) .1))
 
-  ring-reply : (s : ℕ) → refusalOf m (length (x .room)) ≡ 0 → playRing (replying s) x .stand ≡ replyIf true m (x .room) s
+  pub ring-reply : (s : ℕ) → refusalOf m (length (x .room)) ≡ 0 → playRing (replying s) x .stand ≡ replyIf true m (x .room) s
   unfolding playRing replyTo answered
   ring-reply s e = kept-served (refusalOf m (length (x .room))) (replyIf true m (x .room) s) e
 
@@ -82,7 +82,7 @@ module _ (x : monitor.Stand) (marks : Marks) (ok : Kept x marks) where
       subst (λ (q : Plain). Next (replyIf true m (x .room) s) q) (plain-reply s e)
       (subst (λ (y : monitor.Stand). Next y (playPlain (replying s) p .plain)) (ring-reply s e) (agrees x marks ok (replying s) .1))
 
-  ring-advance : (t : ℕ) → refusalOf m (length (x .room)) ≡ 0 → playRing (advancing t) x .stand ≡ advanceIf true m (x .room) t
+  pub ring-advance : (t : ℕ) → refusalOf m (length (x .room)) ≡ 0 → playRing (advancing t) x .stand ≡ advanceIf true m (x .room) t
   unfolding playRing advanceTo answered
   ring-advance t e = kept-served (refusalOf m (length (x .room))) (advanceIf true m (x .room) t) e
 
@@ -95,7 +95,7 @@ module _ (x : monitor.Stand) (marks : Marks) (ok : Kept x marks) where
       subst (λ (q : Plain). Next (advanceIf true m (x .room) t) q) (plain-advance t e)
       (subst (λ (y : monitor.Stand). Next y (playPlain (advancing t) p .plain)) (ring-advance t e) (agrees x marks ok (advancing t) .1))
 
-  ring-idle : refusalOf m capacity ≡ 0 → playRing idling x .stand ≡ record { monitor = idleOn m; room = x .room }
+  pub ring-idle : refusalOf m capacity ≡ 0 → playRing idling x .stand ≡ record { monitor = idleOn m; room = x .room }
   unfolding playRing idleTo
   ring-idle e = kept-served (refusalOf m capacity) (record { monitor = idleOn m; room = x .room }) e
 

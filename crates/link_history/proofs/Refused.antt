@@ -45,11 +45,11 @@ use Rattle.link_history.proofs.Monitor.{WatchFollows}
 
 -- ---- the number of an answer is the refusal's
 
-sent-number : (n : ℕ) (o : SentOutcome) (probes links : List (List ℕ)) → number (sentBy n o probes links .answer) ≡ n
+pub sent-number : (n : ℕ) (o : SentOutcome) (probes links : List (List ℕ)) → number (sentBy n o probes links .answer) ≡ n
 sent-number zero o probes links = refl
 sent-number (suc n) o probes links = refl
 
-accept-number : (n : ℕ) (o : AcceptOutcome) (keys slots probes links : List (List ℕ)) → acceptNumber (acceptBy n o keys slots probes links .answer) ≡ n
+pub accept-number : (n : ℕ) (o : AcceptOutcome) (keys slots probes links : List (List ℕ)) → acceptNumber (acceptBy n o keys slots probes links .answer) ≡ n
 accept-number zero o keys slots probes links = refl
 accept-number (suc n) o keys slots probes links = refl
 
@@ -106,13 +106,13 @@ module _ (v : Watching) (words : List ℕ) (copies : ℕ) (copies-in : copies < 
   by-room : (placed : Bool) → placed ≡ true → firstRefusal placed true true (roomForCall l) true true ≡ ledgerRefuses h
   by-room placed e = ap (λ (b : Bool). firstRefusal b true true (roomForCall l) true true) e ∙ ap (λ (b : Bool). firstRefusal true true true b true true) room-is
 
-  sent-refusal : (n : ℕ) → refusalOfSent n l (length (k .rooms .probes)) (length (k .rooms .links)) ≡ earlier (ledgerRefuses h) n
+  pub sent-refusal : (n : ℕ) → refusalOfSent n l (length (k .rooms .probes)) (length (k .rooms .links)) ≡ earlier (ledgerRefuses h) n
   unfolding refusalOfSent
   sent-refusal n =
       ap (λ (r : ℕ). earlier r n)
       (by-room _ (both-hold _ _ (both-hold _ _ (probes-sized words copies h k f) (links-sized words copies h k f)) (rings-fit words copies h k f)))
 
-  accept-refusal : (n : ℕ) → refusalOfAccept n l (length (k .rooms .keys)) (length (k .rooms .slots)) (length (k .rooms .probes)) (length (k .rooms .links)) ≡ earlier (ledgerRefuses h) n
+  pub accept-refusal : (n : ℕ) → refusalOfAccept n l (length (k .rooms .keys)) (length (k .rooms .slots)) (length (k .rooms .probes)) (length (k .rooms .links)) ≡ earlier (ledgerRefuses h) n
   unfolding refusalOfAccept
   accept-refusal n =
       ap (λ (r : ℕ). earlier r n)

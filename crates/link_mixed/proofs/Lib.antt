@@ -1,0 +1,3 @@
+pub mod Ledger
+pub mod Monitor
+pub mod Whole
