@@ -16,7 +16,8 @@
  *   - The memory lent to one call does not overlap, except where a call only reads it.
  *   - Each call on a link is given what the call before left: the state and all its rooms.
  *   - The stack has room: 1 KB for a call, and as much as is said at it where it takes more (`Stack:`). Proofs do not speak of it:
- *     host/stack measures each call of the compiled library, on x86-64.
+ *     host/stack measures each call of the compiled library, on x86-64. A program that binds functions of the C library only when they
+ *     are first called (the linker's -z lazy) needs 1 to 3 KB more at that call.
  *   - There is no allocation and no global state. One link belongs to one thread at a time; different links share nothing.
  *
  * WHAT A LINK COSTS, in bytes
@@ -301,8 +302,7 @@ typedef struct {
  * length or the number of seen offsets above 4,096. Refusal 4 is about the state before the call. */
 
 /* Makes a ledger fresh: counts 0, nothing held. `copies` replies are asked for each probe; 0 counts as 1. `secret`: random words, kept
- * from whoever sends replies: they decide where entries are searched, never an answer. Rooms may hold anything. Refuses nothing.
- * Stack: 2 KB. */
+ * from whoever sends replies: they decide where entries are searched, never an answer. Rooms may hold anything. Refuses nothing. */
 uint8_t ambrulicciu_ledger_fresh(ambrulicciu_ledger *ledger, uint16_t copies, const uint32_t secret[8]);
 
 /* A probe was sent: adds copies to requested, and holds the probe. A sequence that is held already becomes the newest, unanswered, with
