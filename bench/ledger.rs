@@ -7,7 +7,7 @@ use crate::{
     table::Table,
 };
 use ambrulicciu::{
-    calls::{self, Observation},
+    calls::{self, Observation, LEDGER_WORDS},
     Figures, Link, ROWS,
 };
 use std::hint::black_box;
@@ -172,7 +172,7 @@ pub fn rows(table: &mut Table) {
 }
 
 fn fresh(table: &mut Table) {
-    let mut ledger = [0; 72];
+    let mut ledger = [0; LEDGER_WORDS];
     let mut original = Timed::new(1);
     table.row(
         "`ledger_fresh`",

@@ -21,7 +21,7 @@
  *   - There is no allocation and no global state. One link belongs to one thread at a time; different links share nothing.
  *
  * WHAT A LINK COSTS, in bytes
- *       ledger      576    its state
+ *       ledger      640    its state
  *       monitor      96    the session's state, if the link is watched
  *       keys     65,536    the last 4,096 accepted replies
  *       slots    98,304    what was observed of each, for follow-ups
@@ -29,7 +29,7 @@
  *       offsets  16,384    transmit offsets seen since the anchor
  *       links    65,536    how the tables are searched: shared by keys, probes and offsets
  *       queue    98,304    the monitor's probes that await a reply, if the link is watched
- *     together  475,808    (377,408 without a monitor); ambrulicciu_link below has them all, and a word
+ *     together  475,872    (377,472 without a monitor); ambrulicciu_link below has them all, and a word
  *   A series of quantiles: state 32, room 92,160 (signed: 149,512). A report: a buffer of 1,024. A log: at most 65,536.
  *   A summary of bit errors, one for each direction: 64.
  *   A room may hold anything when a link is made fresh: it need not be cleared.
@@ -98,7 +98,7 @@ uint8_t ambrulicciu_version(uint32_t *version);
  * written to a file and read back as bytes. Every content is allowed, and a call is defined on each. What is tested of it is said at
  * refusals 5 and 4 of each section, and no more: a ledger of 1,000,000 answered probes and 0 unique replies, which no call leaves, is
  * served, and its figures are what its words say. So a host that reads a state back from a file sees to it that it is the one it wrote. */
-typedef struct { uint64_t word[72]; } ambrulicciu_ledger;
+typedef struct { uint64_t word[80]; } ambrulicciu_ledger;
 typedef struct { uint64_t word[12]; } ambrulicciu_monitor;
 typedef struct { uint64_t word[12]; } ambrulicciu_clock_quality;
 typedef struct { uint64_t word[4]; } ambrulicciu_quantiles;

@@ -184,7 +184,7 @@ static ambrulicciu_ledger *ledger(int read_only) {
     uint32_t words[8] = {1, 2, 3, 4, 5, 6, 7, 8};
     if (drawn() % 8) {
         ambrulicciu_ledger_fresh(l, (uint16_t)drawn(), words);
-        spoil(l->word, 72);
+        spoil(l->word, 80);
     }
     return l;
 }

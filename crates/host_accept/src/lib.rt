@@ -4,12 +4,13 @@ ghost use Rattle.host_calls.specs.Calls.{replyOf};
 ghost use Rattle.host_accept.specs.Accept.{acceptLeft, acceptOf};
 use calls::Reply;
 use host_duplicate::count_if_duplicate;
+use host_ledger::LEDGER_WORDS;
 use host_served::store_served;
 use ledger_steps::AcceptAnswer;
 
 // Any reply.
 fn accept(
-    ledger: &mut [u64; 72],
+    ledger: &mut [u64; LEDGER_WORDS],
     keys: &mut [[u64; 2]],
     slots: &mut [[u64; 3]],
     probes: &mut [[u64; 4]],
@@ -35,7 +36,7 @@ fn accept(
 // Words of `answer`: 0 class, 1 time, 2 tag, 3 ordinal_known, 4 ordinal.
 #[no_mangle]
 pub extern "C" fn ambrulicciu_accept(
-    ledger: &mut [u64; 72],
+    ledger: &mut [u64; LEDGER_WORDS],
     keys: &mut [[u64; 2]],
     slots: &mut [[u64; 3]],
     probes: &mut [[u64; 4]],

@@ -1,12 +1,13 @@
 // `answered` of src/sender/measurements.rs for a host: whether the probe of a sequence is held and has a reply.
 ghost use mathlib.Core.Path.{_≡_};
 ghost use Rattle.host_answered.specs.Answered.{left, answeredLeaves};
+use host_ledger::LEDGER_WORDS;
 use ledger_steps::AnsweredAnswer;
 
 // `answer`: 1 if it is answered, else 0.
 #[no_mangle]
 pub extern "C" fn ambrulicciu_answered(
-    ledger: &[u64; 72],
+    ledger: &[u64; LEDGER_WORDS],
     probes: &[[u64; 4]],
     links: &[[u16; 8]],
     sequence: u32,

@@ -1,10 +1,14 @@
 // `needs_burst_wait` of src/sender/measurements.rs for a host.
 ghost use mathlib.Core.Path.{_≡_};
 ghost use Rattle.host_burst_wait.specs.BurstWait.{left, burstWaitLeaves};
+use host_ledger::LEDGER_WORDS;
 
 // `answer`: 1 if the host has to wait for more replies of a burst, else 0.
 #[no_mangle]
-pub extern "C" fn ambrulicciu_needs_burst_wait(ledger: &[u64; 72], answer: &mut [u64; 1]) -> u8
+pub extern "C" fn ambrulicciu_needs_burst_wait(
+    ledger: &[u64; LEDGER_WORDS],
+    answer: &mut [u64; 1],
+) -> u8
     ensures { λ r. ⌜ left r (now (answer .exit)) ≡ burstWaitLeaves (now (ledger .entry)) ⌝ }
 {
     let state = host_ledger::load(ledger);

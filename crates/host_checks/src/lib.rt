@@ -15,6 +15,7 @@ ghost use Rattle.host_quality.specs.Words.{qualityAt};
 ghost use Rattle.host_ledger.specs.Parts.{repliesAt, delaysAt, windowAt, directAt, followAt};
 ghost use Rattle.host_ledger.specs.Words.{ledgerAt};
 use chains::Ring;
+use host_ledger::LEDGER_WORDS;
 use host_numbers::high;
 use host_numbers::is_set;
 use host_numbers::low;
@@ -23,7 +24,7 @@ use scope::COUNT_BOUND;
 
 // ---- refusal 4
 
-fn replies_fit(state: &[u64; 72]) -> bool
+fn replies_fit(state: &[u64; LEDGER_WORDS]) -> bool
     ensures { λ r. ⌜ r ≡ repliesFit (repliesAt 11 (now (state .entry))) ⌝ }
 {
     let totals = (state[11] < COUNT_BOUND)
@@ -39,14 +40,14 @@ fn replies_fit(state: &[u64; 72]) -> bool
     totals & answers & numbers & evicted
 }
 
-fn round_trips_fit(state: &[u64; 72]) -> bool
+fn round_trips_fit(state: &[u64; LEDGER_WORDS]) -> bool
     ensures { λ r. ⌜ r ≡ delays.countsFit (delaysAt 25 (now (state .entry))) ⌝ }
 {
     let delays = host_observed::rtt_of(state);
     delays.counts_fit()
 }
 
-fn direct_fits(state: &[u64; 72]) -> bool
+fn direct_fits(state: &[u64; LEDGER_WORDS]) -> bool
     ensures { λ r. ⌜ r ≡ countsInBounds (directAt 33 (now (state .entry)) .counts) ⌝ }
 {
     (state[33] < COUNT_BOUND)
@@ -55,14 +56,14 @@ fn direct_fits(state: &[u64; 72]) -> bool
         & (state[36] < COUNT_BOUND)
 }
 
-fn delay_fits(state: &[u64; 72]) -> bool
+fn delay_fits(state: &[u64; LEDGER_WORDS]) -> bool
     ensures { λ r. ⌜ r ≡ delays.countsFit (delaysAt 50 (now (state .entry))) ⌝ }
 {
     let delays = host_observed::delay_of(state);
     delays.counts_fit()
 }
 
-fn quality_fits(state: &[u64; 72]) -> bool
+fn quality_fits(state: &[u64; LEDGER_WORDS]) -> bool
     ensures { λ r. ⌜ r ≡ clock_quality.countsFit (qualityAt 58 (now (state .entry))) ⌝ }
 {
     (state[58] < COUNT_BOUND)
@@ -72,7 +73,7 @@ fn quality_fits(state: &[u64; 72]) -> bool
         & (state[62] < COUNT_BOUND)
 }
 
-fn follow_fits(state: &[u64; 72]) -> bool
+fn follow_fits(state: &[u64; LEDGER_WORDS]) -> bool
     ensures { λ r. ⌜ r ≡ followUpsFit (followAt 44 (now (state .entry))) ⌝ }
 {
     let counts = (state[44] < COUNT_BOUND)
@@ -84,7 +85,7 @@ fn follow_fits(state: &[u64; 72]) -> bool
     counts & delay_fits(state) & quality_fits(state)
 }
 
-pub fn room_for_call(state: &[u64; 72]) -> bool
+pub fn room_for_call(state: &[u64; LEDGER_WORDS]) -> bool
     ensures { λ r. ⌜ r ≡ roomForCall (ledgerAt (now (state .entry))) ⌝ }
 {
     let counts = replies_fit(state)
@@ -102,7 +103,7 @@ pub fn ring_fits(ring: Ring) -> bool
     (ring.head < CAPACITY) & (ring.len <= CAPACITY)
 }
 
-pub fn keys_ring(state: &[u64; 72]) -> Ring
+pub fn keys_ring(state: &[u64; LEDGER_WORDS]) -> Ring
     ensures { λ r. ⌜ r ≡ ledgerAt (now (state .entry)) .tables .keys ⌝ }
 {
     Ring {
@@ -111,7 +112,7 @@ pub fn keys_ring(state: &[u64; 72]) -> Ring
     }
 }
 
-fn probes_ring(state: &[u64; 72]) -> Ring
+fn probes_ring(state: &[u64; LEDGER_WORDS]) -> Ring
     ensures { λ r. ⌜ r ≡ ledgerAt (now (state .entry)) .tables .probes ⌝ }
 {
     Ring {
@@ -120,7 +121,7 @@ fn probes_ring(state: &[u64; 72]) -> Ring
     }
 }
 
-fn seen_fits(state: &[u64; 72]) -> bool
+fn seen_fits(state: &[u64; LEDGER_WORDS]) -> bool
     ensures { λ r. ⌜ r ≡ leb (seenIn (windowAt 38 (now (state .entry)))) capacity ⌝ }
 {
     if is_set(state[38]) {
@@ -129,7 +130,7 @@ fn seen_fits(state: &[u64; 72]) -> bool
     true
 }
 
-pub fn rings_fit(state: &[u64; 72]) -> bool
+pub fn rings_fit(state: &[u64; LEDGER_WORDS]) -> bool
     ensures { λ r. ⌜ r ≡ ringsFit (ledgerAt (now (state .entry))) ⌝ }
 {
     let keys = keys_ring(state);
@@ -139,7 +140,7 @@ pub fn rings_fit(state: &[u64; 72]) -> bool
 
 // ---- the hash
 
-pub fn secret_words(state: &[u64; 72]) -> [u32; 8]
+pub fn secret_words(state: &[u64; LEDGER_WORDS]) -> [u32; 8]
     ensures { λ r. ⌜ r ≡ hashWords (ledgerAt (now (state .entry))) ⌝ }
 {
     [

@@ -13,12 +13,13 @@ use host_checks::ring_fits;
 use host_checks::rings_fit;
 use host_checks::room_for_call;
 use host_checks::secret_words;
+use host_ledger::LEDGER_WORDS;
 use scope::CAPACITY;
 
 // Whether `accept`, lent rooms of these sizes, is served and the reply is a duplicate. The key is looked for first: most replies are unique, and
 // then nothing else of the state is read here.
 fn is_duplicate(
-    state: &[u64; 72],
+    state: &[u64; LEDGER_WORDS],
     keys: &[[u64; 2]],
     links: &[[u16; 8]],
     slots: usize,
@@ -41,7 +42,7 @@ fn is_duplicate(
 }
 
 // One call and one duplicate more.
-fn count(state: &mut [u64; 72])
+fn count(state: &mut [u64; LEDGER_WORDS])
     requires { ⌜ (getD (now state) 5 0 < mostCalls) × (getD (now state) 13 0 < countBound) ⌝ }
     ensures { λ _. ⌜ now (state .exit) ≡ duplicateWords (now (state .entry)) ⌝ }
 {
@@ -55,7 +56,7 @@ fn count(state: &mut [u64; 72])
 
 // A duplicate is counted, and the answer is true; otherwise nothing is done.
 pub fn count_if_duplicate(
-    state: &mut [u64; 72],
+    state: &mut [u64; LEDGER_WORDS],
     keys: &[[u64; 2]],
     links: &[[u16; 8]],
     slots: usize,

@@ -1,10 +1,11 @@
 // `ambrulicciu_ledger_fresh`: a fresh ledger, in the words that a host lends.
 ghost use mathlib.Core.Path.{_≡_};
 ghost use Rattle.host_fresh.specs.Fresh.{freshLeft, freshOf};
+use host_ledger::LEDGER_WORDS;
 
 #[no_mangle]
 pub extern "C" fn ambrulicciu_ledger_fresh(
-    ledger: &mut [u64; 72],
+    ledger: &mut [u64; LEDGER_WORDS],
     copies: u16,
     secret: &[u32; 8],
 ) -> u8

@@ -17,7 +17,7 @@ use Rattle.host_ledger.specs.Words.{tablesWords}
 
 -- a fresh ledger: copies, the words of the hash, and all other words 0
 unfoldable pub freshWords : ℕ → Secret → List ℕ
-freshWords copies secret = copies ∷ (secretWords secret ++ replicate 67 0)
+freshWords copies secret = copies ∷ (secretWords secret ++ replicate 75 0)
 
 -- `sent`: calls, the ring of probes, how many replies are requested, how many probes were evicted
 unfoldable pub sentWords : List ℕ → Ledger → List ℕ

@@ -1,4 +1,4 @@
-// The ledger in the 72 words that a host lends (specs/Words.antt has their order): what any words say, and what each call stores.
+// The ledger in the words that a host lends (specs/Words.antt has their order): what any words say, and what each call stores.
 // A call stores only the words that it changes: a store of all of them would cost more than a duplicate reply.
 ghost use mathlib.Core.Path.{_≡_};
 ghost use lib.Seq.{sets};
@@ -34,9 +34,12 @@ use replies::Numbers;
 use replies::Replies;
 use replies::Totals;
 
+// How many words there are. The last are not used yet: a count that comes needs no longer state.
+pub const LEDGER_WORDS: usize = 80;
+
 // ---- the ledger out of its words
 
-fn secret_of(state: &[u64; 72]) -> Secret
+fn secret_of(state: &[u64; LEDGER_WORDS]) -> Secret
     ensures { λ r. ⌜ r ≡ secretAt 1 (now (state .entry)) ⌝ }
 {
     Secret {
@@ -51,7 +54,7 @@ fn secret_of(state: &[u64; 72]) -> Secret
     }
 }
 
-fn tables_of(state: &[u64; 72]) -> Tables
+fn tables_of(state: &[u64; LEDGER_WORDS]) -> Tables
     ensures { λ r. ⌜ r ≡ tablesAt 6 (now (state .entry)) ⌝ }
 {
     let awaits = is_set(state[10]);
@@ -68,7 +71,7 @@ fn tables_of(state: &[u64; 72]) -> Tables
     }
 }
 
-fn replies_of(state: &[u64; 72]) -> Replies
+fn replies_of(state: &[u64; LEDGER_WORDS]) -> Replies
     ensures { λ r. ⌜ r ≡ repliesAt 11 (now (state .entry)) ⌝ }
 {
     let last = reflector_of(state[19]);
@@ -99,7 +102,7 @@ fn replies_of(state: &[u64; 72]) -> Replies
     }
 }
 
-fn window_of(state: &[u64; 72]) -> Window
+fn window_of(state: &[u64; LEDGER_WORDS]) -> Window
     ensures { λ r. ⌜ r ≡ windowAt 38 (now (state .entry)) ⌝ }
 {
     if is_set(state[38]) {
@@ -108,7 +111,7 @@ fn window_of(state: &[u64; 72]) -> Window
     Window::Closed
 }
 
-pub fn direct_of(state: &[u64; 72]) -> Direct
+pub fn direct_of(state: &[u64; LEDGER_WORDS]) -> Direct
     ensures { λ r. ⌜ r ≡ directAt 33 (now (state .entry)) ⌝ }
 {
     let window = window_of(state);
@@ -124,7 +127,7 @@ pub fn direct_of(state: &[u64; 72]) -> Direct
     }
 }
 
-fn quality_of(state: &[u64; 72]) -> ClockQuality
+fn quality_of(state: &[u64; LEDGER_WORDS]) -> ClockQuality
     ensures { λ r. ⌜ r ≡ qualityAt 58 (now (state .entry)) ⌝ }
 {
     let largest = host_quality::largest_of(state[63], state[64]);
@@ -142,7 +145,7 @@ fn quality_of(state: &[u64; 72]) -> ClockQuality
     }
 }
 
-fn follow_of(state: &[u64; 72]) -> FollowUps
+fn follow_of(state: &[u64; LEDGER_WORDS]) -> FollowUps
     ensures { λ r. ⌜ r ≡ followAt 44 (now (state .entry)) ⌝ }
 {
     let delay = delays_of(
@@ -170,7 +173,7 @@ fn follow_of(state: &[u64; 72]) -> FollowUps
     }
 }
 
-pub fn load(state: &[u64; 72]) -> Ledger
+pub fn load(state: &[u64; LEDGER_WORDS]) -> Ledger
     ensures { λ r. ⌜ r ≡ ledgerAt (now (state .entry)) ⌝ }
 {
     let secret = secret_of(state);
@@ -204,7 +207,7 @@ pub fn load(state: &[u64; 72]) -> Ledger
 
 // ---- and back
 
-fn store_secret(state: &mut [u64; 72], secret: Secret)
+fn store_secret(state: &mut [u64; LEDGER_WORDS], secret: Secret)
     ensures { λ _. ⌜ (now (state .exit) ≡ sets (now (state .entry)) 1 (secretWords secret)) × SecretKept secret ⌝ }
 {
     state[1] = both(secret.first, secret.second);
@@ -213,7 +216,7 @@ fn store_secret(state: &mut [u64; 72], secret: Secret)
     state[4] = both(secret.seventh, secret.eighth);
 }
 
-fn store_tables(state: &mut [u64; 72], tables: Tables)
+fn store_tables(state: &mut [u64; LEDGER_WORDS], tables: Tables)
     ensures { λ _. ⌜ now (state .exit) ≡ sets (now (state .entry)) 6 (tablesWords tables) ⌝ }
 {
     let keys = tables.keys;
@@ -225,7 +228,7 @@ fn store_tables(state: &mut [u64; 72], tables: Tables)
     state[10] = flag(tables.awaits);
 }
 
-fn store_replies(state: &mut [u64; 72], replies: Replies)
+fn store_replies(state: &mut [u64; LEDGER_WORDS], replies: Replies)
     ensures { λ _. ⌜ (now (state .exit) ≡ sets (now (state .entry)) 11 (repliesWords replies)) × RepliesKept replies ⌝ }
 {
     let totals = replies.totals;
@@ -252,7 +255,7 @@ fn store_replies(state: &mut [u64; 72], replies: Replies)
 
 // ---- what each call stores
 
-pub fn store_sent(state: &mut [u64; 72], next: Ledger)
+pub fn store_sent(state: &mut [u64; LEDGER_WORDS], next: Ledger)
     ensures { λ _. ⌜ now (state .exit) ≡ sentWords (now (state .entry)) next ⌝ }
 {
     let tables = next.tables;
@@ -269,7 +272,7 @@ pub fn store_sent(state: &mut [u64; 72], next: Ledger)
 }
 
 // Of an `accept` whose reply is a duplicate or unknown.
-pub fn store_counted(state: &mut [u64; 72], next: Ledger)
+pub fn store_counted(state: &mut [u64; LEDGER_WORDS], next: Ledger)
     ensures { λ _. ⌜ now (state .exit) ≡ countedWords (now (state .entry)) next ⌝ }
 {
     let counts = next.counts;
@@ -281,7 +284,7 @@ pub fn store_counted(state: &mut [u64; 72], next: Ledger)
 }
 
 // Of an `accept` whose reply is unique.
-pub fn store_accepted(state: &mut [u64; 72], next: Ledger)
+pub fn store_accepted(state: &mut [u64; LEDGER_WORDS], next: Ledger)
     ensures { λ _. ⌜ (now (state .exit) ≡ acceptedWords (now (state .entry)) next) × RepliesKept (next .counts .replies) ⌝ }
 {
     let tables = next.tables;
@@ -293,10 +296,10 @@ pub fn store_accepted(state: &mut [u64; 72], next: Ledger)
 }
 
 // Of a fresh ledger: every word, whatever stood there.
-pub fn store_fresh(state: &mut [u64; 72], copies: u16, secret: Secret)
+pub fn store_fresh(state: &mut [u64; LEDGER_WORDS], copies: u16, secret: Secret)
     ensures { λ _. ⌜ (now (state .exit) ≡ freshWords copies secret) × SecretKept secret ⌝ }
 {
-    *state = [0; 72];
+    *state = [0; LEDGER_WORDS];
     state[0] = copies as u64;
     store_secret(state, secret);
 }

@@ -61,19 +61,19 @@ withCounted l next = record {
   };
 }
 
-counted-reads : (w : List ℕ) (next : Ledger) → ledgerAt (countedWords (entries 72 (λ i. getD w i 0)) next) ≡ withCounted (ledgerAt w) next
+counted-reads : (w : List ℕ) (next : Ledger) → ledgerAt (countedWords (entries 80 (λ i. getD w i 0)) next) ≡ withCounted (ledgerAt w) next
 unfolding ledgerAt countedWords tablesAt secretAt repliesAt delaysOf windowAt directAt followAt qualityAt
 counted-reads w next = refl
 
-counted-by : (w : List ℕ) → length w ≡ 72 → (next : Ledger) → withCounted (ledgerAt w) next ≡ next → ledgerAt (countedWords w next) ≡ next
-counted-by w long next e = ap (λ (v : List ℕ). ledgerAt (countedWords v next)) (spelled w 72 long) ∙ counted-reads w next ∙ e
+counted-by : (w : List ℕ) → length w ≡ 80 → (next : Ledger) → withCounted (ledgerAt w) next ≡ next → ledgerAt (countedWords w next) ≡ next
+counted-by w long next e = ap (λ (v : List ℕ). ledgerAt (countedWords v next)) (spelled w 80 long) ∙ counted-reads w next ∙ e
 
-pub duplicate-back : (w : List ℕ) → length w ≡ 72
+pub duplicate-back : (w : List ℕ) → length w ≡ 80
     → ledgerAt (countedWords w (ledgerCounted (ledgerAt w) (afterDuplicate (ledgerAt w .counts .replies)))) ≡ ledgerCounted (ledgerAt w) (afterDuplicate (ledgerAt w .counts .replies))
 unfolding afterDuplicate
 duplicate-back w long = counted-by w long (ledgerCounted (ledgerAt w) (afterDuplicate (ledgerAt w .counts .replies))) refl
 
-pub unknown-back : (w : List ℕ) → length w ≡ 72
+pub unknown-back : (w : List ℕ) → length w ≡ 80
     → ledgerAt (countedWords w (ledgerCounted (ledgerAt w) (afterUnknown (ledgerAt w .counts .replies)))) ≡ ledgerCounted (ledgerAt w) (afterUnknown (ledgerAt w .counts .replies))
 unfolding afterUnknown
 unknown-back w long = counted-by w long (ledgerCounted (ledgerAt w) (afterUnknown (ledgerAt w .counts .replies))) refl
@@ -90,15 +90,15 @@ numbered r last highest = record {
 }
 
 accepted-reads : (w : List ℕ) (keys probes : Ring) (r : Replies)
-    → ledgerAt (acceptedWords (entries 72 (λ i. getD w i 0)) (ledgerUnique (ledgerAt w) keys probes r))
+    → ledgerAt (acceptedWords (entries 80 (λ i. getD w i 0)) (ledgerUnique (ledgerAt w) keys probes r))
     ≡ ledgerUnique (ledgerAt w) keys probes (numbered r (reflectorOf (reflectorWord (r .numbers .last))) (reflectorOf (reflectorWord (r .numbers .highest))))
 unfolding ledgerAt acceptedWords repliesWords tablesAt secretAt repliesAt delaysOf windowAt directAt followAt qualityAt
 accepted-reads w keys probes r = refl
 
-accepted-by : (w : List ℕ) → length w ≡ 72 → (keys probes : Ring) (r : Replies) → ReflectorKept (r .numbers .last) → ReflectorKept (r .numbers .highest)
+accepted-by : (w : List ℕ) → length w ≡ 80 → (keys probes : Ring) (r : Replies) → ReflectorKept (r .numbers .last) → ReflectorKept (r .numbers .highest)
     → ledgerAt (acceptedWords w (ledgerUnique (ledgerAt w) keys probes r)) ≡ ledgerUnique (ledgerAt w) keys probes r
 accepted-by w long keys probes r last highest =
-    ap (λ (v : List ℕ). ledgerAt (acceptedWords v (ledgerUnique (ledgerAt w) keys probes r))) (spelled w 72 long)
+    ap (λ (v : List ℕ). ledgerAt (acceptedWords v (ledgerUnique (ledgerAt w) keys probes r))) (spelled w 80 long)
     ∙ accepted-reads w keys probes r
     ∙ (λ i. ledgerUnique (ledgerAt w) keys probes (numbered r (last i) (highest i)))
 
@@ -112,7 +112,7 @@ highest-of : (b : Bool) (word reflector : ℕ) → reflector < 2 ^ 32 → Reflec
 highest-of true word reflector k = highest-by (eqb (stepFrom (lower word) reflector) 0) (not (ltb (stepFrom (lower word) reflector) (2 ^ 31))) (lower word) reflector (omega arith) k
 highest-of false word reflector k = reflector-again reflector k
 
-pub unique-back : (w : List ℕ) → length w ≡ 72 → (keys probes : Ring) (replies copies : ℕ) (pending : Bool) (sender reflector : ℕ) (probe key : Bool) → reflector < 2 ^ 32
+pub unique-back : (w : List ℕ) → length w ≡ 80 → (keys probes : Ring) (replies copies : ℕ) (pending : Bool) (sender reflector : ℕ) (probe key : Bool) → reflector < 2 ^ 32
     → ledgerAt (acceptedWords w (ledgerUnique (ledgerAt w) keys probes (afterUnique replies copies pending sender reflector probe key (ledgerAt w .counts .replies))))
     ≡ ledgerUnique (ledgerAt w) keys probes (afterUnique replies copies pending sender reflector probe key (ledgerAt w .counts .replies))
 unfolding afterUnique ledgerAt repliesAt
@@ -121,7 +121,7 @@ unique-back w long keys probes replies copies pending sender reflector probe key
     (reflector-again reflector h) (highest-of (isSet (getD w 20 0)) (getD w 20 0) reflector h)
 
 -- ---- any reply: S is what a call stores, by what the reply is
-module _ (w : List ℕ) (long : length w ≡ 72) (S : Ledger → Accepted → List ℕ) (at-duplicate : (l : Ledger) → S l Duplicate ≡ countedWords w l)
+module _ (w : List ℕ) (long : length w ≡ 80) (S : Ledger → Accepted → List ℕ) (at-duplicate : (l : Ledger) → S l Duplicate ≡ countedWords w l)
     (at-unknown : (l : Ledger) → S l Unknown ≡ countedWords w l) (at-unique : (l : Ledger) (packet : PendingPacket) (ordinal : Ordinal) → S l (Unique packet ordinal) ≡ acceptedWords w l) where
   by-class : (N : ℕ) (byKey : ReplyKey → ℕ) (byNumber : ℕ → ℕ) (c : ReplyClass) (keys slots probes links : List (List ℕ)) (at : ℕ) (a : Reply) → a .key .reflector < 2 ^ 32
       → ledgerAt (S (acceptBy N byKey byNumber c (ledgerAt w) keys slots probes links at a .ledger) (acceptBy N byKey byNumber c (ledgerAt w) keys slots probes links at a .accepted))

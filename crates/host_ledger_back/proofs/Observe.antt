@@ -60,7 +60,7 @@ followRead false w f = followAt 0 (followWords f)
 
 module _ (w : List ℕ) (rtt : Delays) (c : Counts) (f : FollowUps) where
   abbrev spelt : List ℕ
-  spelt = entries 72 (λ i. getD w i 0)
+  spelt = entries 80 (λ i. getD w i 0)
 
   abbrev next : Window → Ledger
   next x = observed (ledgerAt w) rtt (direct c x) f
@@ -102,14 +102,14 @@ module _ (w : List ℕ) (f : FollowUps) where
   follow-again true stays kept = λ i. record { counts = f .counts; delay = sym (stays refl .delay-stays) i; quality = sym (stays refl .quality-stays) i }
   follow-again false stays kept = kept
 
-pub observe-back : (w : List ℕ) → length w ≡ 72 → (told : Counters) (rtt : ℕ) (d : Direct) (f : FollowUps)
+pub observe-back : (w : List ℕ) → length w ≡ 80 → (told : Counters) (rtt : ℕ) (d : Direct) (f : FollowUps)
     → DirectStays told (ledgerAt w .counts .direct) d → (f .counts .matched ≡ getD w 45 0 → FollowStays (ledgerAt w .counts .follow) f) → FollowKept f
     → ledgerAt (observedWords told w (ledgerObserved (ledgerAt w) rtt d f)) ≡ ledgerObserved (ledgerAt w) rtt d f
 observe-back w long told rtt d f stays follow-stays kept =
     let delay = delays.recordedOf (ledgerAt w .counts .rtt) (nanosecondsOf (pos rtt)) in
     let b = eqb (f .counts .matched) (getD w 45 0) in
     let same : followRead b w f ≡ f = follow-again w f b (λ t. follow-stays (eqb-true (f .counts .matched) (getD w 45 0) t)) kept in
-    ap (λ (v : List ℕ). ledgerAt (observedWords told v (ledgerObserved (ledgerAt w) rtt d f))) (spelled w 72 long)
+    ap (λ (v : List ℕ). ledgerAt (observedWords told v (ledgerObserved (ledgerAt w) rtt d f))) (spelled w 80 long)
     ∙ ap ledgerAt (tested w delay (d .counts) f told (d .window))
     ∙ reads w delay (d .counts) f b told (d .window)
     ∙ (λ i. observed (ledgerAt w) (delays-again delay i) (direct-again w f told d stays i) (same i))

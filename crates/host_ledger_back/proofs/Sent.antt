@@ -39,7 +39,7 @@ withSent l next = record {
   };
 }
 
-reads : (w : List ℕ) (next : Ledger) → ledgerAt (sentWords (entries 72 (λ i. getD w i 0)) next) ≡ withSent (ledgerAt w) next
+reads : (w : List ℕ) (next : Ledger) → ledgerAt (sentWords (entries 80 (λ i. getD w i 0)) next) ≡ withSent (ledgerAt w) next
 unfolding ledgerAt sentWords tablesAt secretAt repliesAt delaysOf windowAt directAt followAt qualityAt
 reads w next = refl
 
@@ -48,8 +48,8 @@ changes : (l : Ledger) (probes links : List (List ℕ)) (s : SentProbe) → with
 unfolding sentIn afterSent
 changes l probes links s = refl
 
-pub sent-back : (w : List ℕ) → length w ≡ 72 → (probes links : List (List ℕ)) (s : SentProbe)
+pub sent-back : (w : List ℕ) → length w ≡ 80 → (probes links : List (List ℕ)) (s : SentProbe)
     → ledgerAt (sentWords w (sentOn (ledgerAt w) probes links s .ledger)) ≡ sentOn (ledgerAt w) probes links s .ledger
 sent-back w long probes links s =
     let next = sentOn (ledgerAt w) probes links s .ledger in
-    ap (λ (v : List ℕ). ledgerAt (sentWords v next)) (spelled w 72 long) ∙ reads w next ∙ changes (ledgerAt w) probes links s
+    ap (λ (v : List ℕ). ledgerAt (sentWords v next)) (spelled w 80 long) ∙ reads w next ∙ changes (ledgerAt w) probes links s

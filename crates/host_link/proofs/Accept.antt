@@ -56,7 +56,7 @@ served-long w next Duplicate = counted-long w next
 served-long w next Unknown = counted-long w next
 served-long w next (Unique packet ordinal) = accepted-long w next
 
-module _ (w : List ℕ) (long : length w ≡ 72) (keys slots probes links : List (List ℕ)) (a : Reply) (h : a .key .reflector < 2 ^ 32) where
+module _ (w : List ℕ) (long : length w ≡ 80) (keys slots probes links : List (List ℕ)) (a : Reply) (h : a .key .reflector < 2 ^ 32) where
   abbrev answerBy : ℕ → AcceptAnswer
   answerBy k = acceptBy k (acceptOn (ledgerAt w) keys slots probes links a) keys slots probes links .answer
 
@@ -64,7 +64,7 @@ module _ (w : List ℕ) (long : length w ≡ 72) (keys slots probes links : List
   ledger-by zero = accept-back w long (servedWords w) (λ l. refl) (λ l. refl) (λ l p o. refl) keys slots probes links a h
   ledger-by (suc k) = refl
 
-  long-by : (k : ℕ) → length (plain.wordsAfter w (answerBy k)) ≡ 72
+  long-by : (k : ℕ) → length (plain.wordsAfter w (answerBy k)) ≡ 80
   long-by zero = served-long w (acceptOn (ledgerAt w) keys slots probes links a .ledger) (acceptOn (ledgerAt w) keys slots probes links a .accepted) ∙ long
   long-by (suc k) = long
 
@@ -73,7 +73,7 @@ module _ (w : List ℕ) (long : length w ≡ 72) (keys slots probes links : List
   watched-ledger-by zero m = accept-back w long (servedWords w) (λ l. refl) (λ l. refl) (λ l p o. refl) keys slots probes links a h
   watched-ledger-by (suc k) m = refl
 
-  watched-long-by : (k : ℕ) (m : Monitor) → length (ledgerAfter w (watched.bothAccept (answerBy k) m)) ≡ 72
+  watched-long-by : (k : ℕ) (m : Monitor) → length (ledgerAfter w (watched.bothAccept (answerBy k) m)) ≡ 80
   watched-long-by zero m = served-long w (acceptOn (ledgerAt w) keys slots probes links a .ledger) (acceptOn (ledgerAt w) keys slots probes links a .accepted) ∙ long
   watched-long-by (suc k) m = long
 
@@ -92,7 +92,7 @@ module _ (w : List ℕ) (long : length w ≡ 72) (keys slots probes links : List
   monitor-by words queue zero = heard-by words queue (wasUnique (answerBy 0))
   monitor-by words queue (suc k) = refl
 
-pub accept-agrees : (ledger : List ℕ) → length ledger ≡ 72 → (v : HostWatch) (rooms : Rooms) (queue : List Probe) (sender reflector t3 pending time tag : ℕ) → reflector < 2 ^ 32
+pub accept-agrees : (ledger : List ℕ) → length ledger ≡ 80 → (v : HostWatch) (rooms : Rooms) (queue : List Probe) (sender reflector t3 pending time tag : ℕ) → reflector < 2 ^ 32
     → Agrees (hostLink ledger v rooms queue) (accept sender reflector t3 pending time tag)
 unfolding playHost acceptOf watchedAcceptTo watched.acceptTo acceptTo refuses after
 accept-agrees ledger long alone rooms queue sender reflector t3 pending time tag h =

@@ -8,4 +8,4 @@ use Rattle.link_steps.specs.Steps.{refuses, after}
 use Rattle.host_link.specs.Hosted.{HostLink, HostCall, said, told, playHost}
 
 abbrev pub Agrees : HostLink → HostCall → Type 0
-Agrees x c = (playHost x c .number ≡ refuses (said x) (told c)) × (said (playHost x c .next) ≡ after (said x) (told c)) × (length (playHost x c .next .ledger) ≡ 72)
+Agrees x c = (playHost x c .number ≡ refuses (said x) (told c)) × (said (playHost x c .next) ≡ after (said x) (told c)) × (length (playHost x c .next .ledger) ≡ 80)

@@ -14,7 +14,7 @@ use Rattle.host_link.proofs.Observe.{observe-agrees}
 use Rattle.host_link.proofs.Watch.{advance-agrees, idle-agrees}
 
 -- ---- one call
-pub agrees : (x : HostLink) (c : HostCall) → length (x .ledger) ≡ 72 → Typed c → Agrees x c
+pub agrees : (x : HostLink) (c : HostCall) → length (x .ledger) ≡ 80 → Typed c → Agrees x c
 agrees x (sent sequence ordinal time tag) long h = sent-agrees (x .ledger) long (x .watch) (x .rooms) (x .queue) sequence ordinal time tag h
 agrees x (accept sender reflector t3 pending time tag) long h = accept-agrees (x .ledger) long (x .watch) (x .rooms) (x .queue) sender reflector t3 pending time tag h
 agrees x (observe words) long h = observe-agrees (x .ledger) long (x .watch) (x .rooms) (x .queue) words h
@@ -22,7 +22,7 @@ agrees x (advance time) long h = advance-agrees (x .ledger) long (x .watch) (x .
 agrees x idle long h = idle-agrees (x .ledger) long (x .watch) (x .rooms) (x .queue)
 
 -- ---- all calls, newest first
-pub played-agrees : (x : HostLink) → length (x .ledger) ≡ 72 → (cs : List HostCall) → AllTyped cs → (said (hostPlayed x cs) ≡ played (said x) (map told cs)) × (length (hostPlayed x cs .ledger) ≡ 72)
+pub played-agrees : (x : HostLink) → length (x .ledger) ≡ 80 → (cs : List HostCall) → AllTyped cs → (said (hostPlayed x cs) ≡ played (said x) (map told cs)) × (length (hostPlayed x cs .ledger) ≡ 80)
 unfolding hostPlayed played
 played-agrees x long [] t = (refl, long)
 played-agrees x long (c ∷ cs) t =
@@ -31,7 +31,7 @@ played-agrees x long (c ∷ cs) t =
     (a .1 ∙ ap (λ (k : Standing). after k (told c)) (r .0), a .2)
 
 -- the number of the next call is the library's
-pub number-agrees : (x : HostLink) → length (x .ledger) ≡ 72 → (cs : List HostCall) → AllTyped cs → (c : HostCall) → Typed c
+pub number-agrees : (x : HostLink) → length (x .ledger) ≡ 80 → (cs : List HostCall) → AllTyped cs → (c : HostCall) → Typed c
     → playHost (hostPlayed x cs) c .number ≡ refuses (played (said x) (map told cs)) (told c)
 number-agrees x long cs t c h =
     let r = played-agrees x long cs t in

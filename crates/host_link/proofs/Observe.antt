@@ -60,7 +60,7 @@ counters-of : (words : List ℕ) → ((i : ℕ) → getD words i 0 < 2 ^ 32) →
 unfolding observationAt
 counters-of words h = counters-by (flag 4 (flagsAt words)) (getD words 15 0) (getD words 16 0) (getD words 17 0) (h 15) (h 16) (h 17)
 
-module _ (w : List ℕ) (long : length w ≡ 72) (keys slots : List (List ℕ)) (offsets : List ℕ) (links : List (List ℕ)) (o : ReplyObservation) (f : CountersFit (o .counters)) where
+module _ (w : List ℕ) (long : length w ≡ 80) (keys slots : List (List ℕ)) (offsets : List ℕ) (links : List (List ℕ)) (o : ReplyObservation) (f : CountersFit (o .counters)) where
   abbrev answerBy : ℕ → Answer
   answerBy k = observeBy k (observeOn (ledgerAt w) keys slots offsets links o) slots offsets links .answer
 
@@ -68,11 +68,11 @@ module _ (w : List ℕ) (long : length w ≡ 72) (keys slots : List (List ℕ)) 
   ledger-by zero = observed-back w keys slots offsets links o long f
   ledger-by (suc k) = refl
 
-  long-by : (k : ℕ) → length (ledgerAfter (answerBy k) (o .counters) w) ≡ 72
+  long-by : (k : ℕ) → length (ledgerAfter (answerBy k) (o .counters) w) ≡ 80
   long-by zero = long-after (o .counters) w (observeOn (ledgerAt w) keys slots offsets links o .ledger) ∙ long
   long-by (suc k) = long
 
-pub observe-agrees : (ledger : List ℕ) → length ledger ≡ 72 → (v : HostWatch) (rooms : Rooms) (queue : List Probe) (words : List ℕ) → ((i : ℕ) → getD words i 0 < 2 ^ 32)
+pub observe-agrees : (ledger : List ℕ) → length ledger ≡ 80 → (v : HostWatch) (rooms : Rooms) (queue : List Probe) (words : List ℕ) → ((i : ℕ) → getD words i 0 < 2 ^ 32)
     → Agrees (hostLink ledger v rooms queue) (observe words)
 unfolding playHost observeLeaves observeTo refuses after
 observe-agrees ledger long v rooms queue words h =

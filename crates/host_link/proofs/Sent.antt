@@ -44,7 +44,7 @@ long-after w next =
     length-set fourth 23 (next .counts .replies .evicted .probes) ∙ length-set third 11 (next .counts .replies .totals .requested) ∙ length-set second 9 (next .tables .probes .len)
     ∙ length-set first 8 (next .tables .probes .head) ∙ length-set w 5 (next .calls)
 
-module _ (w : List ℕ) (long : length w ≡ 72) (probes links : List (List ℕ)) (s : SentProbe) where
+module _ (w : List ℕ) (long : length w ≡ 80) (probes links : List (List ℕ)) (s : SentProbe) where
   abbrev answerBy : ℕ → Answer
   answerBy k = sentBy k (sentOn (ledgerAt w) probes links s) probes links .answer
 
@@ -52,7 +52,7 @@ module _ (w : List ℕ) (long : length w ≡ 72) (probes links : List (List ℕ)
   ledger-by zero = sent-back w long probes links s
   ledger-by (suc k) = refl
 
-  long-by : (k : ℕ) → length (plain.wordsAfter w (answerBy k)) ≡ 72
+  long-by : (k : ℕ) → length (plain.wordsAfter w (answerBy k)) ≡ 80
   long-by zero = long-after w (sentOn (ledgerAt w) probes links s .ledger) ∙ long
   long-by (suc k) = long
 
@@ -61,7 +61,7 @@ module _ (w : List ℕ) (long : length w ≡ 72) (probes links : List (List ℕ)
   watched-ledger-by zero m = sent-back w long probes links s
   watched-ledger-by (suc k) m = refl
 
-  watched-long-by : (k : ℕ) (m : Monitor) → length (ledgerAfter w (watched.bothSent (answerBy k) m)) ≡ 72
+  watched-long-by : (k : ℕ) (m : Monitor) → length (ledgerAfter w (watched.bothSent (answerBy k) m)) ≡ 80
   watched-long-by zero m = long-after w (sentOn (ledgerAt w) probes links s .ledger) ∙ long
   watched-long-by (suc k) m = long
 
@@ -76,7 +76,7 @@ module _ (w : List ℕ) (long : length w ≡ 72) (probes links : List (List ℕ)
   monitor-by words queue h zero = stored _ (fits-sent true (monitorAt words) queue (s .sequence) (s .packet .time) h (fits-at words))
   monitor-by words queue h (suc k) = refl
 
-pub sent-agrees : (ledger : List ℕ) → length ledger ≡ 72 → (v : HostWatch) (rooms : Rooms) (queue : List Probe) (sequence ordinal time tag : ℕ) → sequence < 2 ^ 32
+pub sent-agrees : (ledger : List ℕ) → length ledger ≡ 80 → (v : HostWatch) (rooms : Rooms) (queue : List Probe) (sequence ordinal time tag : ℕ) → sequence < 2 ^ 32
     → Agrees (hostLink ledger v rooms queue) (sent sequence ordinal time tag)
 unfolding playHost sentOf watchedSentTo watched.sentTo sentTo refuses after
 sent-agrees ledger long alone rooms queue sequence ordinal time tag h =

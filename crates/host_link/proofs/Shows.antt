@@ -53,7 +53,7 @@ begins m ok fits = λ i. record {
   queue = m .queue;
 }
 
-pub long : (m : Making) → length (hostFresh m .ledger) ≡ 72
+pub long : (m : Making) → length (hostFresh m .ledger) ≡ 80
 unfolding freshOf freshWords secretWords
 long m = refl
 

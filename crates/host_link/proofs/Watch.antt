@@ -22,7 +22,7 @@ use Rattle.host_monitor.proofs.Standing.{advance-stands, idle-stands}
 use Rattle.host_link.specs.Hosted.{HostWatch, alone, watching, hostLink, advance, idle, playHost}
 use Rattle.host_link.proofs.Agreeing.{Agrees}
 
-pub advance-agrees : (ledger : List ℕ) → length ledger ≡ 72 → (v : HostWatch) (rooms : Rooms) (queue : List Probe) (time : ℕ) → Agrees (hostLink ledger v rooms queue) (advance time)
+pub advance-agrees : (ledger : List ℕ) → length ledger ≡ 80 → (v : HostWatch) (rooms : Rooms) (queue : List Probe) (time : ℕ) → Agrees (hostLink ledger v rooms queue) (advance time)
 unfolding playHost refuses after
 advance-agrees ledger long alone rooms queue time = (refl, refl, long)
 advance-agrees ledger long (watching words) rooms queue time =
@@ -33,7 +33,7 @@ idle-by : (b : Bool) (m : Monitor) → choose b (idleOn m) m ≡ idleBy b m
 idle-by true m = refl
 idle-by false m = refl
 
-pub idle-agrees : (ledger : List ℕ) → length ledger ≡ 72 → (v : HostWatch) (rooms : Rooms) (queue : List Probe) → Agrees (hostLink ledger v rooms queue) idle
+pub idle-agrees : (ledger : List ℕ) → length ledger ≡ 80 → (v : HostWatch) (rooms : Rooms) (queue : List Probe) → Agrees (hostLink ledger v rooms queue) idle
 unfolding playHost refuses after
 idle-agrees ledger long alone rooms queue = (refl, refl, long)
 idle-agrees ledger long (watching words) rooms queue =

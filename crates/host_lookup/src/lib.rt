@@ -4,6 +4,7 @@ ghost use Rattle.host_lookup.specs.Lookup.{telemetryOf, shownWords, left
 use calls::FollowUpTelemetry;
 use calls::Time;
 use correlation::follow::Shown;
+use host_ledger::LEDGER_WORDS;
 use ledger_steps::LookupAnswer;
 
 fn telemetry_of(sequence: u32, timestamp: u64, unknown: u32) -> FollowUpTelemetry
@@ -34,7 +35,7 @@ fn shown_words(shown: Shown) -> [u64; 3]
 // Words of `answer`: 0 shown, 1 ptp, 2 reference (i64).
 #[no_mangle]
 pub extern "C" fn ambrulicciu_lookup(
-    ledger: &[u64; 72],
+    ledger: &[u64; LEDGER_WORDS],
     keys: &[[u64; 2]],
     slots: &[[u64; 3]],
     links: &[[u16; 8]],

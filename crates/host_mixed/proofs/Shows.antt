@@ -28,14 +28,14 @@ use Rattle.host_mixed.specs.Hosted.{MixedHostCall, watched, plain, alone
 
 -- as many words as a ledger has
 abbrev Long : HostLink → Type 0
-Long x = length (x .ledger) ≡ 72
+Long x = length (x .ledger) ≡ 80
 
 -- its number is the library's, and the words that it leaves say what the library's call leaves
 abbrev Agrees : HostLink → MixedHostCall → Type 0
 Agrees x c = (playMixed x c .number ≡ numberOf (said x) (mixedTold c)) × (said (playMixed x c .next) ≡ leaves (said x) (mixedTold c)) × Long (playMixed x c .next)
 
 -- a call of the monitor alone
-alone-agrees : (ledger : List ℕ) → length ledger ≡ 72 → (v : HostWatch) (rooms : Rooms) (queue : List Probe) (c : monitor.Call) → hostMonitor.Typed c
+alone-agrees : (ledger : List ℕ) → length ledger ≡ 80 → (v : HostWatch) (rooms : Rooms) (queue : List Probe) (c : monitor.Call) → hostMonitor.Typed c
     → Agrees (hostLink ledger v rooms queue) (alone c)
 unfolding playMixed numberOf leaves
 alone-agrees ledger l link.alone rooms queue c h = (refl, refl, l)

@@ -33,12 +33,13 @@ use calls::ReplyObservation;
 use chains::Ring;
 use correlation::follow::Class;
 use correlation::follow::Match;
+use host_ledger::LEDGER_WORDS;
 use host_numbers::is_set;
 use scope::CAPACITY;
 
 // Why the call is refused, or 0. The key is read only in a room and a ring that fit.
 fn refusal(
-    ledger: &[u64; 72],
+    ledger: &[u64; LEDGER_WORDS],
     keys: &[[u64; 2]],
     slots: usize,
     offsets: usize,
@@ -64,7 +65,7 @@ fn refusal(
 }
 
 // One round trip more: every observation has one.
-fn count_round_trip(ledger: &mut [u64; 72], ns: u64)
+fn count_round_trip(ledger: &mut [u64; LEDGER_WORDS], ns: u64)
     requires { ⌜ delays.Bounded (delaysAt 25 (now ledger)) ⌝ }
     ensures { λ _. ⌜ now (ledger .exit) ≡ sets (now (ledger .entry)) 25 (delaysWords (recordedOf (delaysAt 25 (now (ledger .entry))) (nanosecondsOf (pos ns)))) ⌝ }
 {
@@ -74,7 +75,7 @@ fn count_round_trip(ledger: &mut [u64; 72], ns: u64)
 
 // The direct counters of the reply, where it has them.
 fn count_direct(
-    ledger: &mut [u64; 72],
+    ledger: &mut [u64; LEDGER_WORDS],
     offsets: &mut [u32],
     links: &mut [[u16; 8]],
     secret: [u32; 8],
@@ -95,7 +96,7 @@ fn count_direct(
 }
 
 // A matched follow-up changes all that there is of follow-ups.
-fn count_matched(ledger: &mut [u64; 72], times: Match, offset: i32)
+fn count_matched(ledger: &mut [u64; LEDGER_WORDS], times: Match, offset: i32)
     requires { ⌜ follow_ups.InBounds (followAt 44 (now ledger)) × MatchedInRange (classes.Matched times) × offsetInRange offset ⌝ }
     ensures { λ _. ⌜ now (ledger .exit) ≡ sets (now (ledger .entry)) 44 (followWords (followed (followAt 44 (now (ledger .entry))) (classes.Matched times) offset)) ⌝ }
 {
@@ -104,7 +105,7 @@ fn count_matched(ledger: &mut [u64; 72], times: Match, offset: i32)
 }
 
 // Any other follow-up is only counted.
-fn count_other(ledger: &mut [u64; 72], class: Class)
+fn count_other(ledger: &mut [u64; LEDGER_WORDS], class: Class)
     requires { ⌜ follow_ups.CountsIn (followAt 44 (now ledger) .counts) ⌝ }
     ensures { λ _. ⌜ now (ledger .exit) ≡ sets (now (ledger .entry)) 44 (followCountsWords (counted class (followAt 44 (now (ledger .entry)) .counts))) ⌝ }
 {
@@ -113,7 +114,7 @@ fn count_other(ledger: &mut [u64; 72], class: Class)
 }
 
 // A follow-up whose class is known.
-fn count_class(ledger: &mut [u64; 72], class: Class, offset: i32)
+fn count_class(ledger: &mut [u64; LEDGER_WORDS], class: Class, offset: i32)
     requires { ⌜ follow_ups.InBounds (followAt 44 (now ledger)) × MatchedInRange class × offsetInRange offset ⌝ }
     ensures { λ _. ⌜ now (ledger .exit) ≡ followStored (now (ledger .entry)) (followed (followAt 44 (now (ledger .entry))) class offset) ⌝ }
 {
@@ -128,7 +129,7 @@ fn count_class(ledger: &mut [u64; 72], class: Class, offset: i32)
 
 // The follow-up of the reply, where it has one.
 fn count_follow_up(
-    ledger: &mut [u64; 72],
+    ledger: &mut [u64; LEDGER_WORDS],
     keys: &[[u64; 2]],
     slots: &mut [[u64; 3]],
     links: &[[u16; 8]],
@@ -161,7 +162,7 @@ fn count_follow_up(
 
 // An observation that is not refused: round trip, direct counters, follow-up, then the own correlation slot.
 fn observed(
-    ledger: &mut [u64; 72],
+    ledger: &mut [u64; LEDGER_WORDS],
     keys: &[[u64; 2]],
     slots: &mut [[u64; 3]],
     offsets: &mut [u32],
@@ -190,7 +191,7 @@ fn observed(
 // 20 sender_estimate (u16), reflector_estimate (u16), 21 flags, 22 unused (2).
 #[no_mangle]
 pub extern "C" fn ambrulicciu_observe(
-    ledger: &mut [u64; 72],
+    ledger: &mut [u64; LEDGER_WORDS],
     keys: &[[u64; 2]],
     slots: &mut [[u64; 3]],
     offsets: &mut [u32],

@@ -12,6 +12,7 @@ use direct::Direct;
 use direct::Window;
 use follow_ups::FollowCounts;
 use follow_ups::FollowUps;
+use host_ledger::LEDGER_WORDS;
 use host_ledger::parts::delays_of;
 use host_ledger::parts::epoch_words;
 use host_ledger::parts::extreme_kind;
@@ -20,7 +21,7 @@ use host_numbers::flag;
 
 // ---- out of the words
 
-pub fn rtt_of(state: &[u64; 72]) -> Delays
+pub fn rtt_of(state: &[u64; LEDGER_WORDS]) -> Delays
     ensures { λ r. ⌜ r ≡ delaysAt 25 (now (state .entry)) ⌝ }
 {
     delays_of(
@@ -35,7 +36,7 @@ pub fn rtt_of(state: &[u64; 72]) -> Delays
     )
 }
 
-pub fn follow_counts_of(state: &[u64; 72]) -> FollowCounts
+pub fn follow_counts_of(state: &[u64; LEDGER_WORDS]) -> FollowCounts
     ensures { λ r. ⌜ r ≡ followAt 44 (now (state .entry)) .counts ⌝ }
 {
     FollowCounts {
@@ -48,7 +49,7 @@ pub fn follow_counts_of(state: &[u64; 72]) -> FollowCounts
     }
 }
 
-pub fn delay_of(state: &[u64; 72]) -> Delays
+pub fn delay_of(state: &[u64; LEDGER_WORDS]) -> Delays
     ensures { λ r. ⌜ r ≡ delaysAt 50 (now (state .entry)) ⌝ }
 {
     delays_of(
@@ -63,7 +64,7 @@ pub fn delay_of(state: &[u64; 72]) -> Delays
     )
 }
 
-fn quality_without_last(state: &[u64; 72]) -> ClockQuality
+fn quality_without_last(state: &[u64; LEDGER_WORDS]) -> ClockQuality
     ensures { λ r. ⌜ r ≡ qualityWithoutLast (qualityAt 58 (now (state .entry))) ⌝ }
 {
     let largest = host_quality::largest_of(state[63], state[64]);
@@ -80,7 +81,7 @@ fn quality_without_last(state: &[u64; 72]) -> ClockQuality
 }
 
 // A matched follow-up replaces the last estimates, whatever they were, so they are not read for it.
-pub fn follow_without_last(state: &[u64; 72]) -> FollowUps
+pub fn follow_without_last(state: &[u64; LEDGER_WORDS]) -> FollowUps
     ensures { λ r. ⌜ r ≡ withoutLast (followAt 44 (now (state .entry))) ⌝ }
 {
     let counts = follow_counts_of(state);
@@ -95,7 +96,7 @@ pub fn follow_without_last(state: &[u64; 72]) -> FollowUps
 
 // ---- and back
 
-pub fn store_rtt(state: &mut [u64; 72], delays: Delays)
+pub fn store_rtt(state: &mut [u64; LEDGER_WORDS], delays: Delays)
     ensures { λ _. ⌜ now (state .exit) ≡ sets (now (state .entry)) 25 (delaysWords delays) ⌝ }
 {
     let sum = delays.sum;
@@ -111,7 +112,7 @@ pub fn store_rtt(state: &mut [u64; 72], delays: Delays)
     state[32] = extreme_magnitude(max);
 }
 
-fn store_delay(state: &mut [u64; 72], delays: Delays)
+fn store_delay(state: &mut [u64; LEDGER_WORDS], delays: Delays)
     ensures { λ _. ⌜ now (state .exit) ≡ sets (now (state .entry)) 50 (delaysWords delays) ⌝ }
 {
     let sum = delays.sum;
@@ -127,7 +128,7 @@ fn store_delay(state: &mut [u64; 72], delays: Delays)
     state[57] = extreme_magnitude(max);
 }
 
-fn store_window(state: &mut [u64; 72], window: Window)
+fn store_window(state: &mut [u64; LEDGER_WORDS], window: Window)
     ensures { λ _. ⌜ (now (state .exit) ≡ sets (now (state .entry)) 38 (windowWords window)) × WindowKept window ⌝ }
 {
     match window {
@@ -151,7 +152,7 @@ fn store_window(state: &mut [u64; 72], window: Window)
     }
 }
 
-pub fn store_direct(state: &mut [u64; 72], direct: Direct)
+pub fn store_direct(state: &mut [u64; LEDGER_WORDS], direct: Direct)
     ensures { λ _. ⌜ (now (state .exit) ≡ sets (now (state .entry)) 33 (directWords direct)) × DirectKept direct ⌝ }
 {
     let counts = direct.counts;
@@ -164,7 +165,7 @@ pub fn store_direct(state: &mut [u64; 72], direct: Direct)
     store_window(state, window);
 }
 
-fn store_quality(state: &mut [u64; 72], quality: ClockQuality)
+fn store_quality(state: &mut [u64; LEDGER_WORDS], quality: ClockQuality)
     ensures { λ _. ⌜ (now (state .exit) ≡ sets (now (state .entry)) 58 (qualityWords quality)) × QualityKept quality ⌝ }
 {
     let largest = quality.largest;
@@ -185,7 +186,7 @@ fn store_quality(state: &mut [u64; 72], quality: ClockQuality)
     state[68] = second.bits;
 }
 
-pub fn store_follow_counts(state: &mut [u64; 72], counts: FollowCounts)
+pub fn store_follow_counts(state: &mut [u64; LEDGER_WORDS], counts: FollowCounts)
     ensures { λ _. ⌜ now (state .exit) ≡ sets (now (state .entry)) 44 (followCountsWords counts) ⌝ }
 {
     state[44] = counts.observations;
@@ -196,7 +197,7 @@ pub fn store_follow_counts(state: &mut [u64; 72], counts: FollowCounts)
     state[49] = counts.unavailable;
 }
 
-pub fn store_follow(state: &mut [u64; 72], follow: FollowUps)
+pub fn store_follow(state: &mut [u64; LEDGER_WORDS], follow: FollowUps)
     ensures { λ _. ⌜ (now (state .exit) ≡ sets (now (state .entry)) 44 (followWords follow)) × FollowKept follow ⌝ }
 {
     let counts = follow.counts;

@@ -105,7 +105,7 @@ module _ (w : List ℕ) (keys slots : List (List ℕ)) (offsets : List ℕ) (lin
 
   -- only the words that `observe` changes are stored, and all of them say its next ledger
   pub observed-back :
-      length w ≡ 72 → CountersFit (o .counters) →
+      length w ≡ 80 → CountersFit (o .counters) →
       ledgerAt (observedWords (o .counters) w (observeOn (ledgerAt w) keys slots offsets links o .ledger)) ≡ observeOn (ledgerAt w) keys slots offsets links o .ledger
   unfolding observeIn
   observed-back long f = observe-back w long (o .counters) (o .rtt) _ _ (observed-direct-stays f) observed-follow-stays observed-follow-kept

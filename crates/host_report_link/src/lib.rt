@@ -2,6 +2,7 @@
 ghost use mathlib.Core.Path.{_≡_};
 ghost use Rattle.host_told.specs.Told.{told};
 ghost use Rattle.host_report_link.specs.LinkTold.{watchAt, reportLinkTo};
+use host_ledger::LEDGER_WORDS;
 use link_steps::Link;
 use link_steps::Watch;
 
@@ -19,7 +20,7 @@ fn watch_at(watched: u32, monitor: &[u64; 12]) -> Watch
 // `records` and `turned_away` are for the first line: the host alone knows how many calls it made, and how many of them were refused.
 #[no_mangle]
 pub extern "C" fn ambrulicciu_report_link(
-    ledger: &[u64; 72],
+    ledger: &[u64; LEDGER_WORDS],
     monitor: &[u64; 12],
     watched: u32,
     records: u64,

@@ -2,11 +2,12 @@
 ghost use mathlib.Core.Path.{_≡_};
 ghost use Rattle.host_calls.specs.Calls.{probeOf};
 ghost use Rattle.host_sent.specs.Sent.{sentLeft, sentOf};
+use host_ledger::LEDGER_WORDS;
 use ledger_steps::Answer;
 
 #[no_mangle]
 pub extern "C" fn ambrulicciu_sent(
-    ledger: &mut [u64; 72],
+    ledger: &mut [u64; LEDGER_WORDS],
     probes: &mut [[u64; 4]],
     links: &mut [[u16; 8]],
     sequence: u32,

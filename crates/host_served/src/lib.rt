@@ -1,11 +1,12 @@
 // What a served `accept` stores of the ledger in a host's words, with a monitor and without.
 ghost use mathlib.Core.Path.{_≡_};
 ghost use Rattle.host_served.specs.Served.{servedWords};
+use host_ledger::LEDGER_WORDS;
 use ledger_state::Ledger;
 use ledger_steps::Accepted;
 
 // A duplicate and an unknown reply change two counts, and no other word is stored.
-pub fn store_served(ledger: &mut [u64; 72], next: Ledger, accepted: Accepted)
+pub fn store_served(ledger: &mut [u64; LEDGER_WORDS], next: Ledger, accepted: Accepted)
     ensures { λ _. ⌜ now (ledger .exit) ≡ servedWords (now (ledger .entry)) next accepted ⌝ }
 {
     match accepted {

@@ -1,6 +1,7 @@
 // `snapshot` of src/sender/measurements.rs for a host: `MeasurementSummary` and document 01's thousandths in 85 words.
 ghost use mathlib.Core.Path.{_≡_};
 ghost use Rattle.host_snapshot.specs.Snapshot.{left, snapshotLeaves};
+use host_ledger::LEDGER_WORDS;
 
 // A word whose name ends in `known` or `seen` is 0 or 1; where it is 0, the words of the value are 0. Times are in ms.
 // Words of `shown`: 0 requested, 1 unique, 2 duplicate, 3 unknown, 4 answered, 5 additional, 6 late, 7 satisfied, 8 last_known, 9 last,
@@ -23,7 +24,7 @@ ghost use Rattle.host_snapshot.specs.Snapshot.{left, snapshotLeaves};
 // 80 follow_up.quality.reflector.multiplier, 81 follow_up.quality.reflector.error_known, 82 follow_up.quality.reflector.error (f64),
 // 83 follow_up.quality.largest_known, 84 follow_up.quality.largest (f64).
 #[no_mangle]
-pub extern "C" fn ambrulicciu_snapshot(ledger: &[u64; 72], shown: &mut [u64; 85]) -> u8
+pub extern "C" fn ambrulicciu_snapshot(ledger: &[u64; LEDGER_WORDS], shown: &mut [u64; 85]) -> u8
     ensures { λ r. ⌜ left r (now (shown .exit)) ≡ snapshotLeaves (now (ledger .entry)) ⌝ }
 {
     let state = host_ledger::load(ledger);

@@ -5,6 +5,7 @@ ghost use Rattle.ledger_watched.specs.Watched.{acceptNumber};
 ghost use Rattle.host_watched_accept.specs.Calls.{left, ledgerAfter, monitorAfter, answerAfter, watchedAcceptTo};
 use host_calls::accepted_words;
 use host_calls::reply_of;
+use host_ledger::LEDGER_WORDS;
 use host_monitor_words::store;
 use host_served::store_served;
 use ledger_watched::WatchedAccept;
@@ -12,7 +13,7 @@ use probe_queue::Probe;
 
 // The number of what `accept` gave. The words change where the call was served, and not otherwise.
 fn finish(
-    ledger: &mut [u64; 72],
+    ledger: &mut [u64; LEDGER_WORDS],
     monitor: &mut [u64; 12],
     answer: &mut [u64; 5],
     given: WatchedAccept,
@@ -33,7 +34,7 @@ fn finish(
 // A reply came, on a link that a monitor watches.
 #[no_mangle]
 pub extern "C" fn ambrulicciu_watched_accept(
-    ledger: &mut [u64; 72],
+    ledger: &mut [u64; LEDGER_WORDS],
     monitor: &mut [u64; 12],
     keys: &mut [[u64; 2]],
     slots: &mut [[u64; 3]],

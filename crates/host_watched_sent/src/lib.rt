@@ -4,13 +4,14 @@ ghost use mathlib.Core.Path.{_≡_};
 ghost use Rattle.ledger_watched.specs.Watched.{number};
 ghost use Rattle.host_watched_sent.specs.Calls.{left, ledgerAfter, monitorAfter, watchedSentTo};
 use host_calls::probe_of;
+use host_ledger::LEDGER_WORDS;
 use host_ledger::store_sent;
 use host_monitor_words::store;
 use ledger_watched::WatchedAnswer;
 use probe_queue::Probe;
 
 // The number of an answer. The words change where the call was served, and not otherwise.
-fn finish(ledger: &mut [u64; 72], monitor: &mut [u64; 12], answer: WatchedAnswer) -> u8
+fn finish(ledger: &mut [u64; LEDGER_WORDS], monitor: &mut [u64; 12], answer: WatchedAnswer) -> u8
     ensures { λ r. ⌜ (r ≡ number answer) × (now (ledger .exit) ≡ ledgerAfter (now (ledger .entry)) answer) × (now (monitor .exit) ≡ monitorAfter (now (monitor .entry)) answer) ⌝ }
 {
     match answer {
@@ -26,7 +27,7 @@ fn finish(ledger: &mut [u64; 72], monitor: &mut [u64; 12], answer: WatchedAnswer
 // A probe was sent, on a link that a monitor watches.
 #[no_mangle]
 pub extern "C" fn ambrulicciu_watched_sent(
-    ledger: &mut [u64; 72],
+    ledger: &mut [u64; LEDGER_WORDS],
     monitor: &mut [u64; 12],
     probes: &mut [[u64; 4]],
     links: &mut [[u16; 8]],

@@ -53,9 +53,9 @@ host-in-time threshold timeout queue h long =
 -- ---- a link with a monitor
 
 module _ (m : Making) (ok : MakingFits m) (fits : hosted.HostFits m) (threshold timeout : ℕ) (with-monitor : m .monitor ≡ watching threshold timeout) where
-  -- the words say a link that stands, and those of the ledger are 72
+  -- the words say a link that stands, and those of the ledger are 80
   abbrev SaysLink : HostLink → Plain → Type 0
-  SaysLink x p = Stands m ok threshold timeout with-monitor (hosted.said x) p × (length (x .ledger) ≡ 72)
+  SaysLink x p = Stands m ok threshold timeout with-monitor (hosted.said x) p × (length (x .ledger) ≡ 80)
 
   host-link-models : Models hostLink HostFits SaysLink
   host-link-models = record {

@@ -7,6 +7,9 @@
 
 use crate::shown::{Figures, Quality};
 
+/// How many words a ledger has.
+pub const LEDGER_WORDS: usize = 80;
+
 /// Flags of an [`Observation`]: which of its fields are there.
 pub const T4: u32 = 1;
 pub const ORDINAL: u32 = 2;
@@ -116,9 +119,9 @@ const _: () = assert!(std::mem::size_of::<Call>() == 44 * 4);
 
 extern "C" {
     fn ambrulicciu_version(version: &mut [u32; 1]) -> u8;
-    fn ambrulicciu_ledger_fresh(ledger: &mut [u64; 72], copies: u16, secret: &[u32; 8]) -> u8;
+    fn ambrulicciu_ledger_fresh(ledger: &mut [u64; LEDGER_WORDS], copies: u16, secret: &[u32; 8]) -> u8;
     fn ambrulicciu_sent(
-        ledger: &mut [u64; 72],
+        ledger: &mut [u64; LEDGER_WORDS],
         probes: *mut [u64; 4],
         probes_length: usize,
         links: *mut [u16; 8],
@@ -129,7 +132,7 @@ extern "C" {
         tag: u64,
     ) -> u8;
     fn ambrulicciu_accept(
-        ledger: &mut [u64; 72],
+        ledger: &mut [u64; LEDGER_WORDS],
         keys: *mut [u64; 2],
         keys_length: usize,
         slots: *mut [u64; 3],
@@ -147,7 +150,7 @@ extern "C" {
         answer: &mut [u64; 5],
     ) -> u8;
     fn ambrulicciu_lookup(
-        ledger: &[u64; 72],
+        ledger: &[u64; LEDGER_WORDS],
         keys: *const [u64; 2],
         keys_length: usize,
         slots: *const [u64; 3],
@@ -161,7 +164,7 @@ extern "C" {
         answer: &mut [u64; 3],
     ) -> u8;
     fn ambrulicciu_observe(
-        ledger: &mut [u64; 72],
+        ledger: &mut [u64; LEDGER_WORDS],
         keys: *const [u64; 2],
         keys_length: usize,
         slots: *mut [u64; 3],
@@ -173,7 +176,7 @@ extern "C" {
         observation: &Observation,
     ) -> u8;
     fn ambrulicciu_answered(
-        ledger: &[u64; 72],
+        ledger: &[u64; LEDGER_WORDS],
         probes: *const [u64; 4],
         probes_length: usize,
         links: *const [u16; 8],
@@ -181,10 +184,10 @@ extern "C" {
         sequence: u32,
         answer: &mut [u64; 1],
     ) -> u8;
-    fn ambrulicciu_needs_burst_wait(ledger: &[u64; 72], answer: &mut [u64; 1]) -> u8;
-    fn ambrulicciu_snapshot(ledger: &[u64; 72], shown: &mut Figures) -> u8;
+    fn ambrulicciu_needs_burst_wait(ledger: &[u64; LEDGER_WORDS], answer: &mut [u64; 1]) -> u8;
+    fn ambrulicciu_snapshot(ledger: &[u64; LEDGER_WORDS], shown: &mut Figures) -> u8;
     fn ambrulicciu_watched_sent(
-        ledger: &mut [u64; 72],
+        ledger: &mut [u64; LEDGER_WORDS],
         monitor: &mut [u64; 12],
         probes: *mut [u64; 4],
         probes_length: usize,
@@ -198,7 +201,7 @@ extern "C" {
         tag: u64,
     ) -> u8;
     fn ambrulicciu_watched_accept(
-        ledger: &mut [u64; 72],
+        ledger: &mut [u64; LEDGER_WORDS],
         monitor: &mut [u64; 12],
         keys: *mut [u64; 2],
         keys_length: usize,
@@ -319,7 +322,7 @@ extern "C" {
         length: &mut [u64; 1],
     ) -> u8;
     fn ambrulicciu_report_link(
-        ledger: &[u64; 72],
+        ledger: &[u64; LEDGER_WORDS],
         monitor: &[u64; 12],
         watched: u32,
         records: u64,
@@ -336,12 +339,12 @@ pub fn version(version: &mut [u32; 1]) -> u8 {
 }
 
 /// Makes a ledger fresh; its rooms may hold anything.
-pub fn ledger_fresh(ledger: &mut [u64; 72], copies: u16, secret: &[u32; 8]) -> u8 {
+pub fn ledger_fresh(ledger: &mut [u64; LEDGER_WORDS], copies: u16, secret: &[u32; 8]) -> u8 {
     unsafe { ambrulicciu_ledger_fresh(ledger, copies, secret) }
 }
 
 pub fn sent(
-    ledger: &mut [u64; 72],
+    ledger: &mut [u64; LEDGER_WORDS],
     probes: &mut [[u64; 4]],
     links: &mut [[u16; 8]],
     sequence: u32,
@@ -354,7 +357,7 @@ pub fn sent(
 
 /// Answer: class (0 unknown, 1 duplicate, 2 unique), time, tag, 1 if there is an ordinal, ordinal.
 pub fn accept(
-    ledger: &mut [u64; 72],
+    ledger: &mut [u64; LEDGER_WORDS],
     keys: &mut [[u64; 2]],
     slots: &mut [[u64; 3]],
     probes: &mut [[u64; 4]],
@@ -391,7 +394,7 @@ pub fn accept(
 
 /// Answer: 1 if a slot is shown, 1 if it is PTP, its reference (two's complement).
 pub fn lookup(
-    ledger: &[u64; 72],
+    ledger: &[u64; LEDGER_WORDS],
     keys: &[[u64; 2]],
     slots: &[[u64; 3]],
     links: &[[u16; 8]],
@@ -420,7 +423,7 @@ pub fn lookup(
 }
 
 pub fn observe(
-    ledger: &mut [u64; 72],
+    ledger: &mut [u64; LEDGER_WORDS],
     keys: &[[u64; 2]],
     slots: &mut [[u64; 3]],
     offsets: &mut [u32],
@@ -443,20 +446,20 @@ pub fn observe(
     }
 }
 
-pub fn answered(ledger: &[u64; 72], probes: &[[u64; 4]], links: &[[u16; 8]], sequence: u32, answer: &mut [u64; 1]) -> u8 {
+pub fn answered(ledger: &[u64; LEDGER_WORDS], probes: &[[u64; 4]], links: &[[u16; 8]], sequence: u32, answer: &mut [u64; 1]) -> u8 {
     unsafe { ambrulicciu_answered(ledger, probes.as_ptr(), probes.len(), links.as_ptr(), links.len(), sequence, answer) }
 }
 
-pub fn needs_burst_wait(ledger: &[u64; 72], answer: &mut [u64; 1]) -> u8 {
+pub fn needs_burst_wait(ledger: &[u64; LEDGER_WORDS], answer: &mut [u64; 1]) -> u8 {
     unsafe { ambrulicciu_needs_burst_wait(ledger, answer) }
 }
 
-pub fn snapshot(ledger: &[u64; 72], shown: &mut Figures) -> u8 {
+pub fn snapshot(ledger: &[u64; LEDGER_WORDS], shown: &mut Figures) -> u8 {
     unsafe { ambrulicciu_snapshot(ledger, shown) }
 }
 
 pub fn watched_sent(
-    ledger: &mut [u64; 72],
+    ledger: &mut [u64; LEDGER_WORDS],
     monitor: &mut [u64; 12],
     probes: &mut [[u64; 4]],
     links: &mut [[u16; 8]],
@@ -485,7 +488,7 @@ pub fn watched_sent(
 }
 
 pub fn watched_accept(
-    ledger: &mut [u64; 72],
+    ledger: &mut [u64; LEDGER_WORDS],
     monitor: &mut [u64; 12],
     keys: &mut [[u64; 2]],
     slots: &mut [[u64; 3]],
@@ -722,7 +725,7 @@ pub fn report_log(
 }
 
 pub fn report_link(
-    ledger: &[u64; 72],
+    ledger: &[u64; LEDGER_WORDS],
     monitor: &[u64; 12],
     watched: u32,
     records: u64,

@@ -1,6 +1,6 @@
 //! A link: the ledger with its rooms, and its monitor if it is watched.
 use crate::{
-    calls::{self, Queued},
+    calls::{self, Queued, LEDGER_WORDS},
     observation::{Format, Observation},
     refusal::{served, Refusal},
     shown::Figures,
@@ -109,7 +109,7 @@ pub struct Session {
 /// A link with all its memory. The parts are open to hosts that keep them elsewhere: no content of them can break a call.
 #[derive(Clone, Debug)]
 pub struct Link {
-    pub ledger: [u64; 72],
+    pub ledger: [u64; LEDGER_WORDS],
     pub rooms: Rooms,
     pub watch: Option<Watch>,
 }
@@ -117,7 +117,7 @@ pub struct Link {
 impl Link {
     /// `secret` are words that a reflector cannot know: they keep searches short and decide nothing.
     pub fn new(copies: u16, secret: &[u32; 8]) -> Link {
-        let mut ledger = [0; 72];
+        let mut ledger = [0; LEDGER_WORDS];
         calls::ledger_fresh(&mut ledger, copies, secret);
         Link { ledger, rooms: Rooms::new(), watch: None }
     }

@@ -12,8 +12,9 @@ use crate::{
     part::{Answer, Call, Part},
 };
 use ambrulicciu::{
-    calls::Queued, Accepted, Counters, Delays, Figures, FollowUp, Format, Found, Key, LastEstimate,
-    Link, Maybe, Observation, Packet, Point, Refusal, State, Watch,
+    calls::{Queued, LEDGER_WORDS},
+    Accepted, Counters, Delays, Figures, FollowUp, Format, Found, Key, LastEstimate, Link, Maybe,
+    Observation, Packet, Point, Refusal, State, Watch,
 };
 use std::collections::{HashMap, HashSet};
 
@@ -52,7 +53,7 @@ fn count_word(which: u64) -> usize {
     }
 }
 
-fn load(ledger: &mut [u64; 72], which: u64, value: u64) {
+fn load(ledger: &mut [u64; LEDGER_WORDS], which: u64, value: u64) {
     let delays = match which {
         29 | 30 => ROUND_TRIPS,
         32 | 33 => FOLLOW_DELAYS,
