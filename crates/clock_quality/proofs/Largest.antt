@@ -18,11 +18,12 @@ use lib.Ieee.Positive.{num, den, positive, positive-of-value, cross→le, le-tra
 use borrow.Author.Tests.{ltb-true, leb-true}
 use Rattle.floats.proofs.Values.{scaled-exact}
 use Rattle.estimate.specs.declared.ErrorEstimate.{ErrorEstimate}
-use Rattle.estimate.specs.declared.ErrorMs.{ErrorMs}
-use Rattle.estimate.specs.declared.ErrorMs.the-variants.{Known, Invalid}
+use Rattle.estimate.specs.declared.Reading.{Reading}
+use Rattle.estimate.specs.declared.Reading.the-variants.{Known, Invalid}
 use Rattle.estimate.specs.declared.Estimates.{Estimates}
 use Rattle.estimate.specs.declared.Estimates.the-variants as estimates
-use Rattle.estimate.specs.Error.{knownIf, errorMs}
+use Rattle.estimate.specs.Wire.{wireOf}
+use Rattle.estimate.specs.Error.{knownIf, readingOf}
 use Rattle.clock_quality.specs.declared.LargestError.{LargestError}
 use Rattle.clock_quality.specs.declared.LargestError.the-variants as largest
 use Rattle.clock_quality.specs.Quality.{largerOf, largestOf}
@@ -61,13 +62,13 @@ pub record KnownError (e : ErrorEstimate) (x : Float) : Type 0 where
 yes : {b : Bool} → b ≡ true → T b
 yes h = subst T (sym h) tt
 
-pub known-error : (e : ErrorEstimate) (x : Float) → e .multiplier < 256 → errorMs e ≡ Known x → KnownError e x
+pub known-error : (e : ErrorEstimate) (x : Float) → e .multiplier < 256 → readingOf e ≡ Known x → KnownError e x
 known-error e x M h = go (ltb 0 (e .multiplier) && leb (e .scale) 63) refl h
   where
     v : Float
     v = round binary64 false (size e) (2 ^ 32)
 
-    clash : Invalid ≡ Known x → ⊥
+    clash : Invalid (wireOf e) ≡ Known x → ⊥
     clash h = let z : _≡_ {A = ℕ} 0 1 = cc in omega arith
 
     same : Known v ≡ Known x → x ≡ v
@@ -88,7 +89,7 @@ known-error e x M h = go (ltb 0 (e .multiplier) && leb (e .scale) 63) refl h
     room : (s : ℕ) → s ≤ 63 → 18 + s ≤ 82
     room s h = omega arith
 
-    go : (b : Bool) → ltb 0 (e .multiplier) && leb (e .scale) 63 ≡ b → knownIf b v ≡ Known x → KnownError e x
+    go : (b : Bool) → ltb 0 (e .multiplier) && leb (e .scale) 63 ≡ b → knownIf b v (wireOf e) ≡ Known x → KnownError e x
     go false t h = absurd (clash h)
     go true t h =
         let some = ltb-true 0 (e .multiplier) (both (ltb 0 (e .multiplier)) (leb (e .scale) 63) t .0) in
@@ -155,18 +156,18 @@ the-same t u h = cc
 
 module _ (s r : ErrorEstimate) where
   abbrev paired : LargestError
-  paired = largestOf largest.Absent (errorMs s) (errorMs r)
+  paired = largestOf largest.Absent (readingOf s) (readingOf r)
 
-  by-errors : (a b : ErrorMs) → errorMs s ≡ a → errorMs r ≡ b → paired ≡ largestOf largest.Absent a b
-  by-errors a b p q = ap (λ (x : ErrorMs). largestOf largest.Absent x (errorMs r)) p ∙ ap (largestOf largest.Absent a) q
+  by-errors : (a b : Reading) → readingOf s ≡ a → readingOf r ≡ b → paired ≡ largestOf largest.Absent a b
+  by-errors a b p q = ap (λ (x : Reading). largestOf largest.Absent x (readingOf r)) p ∙ ap (largestOf largest.Absent a) q
 
   pair-positive : s .multiplier < 256 → r .multiplier < 256 → (t : Float) → paired ≡ largest.Ms t → T (positive t)
-  pair-positive m n t h = go (errorMs s) (errorMs r) refl refl
+  pair-positive m n t h = go (readingOf s) (readingOf r) refl refl
     where
-      go : (a b : ErrorMs) → errorMs s ≡ a → errorMs r ≡ b → T (positive t)
+      go : (a b : Reading) → readingOf s ≡ a → readingOf r ≡ b → T (positive t)
       go (Known x) (Known y) p q = subst (λ (z : Float). T (positive z)) (sym (the-same t (add binary64 x y) (sym (by-errors (Known x) (Known y) p q) ∙ h))) (combined-positive s r x y (known-error s x m p) (known-error r y n q))
-      go (Known x) Invalid p q = absurd (some-or-none t (sym (by-errors (Known x) Invalid p q) ∙ h))
-      go Invalid b p q = absurd (some-or-none t (sym (by-errors Invalid b p q) ∙ h))
+      go (Known x) (Invalid w) p q = absurd (some-or-none t (sym (by-errors (Known x) (Invalid w) p q) ∙ h))
+      go (Invalid w) b p q = absurd (some-or-none t (sym (by-errors (Invalid w) b p q) ∙ h))
 
 all-positive : (es : List Estimates) → InRange es → (t : Float) → Combined t es → T (positive t)
 all-positive [] R t h = absurd h
@@ -212,16 +213,16 @@ module _ (e : Estimates) (es : List Estimates) (u : Float) (k : largestWith larg
           go t (inl g) = subst (λ (z : Float). T (le z u)) (sym (itself t g)) (reflexive u P)
           go t (inr g) = le-trans-positive t m u (all t g) (all m (h .0)) P (h .1 t g) (either u m P (all m (h .0)) c)
 
-pair-more : (s r : ErrorEstimate) (es : List Estimates) (l : LargestError) → s .multiplier < 256 → r .multiplier < 256 → InRange es → Largest es l → Largest (estimates.Pair s r ∷ es) (largestOf l (errorMs s) (errorMs r))
-pair-more s r es l m n R h = go (errorMs s) (errorMs r) refl refl
+pair-more : (s r : ErrorEstimate) (es : List Estimates) (l : LargestError) → s .multiplier < 256 → r .multiplier < 256 → InRange es → Largest es l → Largest (estimates.Pair s r ∷ es) (largestOf l (readingOf s) (readingOf r))
+pair-more s r es l m n R h = go (readingOf s) (readingOf r) refl refl
   where
-    go : (a b : ErrorMs) → errorMs s ≡ a → errorMs r ≡ b → Largest (estimates.Pair s r ∷ es) (largestOf l a b)
+    go : (a b : Reading) → readingOf s ≡ a → readingOf r ≡ b → Largest (estimates.Pair s r ∷ es) (largestOf l a b)
     go (Known x) (Known y) p q =
         let u = add binary64 x y in
         let k = by-errors s r (Known x) (Known y) p q in
         with-one (estimates.Pair s r) es u k (pair-positive s r m n u k) (all-positive es R) l h
-    go (Known x) Invalid p q = without (estimates.Pair s r) es l (λ t g. some-or-none t (sym (by-errors s r (Known x) Invalid p q) ∙ g)) h
-    go Invalid b p q = without (estimates.Pair s r) es l (λ t g. some-or-none t (sym (by-errors s r Invalid b p q) ∙ g)) h
+    go (Known x) (Invalid w) p q = without (estimates.Pair s r) es l (λ t g. some-or-none t (sym (by-errors s r (Known x) (Invalid w) p q) ∙ g)) h
+    go (Invalid w) b p q = without (estimates.Pair s r) es l (λ t g. some-or-none t (sym (by-errors s r (Invalid w) b p q) ∙ g)) h
 
 -- what `largestAmong` folds is the largest
 pub largest-among : (es : List Estimates) → InRange es → Largest es (largestAmong es)

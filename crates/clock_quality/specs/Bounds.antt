@@ -17,6 +17,9 @@ pub record Bounded (q : ClockQuality) : Type 0 where
   pub unsynchronized : q .unsynchronized < countBound
   pub invalid : q .invalid < countBound
   pub unknown : q .unknown < countBound
+  pub «invalid_sender» : q .«invalid_sender» < countBound
+  pub «invalid_reflector» : q .«invalid_reflector» < countBound
+  pub «invalid_both» : q .«invalid_both» < countBound
 
 -- the same as a test
 abbrev pub countsFit : ClockQuality → Bool
@@ -26,6 +29,9 @@ countsFit q =
     && ltb (q .unsynchronized) countBound
     && ltb (q .invalid) countBound
     && ltb (q .unknown) countBound
+    && ltb (q .«invalid_sender») countBound
+    && ltb (q .«invalid_reflector») countBound
+    && ltb (q .«invalid_both») countBound
 
 -- the number of the refusal, 0 where there is none: a count at its bound or beyond
 abbrev pub refusalOf : ClockQuality → ℕ
@@ -51,8 +57,14 @@ fit-bounded q h =
     let c = ltb (q .unsynchronized) countBound in
     let d = ltb (q .invalid) countBound in
     let e = ltb (q .unknown) countBound in
-    let all : T (a && b && c && d && e) = subst T (sym h) tt in
-    let four = and-l (a && b && c && d) e all in
+    let f = ltb (q .«invalid_sender») countBound in
+    let g = ltb (q .«invalid_reflector») countBound in
+    let i = ltb (q .«invalid_both») countBound in
+    let all : T (a && b && c && d && e && f && g && i) = subst T (sym h) tt in
+    let seven = and-l (a && b && c && d && e && f && g) i all in
+    let six = and-l (a && b && c && d && e && f) g seven in
+    let five = and-l (a && b && c && d && e) f six in
+    let four = and-l (a && b && c && d) e five in
     let three = and-l (a && b && c) d four in
     let two = and-l (a && b) c three in
     record {
@@ -60,7 +72,10 @@ fit-bounded q h =
       both = ltb→lt (q .both) countBound (and-r a b two);
       unsynchronized = ltb→lt (q .unsynchronized) countBound (and-r (a && b) c three);
       invalid = ltb→lt (q .invalid) countBound (and-r (a && b && c) d four);
-      unknown = ltb→lt (q .unknown) countBound (and-r (a && b && c && d) e all);
+      unknown = ltb→lt (q .unknown) countBound (and-r (a && b && c && d) e five);
+      «invalid_sender» = ltb→lt (q .«invalid_sender») countBound (and-r (a && b && c && d && e) f six);
+      «invalid_reflector» = ltb→lt (q .«invalid_reflector») countBound (and-r (a && b && c && d && e && f) g seven);
+      «invalid_both» = ltb→lt (q .«invalid_both») countBound (and-r (a && b && c && d && e && f && g) i all);
     }
 
 -- a sample is served where the counts fit, and otherwise refused with the number alone

@@ -3,12 +3,12 @@ use mathlib.Core.Bool.{Bool, true, false, _&&_, cond}
 use Prim.Native.Nat.{ℕ, _+_}
 use lib.Ieee.{Float, binary64, add, le}
 use Rattle.estimate.specs.declared.ErrorEstimate.{ErrorEstimate}
-use Rattle.estimate.specs.declared.ErrorMs.{ErrorMs}
-use Rattle.estimate.specs.declared.ErrorMs.the-variants.{Known, Invalid}
+use Rattle.estimate.specs.declared.Reading.{Reading}
+use Rattle.estimate.specs.declared.Reading.the-variants.{Known, Invalid}
 use Rattle.estimate.specs.declared.Estimates.{Estimates}
 use Rattle.estimate.specs.declared.Estimates.the-variants as estimates
 use Rattle.estimate.specs.Make.{formatOf}
-use Rattle.estimate.specs.Error.{errorMs}
+use Rattle.estimate.specs.Error.{readingOf}
 use Rattle.clock_quality.specs.declared.ClockEstimate.{ClockEstimate}
 use Rattle.clock_quality.specs.declared.LastEstimate.{LastEstimate}
 use Rattle.clock_quality.specs.declared.LastEstimate.the-variants as last
@@ -16,14 +16,14 @@ use Rattle.clock_quality.specs.declared.LargestError.{LargestError}
 use Rattle.clock_quality.specs.declared.LargestError.the-variants as largest
 use Rattle.clock_quality.specs.declared.ClockQuality.{ClockQuality}
 
--- an estimate with all its fields, and its error in ms
+-- an estimate with all its fields, and its reading
 abbrev pub clockEstimateOf : ErrorEstimate → ClockEstimate
 clockEstimateOf e = record {
   synchronized = e .synchronized;
   format = formatOf (e .ptp);
   scale = e .scale;
   multiplier = e .multiplier;
-  error = errorMs e;
+  error = readingOf e;
 }
 
 -- no sample yet
@@ -34,51 +34,100 @@ fresh = record {
   unsynchronized = 0;
   invalid = 0;
   unknown = 0;
+  «invalid_sender» = 0;
+  «invalid_reflector» = 0;
+  «invalid_both» = 0;
   sender = last.Absent;
   reflector = last.Absent;
   largest = largest.Absent;
 }
 
--- each sample is of one class: no estimates; one of the two errors invalid; both clocks synchronized, or not
+-- each sample is of one class: no estimates; invalid at the sender alone, at the reflector alone, at both; both errors known, and both clocks
+-- synchronized, or not
 pub data Class : Type 0 where
-  unknown invalid unsynchronized both : Class
+  unknown invalidSender invalidReflector invalidBoth unsynchronized both : Class
 
--- an estimate's error has its ms; an invalid one, as that of multiplier 0, has none
-abbrev pub isKnown : ErrorMs → Bool
+-- an estimate's error has its ms; an invalid one, as that of multiplier 0, has its bits alone
+abbrev pub isKnown : Reading → Bool
 isKnown (Known x) = true
-isKnown Invalid = false
+isKnown (Invalid bits) = false
 
--- by whether both errors are known, and whether both clocks are synchronized
-abbrev pub pairClass : Bool → Bool → Class
-pairClass true true = both
-pairClass true false = unsynchronized
-pairClass false s = invalid
+-- both errors are known: by whether both clocks are synchronized
+abbrev pub knownClass : Bool → Class
+knownClass true = both
+knownClass false = unsynchronized
+
+-- the sender's is invalid: by whether the reflector's is known
+abbrev pub invalidWith : Bool → Class
+invalidWith true = invalidSender
+invalidWith false = invalidBoth
+
+-- by whether the sender's error is known, and the reflector's, and whether both clocks are synchronized, which does not matter where one is invalid
+abbrev pub pairClass : Bool → Bool → Bool → Class
+pairClass true true s = knownClass s
+pairClass true false s = invalidReflector
+pairClass false known s = invalidWith known
 
 -- the sample had no estimates
 abbrev pub isUnknown : Class → Bool
 isUnknown unknown = true
-isUnknown invalid = false
+isUnknown invalidSender = false
+isUnknown invalidReflector = false
+isUnknown invalidBoth = false
 isUnknown unsynchronized = false
 isUnknown both = false
 
 -- one of its two errors, or both, is invalid, whatever the clocks say
 abbrev pub isInvalid : Class → Bool
 isInvalid unknown = false
-isInvalid invalid = true
+isInvalid invalidSender = true
+isInvalid invalidReflector = true
+isInvalid invalidBoth = true
 isInvalid unsynchronized = false
 isInvalid both = false
+
+-- the sender's alone
+abbrev pub isInvalidSender : Class → Bool
+isInvalidSender unknown = false
+isInvalidSender invalidSender = true
+isInvalidSender invalidReflector = false
+isInvalidSender invalidBoth = false
+isInvalidSender unsynchronized = false
+isInvalidSender both = false
+
+-- the reflector's alone
+abbrev pub isInvalidReflector : Class → Bool
+isInvalidReflector unknown = false
+isInvalidReflector invalidSender = false
+isInvalidReflector invalidReflector = true
+isInvalidReflector invalidBoth = false
+isInvalidReflector unsynchronized = false
+isInvalidReflector both = false
+
+-- both
+abbrev pub isInvalidBoth : Class → Bool
+isInvalidBoth unknown = false
+isInvalidBoth invalidSender = false
+isInvalidBoth invalidReflector = false
+isInvalidBoth invalidBoth = true
+isInvalidBoth unsynchronized = false
+isInvalidBoth both = false
 
 -- both errors are known, and a clock is not synchronized
 abbrev pub isUnsynchronized : Class → Bool
 isUnsynchronized unknown = false
-isUnsynchronized invalid = false
+isUnsynchronized invalidSender = false
+isUnsynchronized invalidReflector = false
+isUnsynchronized invalidBoth = false
 isUnsynchronized unsynchronized = true
 isUnsynchronized both = false
 
 -- both errors are known, and both clocks are synchronized
 abbrev pub isBoth : Class → Bool
 isBoth unknown = false
-isBoth invalid = false
+isBoth invalidSender = false
+isBoth invalidReflector = false
+isBoth invalidBoth = false
 isBoth unsynchronized = false
 isBoth both = true
 
@@ -93,10 +142,10 @@ largerOf largest.Absent combined = largest.Ms combined
 largerOf (largest.Ms most) combined = largest.Ms (cond (le combined most) most combined)
 
 -- the sum of two known errors, rounded once, counts for the largest
-abbrev pub largestOf : LargestError → ErrorMs → ErrorMs → LargestError
+abbrev pub largestOf : LargestError → Reading → Reading → LargestError
 largestOf m (Known x) (Known y) = largerOf m (add binary64 x y)
-largestOf m (Known x) Invalid = m
-largestOf m Invalid e = m
+largestOf m (Known x) (Invalid bits) = m
+largestOf m (Invalid bits) e = m
 
 -- one sample more, of a class, with the estimates and the largest error that then stand
 abbrev pub classed : ClockQuality → Class → LastEstimate → LastEstimate → LargestError → ClockQuality
@@ -106,6 +155,9 @@ classed q c s r l = record {
   unsynchronized = counted (isUnsynchronized c) (q .unsynchronized);
   invalid = counted (isInvalid c) (q .invalid);
   unknown = counted (isUnknown c) (q .unknown);
+  «invalid_sender» = counted (isInvalidSender c) (q .«invalid_sender»);
+  «invalid_reflector» = counted (isInvalidReflector c) (q .«invalid_reflector»);
+  «invalid_both» = counted (isInvalidBoth c) (q .«invalid_both»);
   sender = s;
   reflector = r;
   largest = l;
@@ -115,7 +167,7 @@ classed q c s r l = record {
 abbrev pub pairedOf : ClockQuality → ClockEstimate → ClockEstimate → ClockQuality
 pairedOf q s r =
     classed q
-    (pairClass (isKnown (s .error) && isKnown (r .error)) (s .synchronized && r .synchronized))
+    (pairClass (isKnown (s .error)) (isKnown (r .error)) (s .synchronized && r .synchronized))
     (last.Seen s)
     (last.Seen r)
     (largestOf (q .largest) (s .error) (r .error))

@@ -5,23 +5,24 @@ use mathlib.Core.Logic.{_⊎_}
 use mathlib.Core.List.{List, [], _∷_}
 use Prim.Native.Nat.{ℕ, suc, _+_, _<_}
 use native.Mathlib.Numerals.{add-one}
+use native.Mathlib.Omega.{arith}
 use lib.ListN.{length}
 use lib.Dec.{T}
 use lib.Ieee.{Float, le}
 use Rattle.estimate.specs.declared.Estimates.{Estimates}
 use Rattle.estimate.specs.declared.Estimates.the-variants as estimates
-use Rattle.estimate.specs.Error.{errorMs}
+use Rattle.estimate.specs.Error.{readingOf}
 use Rattle.clock_quality.specs.declared.LastEstimate.{LastEstimate}
 use Rattle.clock_quality.specs.declared.LastEstimate.the-variants as last
 use Rattle.clock_quality.specs.declared.LargestError.{LargestError}
 use Rattle.clock_quality.specs.declared.LargestError.the-variants as largest
 use Rattle.clock_quality.specs.declared.ClockQuality.{ClockQuality}
-use Rattle.clock_quality.specs.Quality.{Class, unknown, pairClass, isKnown, isBoth, isUnsynchronized, isInvalid, isUnknown, counted, largestOf, clockEstimateOf, fresh, recordedOf}
+use Rattle.clock_quality.specs.Quality.{Class, unknown, invalidSender, invalidReflector, invalidBoth, unsynchronized, both, pairClass, isKnown, isBoth, isUnsynchronized, isInvalid, isUnknown, isInvalidSender, isInvalidReflector, isInvalidBoth, counted, largestOf, clockEstimateOf, fresh, recordedOf}
 
 -- the class of a sample
 abbrev pub classOf : Estimates → Class
 classOf estimates.Absent = unknown
-classOf (estimates.Pair s r) = pairClass (isKnown (errorMs s) && isKnown (errorMs r)) (s .synchronized && r .synchronized)
+classOf (estimates.Pair s r) = pairClass (isKnown (readingOf s)) (isKnown (readingOf r)) (s .synchronized && r .synchronized)
 
 -- how many samples have a class that passes a test
 unfoldable pub count : (Class → Bool) → List Estimates → ℕ
@@ -46,7 +47,7 @@ newest of (e ∷ es) = of e
 -- with the combined error of one sample
 abbrev pub largestWith : LargestError → Estimates → LargestError
 largestWith m estimates.Absent = m
-largestWith m (estimates.Pair s r) = largestOf m (errorMs s) (errorMs r)
+largestWith m (estimates.Pair s r) = largestOf m (readingOf s) (readingOf r)
 
 -- the largest combined error of the samples whose two errors are known
 unfoldable pub largestAmong : List Estimates → LargestError
@@ -81,6 +82,9 @@ pub record Shows (es : List Estimates) (q : ClockQuality) : Type 0 where
   pub unsynchronized : q .unsynchronized ≡ count isUnsynchronized es
   pub invalid : q .invalid ≡ count isInvalid es
   pub unknown : q .unknown ≡ count isUnknown es
+  pub «invalid_sender» : q .«invalid_sender» ≡ count isInvalidSender es
+  pub «invalid_reflector» : q .«invalid_reflector» ≡ count isInvalidReflector es
+  pub «invalid_both» : q .«invalid_both» ≡ count isInvalidBoth es
   pub sender : q .sender ≡ newest senderOf es
   pub reflector : q .reflector ≡ newest reflectorOf es
   pub largest : q .largest ≡ largestAmong es
@@ -94,6 +98,9 @@ fresh-shows = record {
   unsynchronized = refl;
   invalid = refl;
   unknown = refl;
+  «invalid_sender» = refl;
+  «invalid_reflector» = refl;
+  «invalid_both» = refl;
   sender = refl;
   reflector = refl;
   largest = refl;
@@ -107,6 +114,9 @@ recorded-shows q es estimates.Absent s = record {
   unsynchronized = s .unsynchronized;
   invalid = s .invalid;
   unknown = ap (λ (n : ℕ). n + 1) (s .unknown);
+  «invalid_sender» = s .«invalid_sender»;
+  «invalid_reflector» = s .«invalid_reflector»;
+  «invalid_both» = s .«invalid_both»;
   sender = refl;
   reflector = refl;
   largest = s .largest;
@@ -117,9 +127,12 @@ recorded-shows q es (estimates.Pair a b) s = let c = classOf (estimates.Pair a b
   unsynchronized = ap (counted (isUnsynchronized c)) (s .unsynchronized);
   invalid = ap (counted (isInvalid c)) (s .invalid);
   unknown = ap (counted (isUnknown c)) (s .unknown);
+  «invalid_sender» = ap (counted (isInvalidSender c)) (s .«invalid_sender»);
+  «invalid_reflector» = ap (counted (isInvalidReflector c)) (s .«invalid_reflector»);
+  «invalid_both» = ap (counted (isInvalidBoth c)) (s .«invalid_both»);
   sender = refl;
   reflector = refl;
-  largest = ap (λ (m : LargestError). largestOf m (errorMs a) (errorMs b)) (s .largest);
+  largest = ap (λ (m : LargestError). largestOf m (readingOf a) (readingOf b)) (s .largest);
 }
 
 -- the state after recording a list of samples from fresh shows them
@@ -127,3 +140,36 @@ pub played-shows : (es : List Estimates) → Shows es (played es)
 unfolding played
 played-shows [] = fresh-shows
 played-shows (e ∷ es) = recorded-shows (played es) es e (played-shows es)
+
+-- ---- "the three add up to the invalid count that exists"
+
+one-class : (c : Class) (n a b d : ℕ) → n ≡ a + b + d → counted (isInvalid c) n ≡ counted (isInvalidSender c) a + counted (isInvalidReflector c) b + counted (isInvalidBoth c) d
+one-class unknown n a b d h = h
+one-class invalidSender n a b d h = omega (arith, h)
+one-class invalidReflector n a b d h = omega (arith, h)
+one-class invalidBoth n a b d h = omega (arith, h)
+one-class unsynchronized n a b d h = h
+one-class both n a b d h = h
+
+-- of a plain list of samples
+pub invalid-adds-up : (es : List Estimates) → count isInvalid es ≡ count isInvalidSender es + count isInvalidReflector es + count isInvalidBoth es
+unfolding count
+invalid-adds-up [] = refl
+invalid-adds-up (e ∷ es) = one-class (classOf e) (count isInvalid es) (count isInvalidSender es) (count isInvalidReflector es) (count isInvalidBoth es) (invalid-adds-up es)
+
+-- the counts of a quality add up
+abbrev pub AddsUp : ClockQuality → Type 0
+AddsUp q = q .invalid ≡ q .«invalid_sender» + q .«invalid_reflector» + q .«invalid_both»
+
+-- of a fresh one they do, a sample keeps it so, and so they do after any samples from fresh
+pub fresh-adds-up : AddsUp fresh
+fresh-adds-up = refl
+
+pub recorded-adds-up : (q : ClockQuality) (e : Estimates) → AddsUp q → AddsUp (recordedOf q e)
+recorded-adds-up q estimates.Absent h = h
+recorded-adds-up q (estimates.Pair a b) h = one-class (classOf (estimates.Pair a b)) (q .invalid) (q .«invalid_sender») (q .«invalid_reflector») (q .«invalid_both») h
+
+pub played-adds-up : (es : List Estimates) → AddsUp (played es)
+unfolding played
+played-adds-up [] = fresh-adds-up
+played-adds-up (e ∷ es) = recorded-adds-up (played es) e (played-adds-up es)

@@ -1,22 +1,22 @@
 // A port of src/stats/clock_quality.rs: declared timestamp quality. What the endpoints assert, not what their clocks are.
 use estimate::ClockFormat;
 use estimate::ErrorEstimate;
-use estimate::ErrorMs;
 use estimate::Estimates;
+use estimate::Reading;
 ghost use mathlib.Core.Path.{_≡_};
-ghost use mathlib.Core.Bool.{Bool, true, false, _&&_};
+ghost use mathlib.Core.Bool.{_&&_};
 ghost use lib.Ieee.{binary64, add};
-ghost use Rattle.clock_quality.specs.Quality.{clockEstimateOf, fresh, pairClass, classed, largerOf, pairedOf, recordedOf};
-ghost use Rattle.clock_quality.specs.Quality.Class.{unknown, invalid};
+ghost use Rattle.clock_quality.specs.Quality.{clockEstimateOf, fresh, knownClass, invalidWith, isKnown, classed, largerOf, pairedOf, recordedOf};
+ghost use Rattle.clock_quality.specs.Quality.Class.{unknown, invalidSender, invalidReflector, invalidBoth};
 ghost use Rattle.clock_quality.specs.Bounds.{Bounded, countsFit, refusalOf, answer};
 
-// An estimate with all its fields, and its error in ms.
+// An estimate with all its fields, and its reading.
 pub struct ClockEstimate {
     pub synchronized: bool,
     pub format: ClockFormat,
     pub scale: u8,
     pub multiplier: u8,
-    pub error: ErrorMs,
+    pub error: Reading,
 }
 
 // The estimate of the last sample, or none.
@@ -31,13 +31,17 @@ pub enum LargestError {
     Ms(f64),
 }
 
-// How many samples there are, how many of each class, the last two estimates and the largest combined error.
+// How many samples there are, how many of each class, at whose end the invalid ones are invalid, the last two estimates and the largest
+// combined error.
 pub struct ClockQuality {
     pub samples: u64,
     pub both: u64,
     pub unsynchronized: u64,
     pub invalid: u64,
     pub unknown: u64,
+    pub invalid_sender: u64,
+    pub invalid_reflector: u64,
+    pub invalid_both: u64,
     pub sender: LastEstimate,
     pub reflector: LastEstimate,
     pub largest: LargestError,
@@ -54,7 +58,7 @@ pub fn clock_estimate(estimate: ErrorEstimate) -> ClockEstimate
     ensures { λ r. ⌜ r ≡ clockEstimateOf estimate ⌝ }
 {
     let format = estimate.clock_format();
-    let error = estimate.error_ms();
+    let error = estimate.reading();
     ClockEstimate {
         synchronized: estimate.synchronized,
         format,
@@ -90,6 +94,9 @@ impl ClockQuality {
             unsynchronized: 0,
             invalid: 0,
             unknown: 0,
+            invalid_sender: 0,
+            invalid_reflector: 0,
+            invalid_both: 0,
             sender: LastEstimate::Absent,
             reflector: LastEstimate::Absent,
             largest: LargestError::Absent,
@@ -105,6 +112,9 @@ impl ClockQuality {
             & (self.unsynchronized < scope::COUNT_BOUND)
             & (self.invalid < scope::COUNT_BOUND)
             & (self.unknown < scope::COUNT_BOUND)
+            & (self.invalid_sender < scope::COUNT_BOUND)
+            & (self.invalid_reflector < scope::COUNT_BOUND)
+            & (self.invalid_both < scope::COUNT_BOUND)
     }
 
     // The host's call: refused where a count is at its bound.
@@ -144,6 +154,9 @@ impl ClockQuality {
             unsynchronized: self.unsynchronized,
             invalid: self.invalid,
             unknown: self.unknown + 1,
+            invalid_sender: self.invalid_sender,
+            invalid_reflector: self.invalid_reflector,
+            invalid_both: self.invalid_both,
             sender: LastEstimate::Absent,
             reflector: LastEstimate::Absent,
             largest,
@@ -156,18 +169,30 @@ impl ClockQuality {
     {
         let first = sender.error;
         let second = reflector.error;
-        let ErrorMs::Known(x) = first else {
-            return self.with_invalid(sender, reflector);
+        let Reading::Known(x) = first else {
+            return self.without_sender(sender, reflector);
         };
-        let ErrorMs::Known(y) = second else {
-            return self.with_invalid(sender, reflector);
+        let Reading::Known(y) = second else {
+            return self.invalid_at_reflector(sender, reflector);
         };
         self.with_errors(sender, reflector, x + y)
     }
 
-    fn with_invalid(self, sender: ClockEstimate, reflector: ClockEstimate) -> ClockQuality
+    // The sender's estimate is invalid, and the reflector's too or not.
+    fn without_sender(self, sender: ClockEstimate, reflector: ClockEstimate) -> ClockQuality
         requires { ⌜ Bounded self ⌝ }
-        ensures { λ r. ⌜ r ≡ classed self invalid (LastEstimate.Seen sender) (LastEstimate.Seen reflector) (self .largest) ⌝ }
+        ensures { λ r. ⌜ r ≡ classed self (invalidWith (isKnown (reflector .error))) (LastEstimate.Seen sender) (LastEstimate.Seen reflector) (self .largest) ⌝ }
+    {
+        let second = reflector.error;
+        let Reading::Known(_) = second else {
+            return self.invalid_at_both(sender, reflector);
+        };
+        self.invalid_at_sender(sender, reflector)
+    }
+
+    fn invalid_at_sender(self, sender: ClockEstimate, reflector: ClockEstimate) -> ClockQuality
+        requires { ⌜ Bounded self ⌝ }
+        ensures { λ r. ⌜ r ≡ classed self invalidSender (LastEstimate.Seen sender) (LastEstimate.Seen reflector) (self .largest) ⌝ }
     {
         let largest = self.largest;
         ClockQuality {
@@ -176,6 +201,49 @@ impl ClockQuality {
             unsynchronized: self.unsynchronized,
             invalid: self.invalid + 1,
             unknown: self.unknown,
+            invalid_sender: self.invalid_sender + 1,
+            invalid_reflector: self.invalid_reflector,
+            invalid_both: self.invalid_both,
+            sender: LastEstimate::Seen(sender),
+            reflector: LastEstimate::Seen(reflector),
+            largest,
+        }
+    }
+
+    fn invalid_at_reflector(self, sender: ClockEstimate, reflector: ClockEstimate) -> ClockQuality
+        requires { ⌜ Bounded self ⌝ }
+        ensures { λ r. ⌜ r ≡ classed self invalidReflector (LastEstimate.Seen sender) (LastEstimate.Seen reflector) (self .largest) ⌝ }
+    {
+        let largest = self.largest;
+        ClockQuality {
+            samples: self.samples + 1,
+            both: self.both,
+            unsynchronized: self.unsynchronized,
+            invalid: self.invalid + 1,
+            unknown: self.unknown,
+            invalid_sender: self.invalid_sender,
+            invalid_reflector: self.invalid_reflector + 1,
+            invalid_both: self.invalid_both,
+            sender: LastEstimate::Seen(sender),
+            reflector: LastEstimate::Seen(reflector),
+            largest,
+        }
+    }
+
+    fn invalid_at_both(self, sender: ClockEstimate, reflector: ClockEstimate) -> ClockQuality
+        requires { ⌜ Bounded self ⌝ }
+        ensures { λ r. ⌜ r ≡ classed self invalidBoth (LastEstimate.Seen sender) (LastEstimate.Seen reflector) (self .largest) ⌝ }
+    {
+        let largest = self.largest;
+        ClockQuality {
+            samples: self.samples + 1,
+            both: self.both,
+            unsynchronized: self.unsynchronized,
+            invalid: self.invalid + 1,
+            unknown: self.unknown,
+            invalid_sender: self.invalid_sender,
+            invalid_reflector: self.invalid_reflector,
+            invalid_both: self.invalid_both + 1,
             sender: LastEstimate::Seen(sender),
             reflector: LastEstimate::Seen(reflector),
             largest,
@@ -190,7 +258,7 @@ impl ClockQuality {
         combined: f64,
     ) -> ClockQuality
         requires { ⌜ Bounded self ⌝ }
-        ensures { λ r. ⌜ r ≡ classed self (pairClass true (sender .synchronized && reflector .synchronized)) (LastEstimate.Seen sender) (LastEstimate.Seen reflector) (largerOf (self .largest) combined) ⌝ }
+        ensures { λ r. ⌜ r ≡ classed self (knownClass (sender .synchronized && reflector .synchronized)) (LastEstimate.Seen sender) (LastEstimate.Seen reflector) (largerOf (self .largest) combined) ⌝ }
     {
         let before = self.largest;
         let largest = larger(before, combined);
@@ -201,6 +269,9 @@ impl ClockQuality {
                 unsynchronized: self.unsynchronized,
                 invalid: self.invalid,
                 unknown: self.unknown,
+                invalid_sender: self.invalid_sender,
+                invalid_reflector: self.invalid_reflector,
+                invalid_both: self.invalid_both,
                 sender: LastEstimate::Seen(sender),
                 reflector: LastEstimate::Seen(reflector),
                 largest,
@@ -212,6 +283,9 @@ impl ClockQuality {
             unsynchronized: self.unsynchronized + 1,
             invalid: self.invalid,
             unknown: self.unknown,
+            invalid_sender: self.invalid_sender,
+            invalid_reflector: self.invalid_reflector,
+            invalid_both: self.invalid_both,
             sender: LastEstimate::Seen(sender),
             reflector: LastEstimate::Seen(reflector),
             largest,

@@ -18,8 +18,8 @@ use Rattle.estimate.proofs.ErrorEstimate.to_wire.Kinds as to-wire
 use Rattle.estimate.proofs.ErrorEstimate.to_wire.Reads as to-wire'
 use Rattle.estimate.proofs.ErrorEstimate.error_seconds.Kinds as error-seconds
 use Rattle.estimate.proofs.ErrorEstimate.error_seconds.Reads as error-seconds'
-use Rattle.estimate.proofs.ErrorEstimate.error_ms.Kinds as error-ms
-use Rattle.estimate.proofs.ErrorEstimate.error_ms.Reads as error-ms'
+use Rattle.estimate.proofs.ErrorEstimate.reading.Kinds as reading
+use Rattle.estimate.proofs.ErrorEstimate.reading.Reads as reading'
 
 pub new-unique : OneAnswer new.ps new.r new'.Post
 new-unique κs a x y s t p q = p ∙ sym q
@@ -45,5 +45,5 @@ to-wire-unique κs a x y s t p q = p ∙ sym q
 pub error-seconds-unique : OneAnswer error-seconds.ps error-seconds.r error-seconds'.Post
 error-seconds-unique κs a x y s t p q = exactly-one x y _ _ p q
 
-pub error-ms-unique : OneAnswer error-ms.ps error-ms.r error-ms'.Post
-error-ms-unique κs a x y s t p q = p .is ∙ sym (q .is)
+pub reading-unique : OneAnswer reading.ps reading.r reading'.Post
+reading-unique κs a x y s t p q = p .is ∙ sym (q .is)

@@ -1,5 +1,5 @@
--- What the proofs of `error_seconds` and `error_ms` cite. Assumes nothing.
-use mathlib.Core.Path.{_≡_, refl, ap}
+-- What the proofs of `error_seconds` and `reading` cite. Assumes nothing.
+use mathlib.Core.Path.{_≡_, refl, sym, ap, _∙_}
 use mathlib.Core.Bool.{Bool, true, false, _&&_}
 use Prim.Native.Nat.{ℕ, _+_, _*_, _^_, _≤_, _<_}
 use native.Mathlib.Nat.{zero-lt-suc, mul-right-comm}
@@ -7,14 +7,15 @@ use native.Mathlib.Omega.{arith}
 use lib.IntN.{pos}
 use lib.Dec.{ltb, leb, lit≤}
 use lib.Pow.{pow-pos}
-use lib.Ieee.{Float, binary64, round, mul, ofInt, ofBits}
+use lib.Ieee.{Float, binary64, mul, ofInt, ofBits}
 use lib.Ieee.Exact.{HasValue}
 use borrow.Author.Tests.{le-ltb, lt-ltb, le-leb, lt-leb}
 use Rattle.floats.specs.Exact.{Exactly}
 use Rattle.floats.proofs.Values.{whole-val, power-at, exact-product}
 use Rattle.estimate.specs.declared.ErrorEstimate.{ErrorEstimate}
-use Rattle.estimate.specs.declared.ErrorMs.the-variants.{Known, Invalid}
-use Rattle.estimate.specs.Error.{knownIf, InMs}
+use Rattle.estimate.specs.declared.Reading.the-variants.{Known, Invalid}
+use Rattle.estimate.specs.Wire.{wireOf}
+use Rattle.estimate.specs.Error.{knownIf, errorKnown, msOf, InMs}
 
 pub seconds-val : (m s : ℕ) (p : Float) → m < 256 → s < 256 → HasValue p false (2 ^ (s + 991)) (2 ^ 1023) → Exactly (mul binary64 (ofInt binary64 (pos m)) p) (m * 2 ^ s) (2 ^ 32)
 seconds-val m s p M S h =
@@ -41,15 +42,19 @@ ms-val m s x M S h =
     small : (m : ℕ) → m < 256 → m * 1000 < 2 ^ 53
     small m h = omega arith
 
--- ---- the three ways through `error_ms`
-pub is-zero : (e : ErrorEstimate) → e .multiplier ≡ 0 → InMs e Invalid
-is-zero e h = record { is = simp (le-ltb 0 (e .multiplier) (omega arith)); exact = tt }
+-- ---- the three ways through `reading`
+-- invalid, with the bits that `to_wire` gave
+unknown : (e : ErrorEstimate) (bits : ℕ) → bits ≡ wireOf e → errorKnown e ≡ false → InMs e (Invalid bits)
+unknown e bits w h = record { is = ap Invalid w ∙ sym (ap (λ (b : Bool). knownIf b (msOf e) (wireOf e)) h); exact = tt }
 
-pub is-high : (e : ErrorEstimate) → 63 < e .scale → InMs e Invalid
-is-high e h = record { is = both (ltb 0 (e .multiplier)) (leb (e .scale) 63) (lt-leb (e .scale) 63 h); exact = tt }
+pub is-zero : (e : ErrorEstimate) (bits : ℕ) → bits ≡ wireOf e → e .multiplier ≡ 0 → InMs e (Invalid bits)
+is-zero e bits w h = unknown e bits w (ap (λ (b : Bool). b && leb (e .scale) 63) (le-ltb 0 (e .multiplier) (omega arith)))
+
+pub is-high : (e : ErrorEstimate) (bits : ℕ) → bits ≡ wireOf e → 63 < e .scale → InMs e (Invalid bits)
+is-high e bits w h = unknown e bits w (both (ltb 0 (e .multiplier)) (leb (e .scale) 63) (lt-leb (e .scale) 63 h))
   where
-    both : (a b : Bool) → b ≡ false → Invalid ≡ knownIf (a && b) (round binary64 false (e .multiplier * 1000 * 2 ^ e .scale) (2 ^ 32))
-    both true b h = rw h
+    both : (a b : Bool) → b ≡ false → a && b ≡ false
+    both true b h = h
     both false b h = refl
 
 pub is-known : (e : ErrorEstimate) (x : Float) → (e .multiplier ≡ 0 → ⊥) → e .scale ≤ 63 → Exactly x (e .multiplier * 1000 * 2 ^ e .scale) (2 ^ 32) → InMs e (Known x)

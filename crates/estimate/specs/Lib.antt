@@ -1,5 +1,5 @@
 pub mod Wire
 pub mod Make
-pub mod Error
 pub mod RoundTrip
+pub mod Error
 pub mod Examples

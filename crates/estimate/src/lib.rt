@@ -1,5 +1,5 @@
 // A port of src/error_estimate.rs and src/clock_format.rs: the 16-bit error estimate of a STAMP timestamp.
-// Its error in ms is `ClockEstimate::error_ms` of src/stats/clock_quality.rs.
+// Its reading has `ClockEstimate::error_ms` of src/stats/clock_quality.rs.
 ghost use mathlib.Core.Path.{_≡_};
 ghost use mathlib.Core.Bool.{false};
 ghost use Prim.Native.Nat.{_<_};
@@ -33,10 +33,11 @@ pub enum Made {
     Refused(u8),
 }
 
-// An error in ms. RFC 4656, section 4.1.2: the multiplier 0 is invalid, not an error of zero.
-pub enum ErrorMs {
+// The reading of one estimate: known with its error in ms, or invalid with its 16 bits, so that what came can be seen.
+// RFC 4656, section 4.1.2: the multiplier 0 is invalid, not an error of zero.
+pub enum Reading {
     Known(f64),
-    Invalid,
+    Invalid(u16),
 }
 
 impl ErrorEstimate {
@@ -134,18 +135,18 @@ impl ErrorEstimate {
         (self.multiplier as f64) * power
     }
 
-    // The error in ms: invalid for the multiplier 0, and for a scale that is not one of six bits.
-    pub fn error_ms(self) -> ErrorMs
+    // The error in ms; invalid for the multiplier 0, and for a scale that is not one of six bits, with the bits that `to_wire` gives.
+    pub fn reading(self) -> Reading
         ensures { λ r. ⌜ InMs self r ⌝ }
     {
         if self.multiplier == 0 {
-            return ErrorMs::Invalid;
+            return Reading::Invalid(self.to_wire());
         }
         if self.scale > 63 {
-            return ErrorMs::Invalid;
+            return Reading::Invalid(self.to_wire());
         }
         let seconds = self.error_seconds();
-        ErrorMs::Known(seconds * 1000.0)
+        Reading::Known(seconds * 1000.0)
     }
 }
 

@@ -7,11 +7,11 @@ use Rattle.clock_quality.proofs.clock_estimate.Tie as tie
 clock-format-requires : tie.Need-clock-format-requires
 clock-format-requires c κs = search needs
 
-error-ms-requires : tie.Need-error-ms-requires
-error-ms-requires c κs = search needs
+reading-requires : tie.Need-reading-requires
+reading-requires c κs = search needs
 
 returns : tie.Need-returns
-returns c = estimated (c .before .before .args .estimate) _ _ (c .before .clock-format .ensures) (c .error-ms .ensures .is)
+returns c = estimated (c .before .before .args .estimate) _ _ (c .before .clock-format .ensures) (c .reading .ensures .is)
 
 pub clock-estimate-spec : {M : Type 1} → statement M
-clock-estimate-spec = tie.close (tie.spec clock-format-requires error-ms-requires returns)
+clock-estimate-spec = tie.close (tie.spec clock-format-requires reading-requires returns)

@@ -11,11 +11,11 @@ enum-known-first c = search needs
 enum-told : tie.Need-enum-told
 enum-told c = search needs
 
-with-invalid-requires : tie.Need-with-invalid-requires
-with-invalid-requires c κs = search needs
+without-sender-requires : tie.Need-without-sender-requires
+without-sender-requires c κs = search needs
 
 returns : tie.Need-returns
-returns c = c .with-invalid .ensures ∙ no-sender (c .before .before .before .args .self) _ _ (c .before .enum-told .given .1)
+returns c = c .without-sender .ensures ∙ no-sender (c .before .before .before .args .self) _ _ _ (c .before .enum-told .given .1)
 
 enum-known-second : tie.Need-enum-known-second
 enum-known-second c = search needs
@@ -23,11 +23,11 @@ enum-known-second c = search needs
 enum-told-2 : tie.Need-enum-told-2
 enum-told-2 c = search needs
 
-with-invalid-requires-2 : tie.Need-with-invalid-requires-2
-with-invalid-requires-2 c κs = search needs
+invalid-at-reflector-requires : tie.Need-invalid-at-reflector-requires
+invalid-at-reflector-requires c κs = search needs
 
 returns-2 : tie.Need-returns-2
-returns-2 c = c .with-invalid2 .ensures ∙ no-reflector (c .before .before .before .before .before .before .args .self) _ _ _ (c .before .before .before .before .first .given .1) (c .before .enum-told2 .given .1)
+returns-2 c = c .invalid-at-reflector .ensures ∙ no-reflector (c .before .before .before .before .before .before .args .self) _ _ _ _ (c .before .before .before .before .first .given .1) (c .before .enum-told2 .given .1)
 
 with-errors-requires : tie.Need-with-errors-requires
 with-errors-requires c κs = search needs
@@ -41,11 +41,11 @@ with-estimates-spec =
     (tie.spec
     enum-known-first
     enum-told
-    with-invalid-requires
+    without-sender-requires
     returns
     enum-known-second
     enum-told-2
-    with-invalid-requires-2
+    invalid-at-reflector-requires
     returns-2
     with-errors-requires
     returns-3)
