@@ -9,6 +9,7 @@ use Rattle.estimate.specs.declared.ErrorEstimate.{ErrorEstimate}
 use Rattle.estimate.specs.declared.Estimates.the-variants.{Absent as NoEstimates, Pair}
 use Rattle.clock_quality.specs.declared.LastEstimate.the-variants as last
 use Rattle.clock_quality.specs.declared.LargestError.the-variants as largest
+use Rattle.clock_quality.specs.declared.ClockQuality.{ClockQuality}
 use Rattle.clock_quality.specs.Samples as samples
 use Rattle.history.specs.Counting.{has}
 use Rattle.history.specs.Ledger.{rememberings, without, distinct, accepted, hasKey, lastAccepted, held, replyClass, ready, afterReply, events}
@@ -42,6 +43,9 @@ corrected-quality : clockQuality 4 1 corrected ≡ record {
   unsynchronized = 0;
   invalid = 0;
   unknown = 1;
+  «invalid_sender» = 0;
+  «invalid_reflector» = 0;
+  «invalid_both» = 0;
   sender = last.Absent;
   reflector = last.Absent;
   largest = largest.Absent;
@@ -60,6 +64,18 @@ three-samples : (qualityOf (NoEstimates ∷ Pair (clock 1) (clock 0) ∷ Pair (c
     × (qualityOf (NoEstimates ∷ Pair (clock 1) (clock 0) ∷ Pair (clock 1) (clock 1) ∷ []) .sender ≡ last.Absent)
 unfolding samples.count
 three-samples = (refl, refl, refl, refl)
+
+-- whose estimate is invalid, and that the clocks do not matter then: newest first at both, at the reflector beside a sender that is not synchronized,
+-- at the sender beside a synchronized reflector; a sample without estimates counts in none
+abbrev loose : ℕ → ErrorEstimate
+loose m = record { synchronized = false; ptp = false; scale = 0; multiplier = m }
+
+abbrev ends : ClockQuality
+ends = qualityOf (Pair (clock 0) (loose 0) ∷ Pair (loose 1) (clock 0) ∷ NoEstimates ∷ Pair (clock 0) (clock 1) ∷ Pair (loose 0) (clock 1) ∷ [])
+
+whose : (ends .invalid ≡ 4) × (ends .«invalid_sender» ≡ 2) × (ends .«invalid_reflector» ≡ 1) × (ends .«invalid_both» ≡ 1) × (ends .unsynchronized ≡ 0) × (ends .unknown ≡ 1)
+unfolding samples.count
+whose = (refl, refl, refl, refl, refl, refl)
 
 -- the sender's estimate first
 both-given : given (some (record { sender = clock 1; reflector = clock 0 })) ≡ Pair (clock 1) (clock 0)

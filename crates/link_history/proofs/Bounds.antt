@@ -14,7 +14,7 @@ use Rattle.scope.specs.Limits.{capacity, mostCalls, countBound, sumBound}
 use Rattle.estimate.specs.declared.Estimates.{Estimates}
 use Rattle.calls.specs.declared.Call.{Call}
 use Rattle.chains.proofs.Tests.{lt-true}
-use Rattle.clock_quality.specs.Quality.{Class, isBoth, isUnsynchronized, isInvalid, isUnknown}
+use Rattle.clock_quality.specs.Quality.{Class, isBoth, isUnsynchronized, isInvalid, isUnknown, isInvalidSender, isInvalidReflector, isInvalidBoth}
 use Rattle.clock_quality.specs.Samples as samples
 use Rattle.clock_quality.specs.Bounds as clock_quality
 use Rattle.replies.specs.Bounds.{repliesFit}
@@ -94,7 +94,8 @@ module _ (copies : ℕ) (copies-in : copies < 2 ^ 16) (h : List Call) (room : ca
 
   quality-fit : clock_quality.countsFit (clockQuality capacity copies h) ≡ true
   quality-fit =
-      both-hold _ _ (both-hold _ _ (both-hold _ _ (both-hold _ _ (few (length es) many) (class-few isBoth)) (class-few isUnsynchronized)) (class-few isInvalid)) (class-few isUnknown)
+      both-hold _ _ (both-hold _ _ (both-hold _ _ (both-hold _ _ (both-hold _ _ (both-hold _ _ (both-hold _ _ (few (length es) many) (class-few isBoth)) (class-few isUnsynchronized)) (class-few isInvalid)) (class-few isUnknown))
+      (class-few isInvalidSender)) (class-few isInvalidReflector)) (class-few isInvalidBoth)
     where
       es : List Estimates
       es = estimates (measured capacity copies (events capacity h))

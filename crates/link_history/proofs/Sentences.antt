@@ -1,7 +1,7 @@
 -- The customer's sentences, each a theorem about what the code's own calls show: of a link made fresh over any rooms, after any calls cs, refused
 -- ones included; h are the served ones.
 -- Assumes nothing.
-use mathlib.Core.Path.{_≡_, refl, sym, ap, _∙_}
+use mathlib.Core.Path.{_≡_, refl, sym, ap, subst, _∙_}
 use mathlib.Core.Bool.{Bool, true, false, cond}
 use mathlib.Core.Logic.{_↔_}
 use mathlib.Core.List.{List, [], List·Memᴰ}
@@ -23,9 +23,11 @@ use Rattle.key_ring.proofs.Holders.{observed-at-most}
 use Rattle.history.specs.Given.{packetOf}
 use Rattle.history.specs.Ledger.{Class, duplicate, unknown, unique, copiesOf, lastAccepted, replyClass, answerBy, answer, isReply, count, events}
 use Rattle.history.specs.DirectLoss.{spans, shownReverse, highestLessSeen}
-use Rattle.history.specs.FollowUps.{hasFollow}
+use Rattle.history.specs.FollowUps.{hasFollow, measured}
+use Rattle.history.specs.Figures.{estimates}
 use Rattle.history.proofs.Missing.{reverse-missing-is}
 use Rattle.history.proofs.Sentences.{duplicate-exactly, replies-add-up, unique-is-answered-plus-additional, classes-add-up}
+use Rattle.clock_quality.specs.Samples.{AddsUp}
 use Rattle.ledger_snapshot.specs.declared.Snapshot.{Snapshot}
 use Rattle.ledger_snapshot.specs.Snapshot.{snapshotOf}
 use Rattle.thousandths.specs.declared.Thousandths.the-variants.{Absent}
@@ -39,6 +41,7 @@ use Rattle.reply_history.specs.Follows.{asAccepted, keysTable}
 use Rattle.observe_history.specs.Direct.{packetsOf, since}
 use Rattle.observe_history.specs.FollowUps.{slotHeld}
 use Rattle.observe_history.proofs.DirectShown.{reverse-shows}
+use Rattle.observe_history.proofs.Quality.{quality-adds-up}
 use Rattle.link_steps.specs.Steps.{Standing, acceptResult, refuses, after, played, served}
 use Rattle.link_history.specs.Fresh.{Making, MakingFits, freshLink, wordsIn, standOf, AllFits}
 use Rattle.link_history.specs.Shows.{LedgerShows}
@@ -133,6 +136,10 @@ module _ (m : Making) (ok : MakingFits m) (cs : List Call) (w : AllFits cs) wher
 
   pub follow-ups-shown : shown .follow .counts .observations ≡ count capacity (hasFollow capacity (copiesOf (m .copies))) h
   follow-ups-shown = ap (λ (x : Snapshot). x .follow .counts .observations) (shows .snapshot)
+
+  -- invalid at the sender alone, at the reflector alone and at both are the samples shown as invalid
+  pub invalid-shown-adds-up : AddsUp (shown .follow .quality)
+  invalid-shown-adds-up = subst (λ (x : Snapshot). AddsUp (x .follow .quality)) (sym (shows .snapshot)) (quality-adds-up (estimates (measured capacity (copiesOf (m .copies)) (events capacity h))))
 
   -- ---- no figure of loss is shown exactly when nothing was requested
 

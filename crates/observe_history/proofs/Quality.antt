@@ -4,7 +4,7 @@ use mathlib.Core.List.{List, [], _∷_}
 use Rattle.estimate.specs.declared.Estimates.{Estimates}
 use Rattle.clock_quality.specs.declared.ClockQuality.{ClockQuality}
 use Rattle.clock_quality.specs.Quality.{fresh, recordedOf}
-use Rattle.clock_quality.specs.Samples.{played, Shows, recorded-shows, fresh-shows, played-shows}
+use Rattle.clock_quality.specs.Samples.{played, Shows, recorded-shows, fresh-shows, played-shows, AddsUp, invalid-adds-up}
 use Rattle.history.specs.Figures.{qualityOf}
 
 -- what shows a list is the quality of that list
@@ -15,6 +15,9 @@ shows-is es q s = λ i. record {
   unsynchronized = s .unsynchronized i;
   invalid = s .invalid i;
   unknown = s .unknown i;
+  «invalid_sender» = s .«invalid_sender» i;
+  «invalid_reflector» = s .«invalid_reflector» i;
+  «invalid_both» = s .«invalid_both» i;
   sender = s .sender i;
   reflector = s .reflector i;
   largest = s .largest i;
@@ -27,6 +30,9 @@ is-shown es = record {
   unsynchronized = refl;
   invalid = refl;
   unknown = refl;
+  «invalid_sender» = refl;
+  «invalid_reflector» = refl;
+  «invalid_both» = refl;
   sender = refl;
   reflector = refl;
   largest = refl;
@@ -41,3 +47,7 @@ one-sample-more es e = shows-is (e ∷ es) (recordedOf (qualityOf es) e) (record
 -- recording the samples of a list from fresh leaves the quality of that list
 pub quality-played : (es : List Estimates) → played es ≡ qualityOf es
 quality-played es = shows-is es (played es) (played-shows es)
+
+-- "the three add up to the invalid count that exists", of every list of samples
+pub quality-adds-up : (es : List Estimates) → AddsUp (qualityOf es)
+quality-adds-up es = invalid-adds-up es
