@@ -71,6 +71,9 @@ fn quality_fits(state: &[u64; LEDGER_WORDS]) -> bool
         & (state[60] < COUNT_BOUND)
         & (state[61] < COUNT_BOUND)
         & (state[62] < COUNT_BOUND)
+        & (state[63] < COUNT_BOUND)
+        & (state[64] < COUNT_BOUND)
+        & (state[65] < COUNT_BOUND)
 }
 
 fn follow_fits(state: &[u64; LEDGER_WORDS]) -> bool

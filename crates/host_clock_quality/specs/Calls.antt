@@ -23,7 +23,7 @@ pub record Left : Type 0 where
 abbrev pub left : ℕ → List ℕ → Left
 left n ws = record { number = n; words = ws }
 
--- no sample yet; the twelfth word stays
+-- no sample yet; the last two words stay
 unfoldable pub freshTo : List ℕ → Left
 freshTo ws = left 0 (sets ws 0 (qualityWords fresh))
 
@@ -31,7 +31,7 @@ freshTo ws = left 0 (sets ws 0 (qualityWords fresh))
 abbrev pub estimatesFrom : ℕ → ℕ → ℕ → Estimates
 estimatesFrom estimated sender reflector = cond (isSet estimated) (estimates.Pair (estimateOf sender) (estimateOf reflector)) estimates.Absent
 
--- served: the quality as it then stands, the twelfth word stays; a refusal changes nothing
+-- served: the quality as it then stands, the last two words stay; a refusal changes nothing
 abbrev pub recordAfter : Recorded → List ℕ → Left
 recordAfter (recorded.Quality next) ws = left 0 (sets ws 0 (qualityWords next))
 recordAfter (recorded.Refused n) ws = left n ws

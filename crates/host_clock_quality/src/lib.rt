@@ -1,7 +1,8 @@
-// The host's calls of crate clock_quality that change a quality, which is twelve lent words (crate host_clock_quality_words).
+// The host's calls of crate clock_quality that change a quality, which is lent words (crate host_clock_quality_words).
 use clock_quality::Recorded;
 use estimate::ErrorEstimate;
 use estimate::Estimates;
+use host_clock_quality_words::QUALITY_WORDS;
 ghost use mathlib.Core.Path.{_≡_};
 ghost use Rattle.host_clock_quality.specs.Calls.{left, estimatesFrom, freshTo, recordTo};
 
@@ -18,7 +19,7 @@ fn estimates_from(estimated: u32, sender: u16, reflector: u16) -> Estimates
 
 // No sample yet: counts of 0, and nothing that is there.
 #[no_mangle]
-pub extern "C" fn ambrulicciu_clock_quality_fresh(quality: &mut [u64; 12]) -> u8
+pub extern "C" fn ambrulicciu_clock_quality_fresh(quality: &mut [u64; QUALITY_WORDS]) -> u8
     ensures { λ r. ⌜ left r (now (quality .exit)) ≡ freshTo (now (quality .entry)) ⌝ }
 {
     quality[0] = 0;
@@ -32,13 +33,16 @@ pub extern "C" fn ambrulicciu_clock_quality_fresh(quality: &mut [u64; 12]) -> u8
     quality[8] = 0;
     quality[9] = 0;
     quality[10] = 0;
+    quality[11] = 0;
+    quality[12] = 0;
+    quality[13] = 0;
     0
 }
 
 // One sample more: the two estimates as on the wire, or none where `estimated` is 0. Refused where a count is at its bound.
 #[no_mangle]
 pub extern "C" fn ambrulicciu_clock_quality_record(
-    quality: &mut [u64; 12],
+    quality: &mut [u64; QUALITY_WORDS],
     estimated: u32,
     sender: u16,
     reflector: u16,

@@ -1,4 +1,4 @@
--- What the proof of the call cites: 21 words over a room of 21 are the room. Assumes nothing.
+-- What the proof of the call cites: 26 words over a room of 26 are the room. Assumes nothing.
 use mathlib.Core.Path.{_≡_, refl, sym, ap, _∙_}
 use mathlib.Core.List.{List}
 use Prim.Native.Nat.{ℕ}
@@ -13,16 +13,16 @@ use Rattle.host_shown.specs.Words.{estimateWords, qualityWords}
 use Rattle.host_shown.proofs.Laws.{placed-all}
 use Rattle.host_clock_quality_summary.specs.Summary.{Summary}
 
-seven : (l : LastEstimate) → length (estimateWords l) ≡ 7
+eight : (l : LastEstimate) → length (estimateWords l) ≡ 8
 unfolding estimateWords
-seven last.Absent = refl
-seven (last.Seen e) = refl
+eight last.Absent = refl
+eight (last.Seen e) = refl
 
-all : (q : ClockQuality) → length (qualityWords q) ≡ 21
+all : (q : ClockQuality) → length (qualityWords q) ≡ 26
 unfolding qualityWords
-all q = simp length-append (omega (arith, seven (q .sender), seven (q .reflector)))
+all q = simp length-append (omega (arith, eight (q .sender), eight (q .reflector)))
 
-pub shown-said : (ws room after : List ℕ) (q : ClockQuality) → length room ≡ 21 → q ≡ qualityAt 0 ws → after ≡ sets room 0 (qualityWords q) → Summary ws 0 after
+pub shown-said : (ws room after : List ℕ) (q : ClockQuality) → length room ≡ 26 → q ≡ qualityAt 0 ws → after ≡ sets room 0 (qualityWords q) → Summary ws 0 after
 shown-said ws room after q long is left = record {
   served = refl;
   words = left ∙ placed-all (qualityWords q) room (all q ∙ sym long) ∙ ap qualityWords is;

@@ -9,14 +9,14 @@ use lib.Seq.{sets}
 use Rattle.host_numbers.specs.Numbers.{flagWord, isSet}
 use Rattle.estimate.specs.declared.ClockFormat.{ClockFormat}
 use Rattle.estimate.specs.declared.ErrorEstimate.{ErrorEstimate}
-use Rattle.estimate.specs.declared.ErrorMs.{ErrorMs}
-use Rattle.estimate.specs.declared.ErrorMs.the-variants.{Known, Invalid}
+use Rattle.estimate.specs.declared.Reading.{Reading}
+use Rattle.estimate.specs.declared.Reading.the-variants.{Known, Invalid}
 use Rattle.estimate.specs.declared.Made.{Made}
 use Rattle.estimate.specs.declared.Made.the-variants as made
 use Rattle.estimate.specs.Wire.{estimateOf, wireOf}
 use Rattle.estimate.specs.Make.{isPtp, formatOf, madeOf, smallest}
-use Rattle.estimate.specs.Error.{InSeconds, errorMs, ExactMs, InMs}
-use Rattle.host_estimate.specs.Calls.{left, wireAfter, newTo, unsynchronizedTo, partsOf, partsTo, leftSeconds, secondsTo, Seconds, leftMs, errorAfter, errorTo, Milliseconds}
+use Rattle.estimate.specs.Error.{InSeconds, readingOf, ExactMs, InMs}
+use Rattle.host_estimate.specs.Calls.{left, wireAfter, newTo, unsynchronizedTo, partsOf, partsTo, leftSeconds, secondsTo, Seconds, leftReading, readingAfter, readingTo, ReadingLeft}
 
 pub new-made :
     (synchronized ptp scale multiplier : ℕ) (wire : List ℕ) (m : Made) (e : ErrorEstimate) (w : ℕ)
@@ -64,17 +64,17 @@ in-seconds w before e x is s =
       exact = subst (λ (y : Float). InSeconds (estimateOf w) y) (t .only) t;
     }
 
--- what the library promises of an error, of the estimate that 16 bits say
-said : (w : ℕ) (e : ErrorEstimate) (r : ErrorMs) → e ≡ estimateOf w → InMs e r → InMs (estimateOf w) r
+-- what the library promises of a reading, of the estimate that 16 bits say
+said : (w : ℕ) (e : ErrorEstimate) (r : Reading) → e ≡ estimateOf w → InMs e r → InMs (estimateOf w) r
 said w e r is m = subst (λ (y : ErrorEstimate). InMs y r) is m
 
-exact-said : (w : ℕ) (r : ErrorMs) → InMs (estimateOf w) r → ExactMs (estimateOf w) (errorMs (estimateOf w))
+exact-said : (w : ℕ) (r : Reading) → InMs (estimateOf w) r → ExactMs (estimateOf w) (readingOf (estimateOf w))
 exact-said w r m = subst (ExactMs (estimateOf w)) (m .is) (m .exact)
 
-pub in-ms : (w : ℕ) (known : List ℕ) (ms : List Float) (e : ErrorEstimate) (r s : ErrorMs) → e ≡ estimateOf w → InMs e r → r ≡ s
-    → (number : ℕ) (known-after : List ℕ) (ms-after : List Float) → leftMs number known-after ms-after ≡ errorAfter s known ms
-    → Milliseconds w known ms number known-after ms-after
-unfolding errorTo
-in-ms w known ms e r s is m told number known-after ms-after left =
+pub read : (w : ℕ) (known : List ℕ) (ms : List Float) (received : List ℕ) (e : ErrorEstimate) (r s : Reading) → e ≡ estimateOf w → InMs e r → r ≡ s
+    → (number : ℕ) (known-after : List ℕ) (ms-after : List Float) (received-after : List ℕ) → leftReading number known-after ms-after received-after ≡ readingAfter s known ms received
+    → ReadingLeft w known ms received number known-after ms-after received-after
+unfolding readingTo
+read w known ms received e r s is m told number known-after ms-after received-after left =
     let n = said w e r is m in
-    record { is = left ∙ ap (λ (x : ErrorMs). errorAfter x known ms) (sym told ∙ n .is); exact = exact-said w r n }
+    record { is = left ∙ ap (λ (x : Reading). readingAfter x known ms received) (sym told ∙ n .is); exact = exact-said w r n }

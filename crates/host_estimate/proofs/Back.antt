@@ -4,6 +4,7 @@ use mathlib.Core.Bool.{Bool, true, false}
 use mathlib.Core.List.{List}
 use Prim.Native.Nat.{ℕ, _≤_, _<_, _%_, _/_}
 use native.Mathlib.Omega.{arith}
+use lib.Ieee.{Float}
 use lib.ListN.{length, getD, set}
 use lib.Seq.{getD-set-same}
 use Rattle.scope.specs.Refusals.{outOfRange}
@@ -14,7 +15,9 @@ use Rattle.estimate.specs.declared.Made.{Made}
 use Rattle.estimate.specs.Wire.{estimateOf, wireOf}
 use Rattle.estimate.specs.Make.{madeOf, in-range, above-range}
 use Rattle.estimate.specs.RoundTrip.{wire-back, estimate-back}
-use Rattle.host_estimate.specs.Calls.{Left, left, wireAfter, newTo}
+use Rattle.estimate.specs.declared.Reading.{Reading}
+use Rattle.estimate.specs.Error.{knownIf, errorKnown, msOf, as-received}
+use Rattle.host_estimate.specs.Calls.{Left, left, wireAfter, newTo, readingAfter, readingTo}
 
 -- a scale of six bits is served
 pub served : (synchronized ptp scale multiplier : ℕ) (wire : List ℕ) → scale ≤ 63
@@ -49,3 +52,9 @@ wire-again w wire h =
 
     same : _≡_ {A = ErrorEstimate} (record { synchronized = isSet (flagWord (estimateOf w .synchronized)); ptp = isSet (flagWord (estimateOf w .ptp)); scale = estimateOf w .scale; multiplier = estimateOf w .multiplier }) (estimateOf w)
     same = λ i. record { synchronized = flag-again (estimateOf w .synchronized) i; ptp = flag-again (estimateOf w .ptp) i; scale = estimateOf w .scale; multiplier = estimateOf w .multiplier }
+
+-- of an invalid estimate the call shows the 16 bits that were handed over
+pub received-back : (w : ℕ) (known : List ℕ) (ms : List Float) (received : List ℕ) → w < 65536
+    → readingTo w known ms received ≡ readingAfter (knownIf (errorKnown (estimateOf w)) (msOf (estimateOf w)) w) known ms received
+unfolding readingTo
+received-back w known ms received h = ap (λ (r : Reading). readingAfter r known ms received) (as-received w h)

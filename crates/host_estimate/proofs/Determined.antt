@@ -5,7 +5,7 @@ use borrow.Fn.World as World
 use borrow.Fn.Kinds as Kinds'
 use denote.Triple.Clauses as Clauses
 use denote.Ref.{now}
-use Rattle.host_estimate.specs.Calls.{Left, LeftSeconds, LeftMs}
+use Rattle.host_estimate.specs.Calls.{Left, LeftSeconds, LeftReading}
 use Rattle.host_estimate.proofs.ambrulicciu_estimate_new as new
 use Rattle.host_estimate.proofs.ambrulicciu_estimate_new.Kinds as new-kinds
 use Rattle.host_estimate.proofs.ambrulicciu_estimate_new.Reads as new-reads
@@ -47,9 +47,14 @@ pub seconds-unique :
 seconds-unique κs a r₁ r₂ s₁ s₂ p q = let e = p .is ∙ sym (q .is) in (ap (λ (l : LeftSeconds). l .number) e, ap (λ (l : LeftSeconds). l .seconds) e)
 
 pub error-unique :
-    (κs : Lfts 2) (a : World.ArgsD error.signature κs) (r₁ r₂ : World.ResD error.signature κs)
-    (s₁ s₂ : Clauses.AtExit (Kinds'.endedOf 2 error-kinds.ps error-kinds.r) κs)
+    (κs : Lfts 3) (a : World.ArgsD error.signature κs) (r₁ r₂ : World.ResD error.signature κs)
+    (s₁ s₂ : Clauses.AtExit (Kinds'.endedOf 3 error-kinds.ps error-kinds.r) κs)
     → error-reads.Post κs a r₁ s₁ → error-reads.Post κs a r₂ s₂
-    → (r₁ ≡ r₂) × (now (s₁ .1 .0) ≡ now (s₂ .1 .0)) × (now (s₁ .1 .1 .0) ≡ now (s₂ .1 .1 .0))
+    → (r₁ ≡ r₂) × (now (s₁ .1 .0) ≡ now (s₂ .1 .0)) × (now (s₁ .1 .1 .0) ≡ now (s₂ .1 .1 .0)) × (now (s₁ .1 .1 .1 .0) ≡ now (s₂ .1 .1 .1 .0))
 error-unique κs a r₁ r₂ s₁ s₂ p q =
-    let e = p .is ∙ sym (q .is) in (ap (λ (l : LeftMs). l .number) e, ap (λ (l : LeftMs). l .known) e, ap (λ (l : LeftMs). l .milliseconds) e)
+    let e = p .is ∙ sym (q .is) in (
+      ap (λ (l : LeftReading). l .number) e,
+      ap (λ (l : LeftReading). l .known) e,
+      ap (λ (l : LeftReading). l .milliseconds) e,
+      ap (λ (l : LeftReading). l .received) e,
+    )

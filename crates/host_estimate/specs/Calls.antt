@@ -8,13 +8,13 @@ use lib.ListN.{set}
 use lib.Seq.{sets}
 use Rattle.host_numbers.specs.Numbers.{flagWord, isSet}
 use Rattle.estimate.specs.declared.ErrorEstimate.{ErrorEstimate}
-use Rattle.estimate.specs.declared.ErrorMs.{ErrorMs}
-use Rattle.estimate.specs.declared.ErrorMs.the-variants.{Known, Invalid}
+use Rattle.estimate.specs.declared.Reading.{Reading}
+use Rattle.estimate.specs.declared.Reading.the-variants.{Known, Invalid}
 use Rattle.estimate.specs.declared.Made.{Made}
 use Rattle.estimate.specs.declared.Made.the-variants as made
 use Rattle.estimate.specs.Wire.{estimateOf, wireOf}
 use Rattle.estimate.specs.Make.{madeOf, smallest}
-use Rattle.estimate.specs.Error.{InSeconds, errorMs, ExactMs}
+use Rattle.estimate.specs.Error.{InSeconds, readingOf, ExactMs}
 
 -- what a call leaves: 0 or the refusal's number, and the lent words
 pub record Left : Type 0 where
@@ -70,26 +70,27 @@ pub record Seconds (w : ℕ) (before : List Float) (number : ℕ) (after : List 
   pub is : leftSeconds number after ≡ secondsTo w before
   pub exact : InSeconds (estimateOf w) (secondsOf (estimateOf w))
 
--- what a call of the error in ms leaves: 0, the word that says whether it is known, and the word of the error
-pub record LeftMs : Type 0 where
+-- what a call of the reading leaves: 0, the word that says whether the error is known, that of the error in ms, and that of the 16 bits
+pub record LeftReading : Type 0 where
   pub number : ℕ
   pub known : List ℕ
   pub milliseconds : List Float
+  pub received : List ℕ
 
 -- these
-abbrev pub leftMs : ℕ → List ℕ → List Float → LeftMs
-leftMs n known ms = record { number = n; known = known; milliseconds = ms }
+abbrev pub leftReading : ℕ → List ℕ → List Float → List ℕ → LeftReading
+leftReading n known ms received = record { number = n; known = known; milliseconds = ms; received = received }
 
--- 1 and the error, or 0 and 0.0
-abbrev pub errorAfter : ErrorMs → List ℕ → List Float → LeftMs
-errorAfter (Known x) known ms = leftMs 0 (set known 0 1) (set ms 0 x)
-errorAfter Invalid known ms = leftMs 0 (set known 0 0) (set ms 0 (ofBits binary64 0))
+-- 1, the error and 0; or 0, 0.0 and the bits
+abbrev pub readingAfter : Reading → List ℕ → List Float → List ℕ → LeftReading
+readingAfter (Known x) known ms received = leftReading 0 (set known 0 1) (set ms 0 x) (set received 0 0)
+readingAfter (Invalid bits) known ms received = leftReading 0 (set known 0 0) (set ms 0 (ofBits binary64 0)) (set received 0 bits)
 
--- the lent words have the error in ms of the estimate that 16 bits say, or that it is invalid; refuses nothing
-unfoldable pub errorTo : ℕ → List ℕ → List Float → LeftMs
-errorTo w known ms = errorAfter (errorMs (estimateOf w)) known ms
+-- the lent words have the reading of the estimate that 16 bits say; refuses nothing
+unfoldable pub readingTo : ℕ → List ℕ → List Float → List ℕ → LeftReading
+readingTo w known ms received = readingAfter (readingOf (estimateOf w)) known ms received
 
--- `error_ms` of the estimate that 16 bits say; where it is known, nothing was rounded
-pub record Milliseconds (w : ℕ) (known : List ℕ) (ms : List Float) (number : ℕ) (known-after : List ℕ) (ms-after : List Float) : Type 0 where
-  pub is : leftMs number known-after ms-after ≡ errorTo w known ms
-  pub exact : ExactMs (estimateOf w) (errorMs (estimateOf w))
+-- `reading` of the estimate that 16 bits say; where its error is known, nothing was rounded
+pub record ReadingLeft (w : ℕ) (known : List ℕ) (ms : List Float) (received : List ℕ) (number : ℕ) (known-after : List ℕ) (ms-after : List Float) (received-after : List ℕ) : Type 0 where
+  pub is : leftReading number known-after ms-after received-after ≡ readingTo w known ms received
+  pub exact : ExactMs (estimateOf w) (readingOf (estimateOf w))

@@ -1,11 +1,11 @@
 // The host's calls of crate estimate. An estimate crosses as the 16 bits of the wire; a flag as a number, 0 for no and anything else for yes.
 use estimate::ClockFormat;
 use estimate::ErrorEstimate;
-use estimate::ErrorMs;
 use estimate::Made;
+use estimate::Reading;
 ghost use mathlib.Core.Path.{_≡_};
 ghost use Rattle.estimate.specs.Make.{formatOf};
-ghost use Rattle.host_estimate.specs.Calls.{left, newTo, unsynchronizedTo, partsTo, Seconds, Milliseconds};
+ghost use Rattle.host_estimate.specs.Calls.{left, newTo, unsynchronizedTo, partsTo, Seconds, ReadingLeft};
 
 fn format_of(ptp: bool) -> ClockFormat
     ensures { λ r. ⌜ r ≡ formatOf ptp ⌝ }
@@ -70,25 +70,28 @@ pub extern "C" fn ambrulicciu_estimate_seconds(wire: u16, seconds: &mut [f64; 1]
     0
 }
 
-// The error in ms, where it is known; else both words are 0.
+// The reading: the error in ms where it is known, else the 16 bits as received. What is not there is 0.
 #[no_mangle]
 pub extern "C" fn ambrulicciu_estimate_error(
     wire: u16,
     known: &mut [u64; 1],
     milliseconds: &mut [f64; 1],
+    received: &mut [u16; 1],
 ) -> u8
-    ensures { λ r. ⌜ Milliseconds wire (now (known .entry)) (now (milliseconds .entry)) r (now (known .exit)) (now (milliseconds .exit)) ⌝ }
+    ensures { λ r. ⌜ ReadingLeft wire (now (known .entry)) (now (milliseconds .entry)) (now (received .entry)) r (now (known .exit)) (now (milliseconds .exit)) (now (received .exit)) ⌝ }
 {
     let estimate = ErrorEstimate::from_wire(wire);
-    let error = estimate.error_ms();
+    let error = estimate.reading();
     match error {
-        ErrorMs::Known(ms) => {
+        Reading::Known(ms) => {
             known[0] = 1;
             milliseconds[0] = ms;
+            received[0] = 0;
         }
-        ErrorMs::Invalid => {
+        Reading::Invalid(bits) => {
             known[0] = 0;
             milliseconds[0] = 0.0;
+            received[0] = bits;
         }
     }
     0

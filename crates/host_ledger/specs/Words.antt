@@ -1,7 +1,7 @@
 -- A ledger in the 80 words that a host lends:
 --   0 copies; 1 to 4 the words of the hash; 5 calls; 6, 7 head and length of the ring of keys; 8, 9 of probes; 10 whether a key awaits;
---   11 to 24 the counts of replies; 25 to 32 the round trips; 33 to 43 direct loss; 44 to 68 follow-ups (44 counts, 50 delays, 58 clock quality);
---   69 to 79 unused.
+--   11 to 24 the counts of replies; 25 to 32 the round trips; 33 to 43 direct loss; 44 to 71 follow-ups (44 counts, 50 delays, 58 clock quality);
+--   72 to 79 unused.
 -- Any words say a ledger. Assumes nothing.
 use mathlib.Core.List.{List, [], _∷_}
 use Prim.Native.Nat.{ℕ, _+_, _%_, _^_}

@@ -130,15 +130,18 @@ pub fn direct_of(state: &[u64; LEDGER_WORDS]) -> Direct
 fn quality_of(state: &[u64; LEDGER_WORDS]) -> ClockQuality
     ensures { λ r. ⌜ r ≡ qualityAt 58 (now (state .entry)) ⌝ }
 {
-    let largest = host_quality::largest_of(state[63], state[64]);
-    let sender = host_quality::last_of(state[65], state[66]);
-    let reflector = host_quality::last_of(state[67], state[68]);
+    let largest = host_quality::largest_of(state[66], state[67]);
+    let sender = host_quality::last_of(state[68], state[69]);
+    let reflector = host_quality::last_of(state[70], state[71]);
     ClockQuality {
         samples: state[58],
         both: state[59],
         unsynchronized: state[60],
         invalid: state[61],
         unknown: state[62],
+        invalid_sender: state[63],
+        invalid_reflector: state[64],
+        invalid_both: state[65],
         sender,
         reflector,
         largest,

@@ -42,7 +42,7 @@ direct-beyond v w b =
 pub follow-beyond : (v w : List ℕ) → Beyond 44 v w → followAt 44 v ≡ followAt 44 w
 unfolding followAt qualityAt
 follow-beyond v w b =
-    rw (b 44 (omega arith), b 45 (omega arith), b 46 (omega arith), b 47 (omega arith), b 48 (omega arith), b 49 (omega arith), b 50 (omega arith), b 51 (omega arith), b 52 (omega arith), b 53 (omega arith), b 54 (omega arith), b 55 (omega arith), b 56 (omega arith), b 57 (omega arith), b 58 (omega arith), b 59 (omega arith), b 60 (omega arith), b 61 (omega arith), b 62 (omega arith), b 63 (omega arith), b 64 (omega arith), b 65 (omega arith), b 66 (omega arith), b 67 (omega arith), b 68 (omega arith))
+    rw (b 44 (omega arith), b 45 (omega arith), b 46 (omega arith), b 47 (omega arith), b 48 (omega arith), b 49 (omega arith), b 50 (omega arith), b 51 (omega arith), b 52 (omega arith), b 53 (omega arith), b 54 (omega arith), b 55 (omega arith), b 56 (omega arith), b 57 (omega arith), b 58 (omega arith), b 59 (omega arith), b 60 (omega arith), b 61 (omega arith), b 62 (omega arith), b 63 (omega arith), b 64 (omega arith), b 65 (omega arith), b 66 (omega arith), b 67 (omega arith), b 68 (omega arith), b 69 (omega arith), b 70 (omega arith), b 71 (omega arith))
 
 -- ---- the stores of `observe`, in their order
 

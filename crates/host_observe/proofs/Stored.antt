@@ -103,7 +103,7 @@ pub bounded-without : (f : FollowUps) → InBounds f → InBounds (withoutLast f
 bounded-without f h = record { counts = h .counts; delay = h .delay; quality = quality-bounded (f .quality) (h .quality) }
   where
     quality-bounded : (q : ClockQuality) → quality.Bounded q → quality.Bounded (qualityWithoutLast q)
-    quality-bounded q b = record { samples = b .samples; both = b .both; unsynchronized = b .unsynchronized; invalid = b .invalid; unknown = b .unknown }
+    quality-bounded q b = record { samples = b .samples; both = b .both; unsynchronized = b .unsynchronized; invalid = b .invalid; unknown = b .unknown; «invalid_sender» = b .«invalid_sender»; «invalid_reflector» = b .«invalid_reflector»; «invalid_both» = b .«invalid_both» }
 
 -- it was counted without the last estimates
 pub replaced : (f before after : FollowUps) (m : Match) (offset given : ℤ) → given ≡ offset → before ≡ withoutLast f → after ≡ followed before (class.Matched m) given

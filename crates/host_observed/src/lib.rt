@@ -67,13 +67,16 @@ pub fn delay_of(state: &[u64; LEDGER_WORDS]) -> Delays
 fn quality_without_last(state: &[u64; LEDGER_WORDS]) -> ClockQuality
     ensures { λ r. ⌜ r ≡ qualityWithoutLast (qualityAt 58 (now (state .entry))) ⌝ }
 {
-    let largest = host_quality::largest_of(state[63], state[64]);
+    let largest = host_quality::largest_of(state[66], state[67]);
     ClockQuality {
         samples: state[58],
         both: state[59],
         unsynchronized: state[60],
         invalid: state[61],
         unknown: state[62],
+        invalid_sender: state[63],
+        invalid_reflector: state[64],
+        invalid_both: state[65],
         sender: LastEstimate::Absent,
         reflector: LastEstimate::Absent,
         largest,
@@ -178,12 +181,15 @@ fn store_quality(state: &mut [u64; LEDGER_WORDS], quality: ClockQuality)
     state[60] = quality.unsynchronized;
     state[61] = quality.invalid;
     state[62] = quality.unknown;
-    state[63] = host_quality::largest_word(largest);
-    state[64] = host_quality::largest_bits(largest);
-    state[65] = first.word;
-    state[66] = first.bits;
-    state[67] = second.word;
-    state[68] = second.bits;
+    state[63] = quality.invalid_sender;
+    state[64] = quality.invalid_reflector;
+    state[65] = quality.invalid_both;
+    state[66] = host_quality::largest_word(largest);
+    state[67] = host_quality::largest_bits(largest);
+    state[68] = first.word;
+    state[69] = first.bits;
+    state[70] = second.word;
+    state[71] = second.bits;
 }
 
 pub fn store_follow_counts(state: &mut [u64; LEDGER_WORDS], counts: FollowCounts)

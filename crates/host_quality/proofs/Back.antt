@@ -8,8 +8,10 @@ use lib.Dec.{T, eqb}
 use lib.Ieee.{Float, fits, binary64, ofBits, toBits}
 use Rattle.estimate.specs.declared.ClockFormat.{ClockFormat}
 use Rattle.estimate.specs.declared.ClockFormat.the-variants.{NTP, PTP}
-use Rattle.estimate.specs.declared.ErrorMs.{ErrorMs}
-use Rattle.estimate.specs.declared.ErrorMs.the-variants.{Known, Invalid}
+use Rattle.estimate.specs.declared.Reading.{Reading}
+use Rattle.estimate.specs.declared.Reading.the-variants.{Known, Invalid}
+use Rattle.estimate.specs.declared.ErrorEstimate.{ErrorEstimate}
+use Rattle.estimate.specs.Wire.{bit, wireOf}
 use Rattle.estimate.specs.Make.{isPtp, formatOf}
 use Rattle.clock_quality.specs.declared.ClockEstimate.{ClockEstimate}
 use Rattle.clock_quality.specs.declared.LastEstimate.{LastEstimate}
@@ -58,10 +60,25 @@ format-again : (f : ClockFormat) → formatOf (isPtp f) ≡ f
 format-again NTP = refl
 format-again PTP = refl
 
+-- ---- the bits of the wire are 16
+
+bit-below : (b : Bool) → bit b < 2
+bit-below true = omega arith
+bit-below false = omega arith
+
+pub wire-below : (e : ErrorEstimate) → e .multiplier < 256 → wireOf e < 65536
+wire-below e h = go (bit (e .synchronized)) (bit (e .ptp)) (e .scale) (bit-below (e .synchronized)) (bit-below (e .ptp))
+  where
+    go : (a b s : ℕ) → a < 2 → b < 2 → a * 32768 + b * 16384 + s % 64 * 256 + e .multiplier < 65536
+    go a b s p q = omega (arith, h)
+
 -- ---- the parts
 
 pub error-kept : (x : Float) (bits : ℕ) → bits ≡ toBits binary64 x → ofBits binary64 bits ≡ x → ErrorKept (Known x)
 error-kept x bits e again = ap Known (ap (ofBits binary64) (sym e) ∙ again)
+
+pub wire-kept : (bits : ℕ) → bits < 65536 → ErrorKept (Invalid bits)
+wire-kept bits h = ap Invalid (omega arith)
 
 pub error-again : (x : Float) → T (fits binary64 x) → ErrorKept (Known x)
 error-again x h = ap Known (float-again x h)
@@ -74,7 +91,7 @@ pub estimate-flags :
 unfolding estimateWord
 estimate-flags e a b k ptp known p q r s t = cc
 
-abbrev estimate : Bool → ClockFormat → ℕ → ℕ → ErrorMs → ClockEstimate
+abbrev estimate : Bool → ClockFormat → ℕ → ℕ → Reading → ClockEstimate
 estimate s f scale multiplier e = record { synchronized = s; format = f; scale = scale; multiplier = multiplier; error = e }
 
 pub estimate-again : (e : ClockEstimate) → e .scale < 256 → e .multiplier < 256 → ErrorKept (e .error) → estimateOf (estimateWord e) (errorBits (e .error)) ≡ e
@@ -116,6 +133,9 @@ quality-again q l s r = λ i. record {
   unsynchronized = q .unsynchronized;
   invalid = q .invalid;
   unknown = q .unknown;
+  «invalid_sender» = q .«invalid_sender»;
+  «invalid_reflector» = q .«invalid_reflector»;
+  «invalid_both» = q .«invalid_both»;
   largest = l i;
   sender = s i;
   reflector = r i;

@@ -1,5 +1,5 @@
--- A clock quality in eleven words: five counts, then whether there is a largest error and its bits, then two words of the sender's last estimate
--- and two of the reflector's. What is absent is 0; any words say a clock quality. That nothing is lost is shown in proofs/Back.antt.
+-- A clock quality in fourteen words: eight counts, then whether there is a largest error and its bits, then two words of the sender's last
+-- estimate and two of the reflector's. What is absent is 0; any words say a clock quality. That nothing is lost is shown in proofs/Back.antt.
 use mathlib.Core.Path.{_≡_}
 use mathlib.Core.Bool.{Bool, true, false, cond}
 use mathlib.Core.List.{List, [], _∷_}
@@ -7,8 +7,8 @@ use Prim.Native.Nat.{ℕ, _+_, _*_, _/_, _%_}
 use lib.Dec.{eqb}
 use lib.Ieee.{binary64, ofBits, toBits}
 use lib.ListN.{getD}
-use Rattle.estimate.specs.declared.ErrorMs.{ErrorMs}
-use Rattle.estimate.specs.declared.ErrorMs.the-variants.{Known, Invalid}
+use Rattle.estimate.specs.declared.Reading.{Reading}
+use Rattle.estimate.specs.declared.Reading.the-variants.{Known, Invalid}
 use Rattle.estimate.specs.Make.{isPtp, formatOf}
 use Rattle.clock_quality.specs.declared.ClockEstimate.{ClockEstimate}
 use Rattle.clock_quality.specs.declared.LastEstimate.{LastEstimate}
@@ -19,19 +19,19 @@ use Rattle.clock_quality.specs.declared.ClockQuality.{ClockQuality}
 use Rattle.clock_quality.specs.Quality.{isKnown}
 use Rattle.host_numbers.specs.Numbers.{flagWord, isSet}
 
--- ---- an error in ms: its bits
+-- ---- a reading: its bits
 
--- those of its f64, 0 for an invalid error
-abbrev pub errorBits : ErrorMs → ℕ
+-- those of its f64; those of the wire where it is invalid
+abbrev pub errorBits : Reading → ℕ
 errorBits (Known x) = toBits binary64 x
-errorBits Invalid = 0
+errorBits (Invalid wire) = wire
 
--- known with these bits where the flag is set; else invalid, whatever the bits
-abbrev pub errorOf : Bool → ℕ → ErrorMs
+-- known with these bits where the flag is set; else invalid with the low 16
+abbrev pub errorOf : Bool → ℕ → Reading
 errorOf true bits = Known (ofBits binary64 bits)
-errorOf false bits = Invalid
+errorOf false bits = Invalid (bits % 65536)
 
--- ---- an estimate: bit 0 set, 1 synchronized, 2 PTP, 3 error known; 8 to 15 the scale, 16 to 23 the multiplier; and a word of the error's bits
+-- ---- an estimate: bit 0 set, 1 synchronized, 2 PTP, 3 error known; 8 to 15 the scale, 16 to 23 the multiplier; and a word of the reading's bits
 
 -- the first of its two words, as above; never 0, since bit 0 is set
 unfoldable pub estimateWord : ClockEstimate → ℕ
@@ -52,7 +52,7 @@ abbrev pub lastWord : LastEstimate → ℕ
 lastWord last.Absent = 0
 lastWord (last.Seen e) = estimateWord e
 
--- its second word, the bits of its error; 0 if there was none
+-- its second word, the bits of its reading; 0 if there was none
 abbrev pub lastBits : LastEstimate → ℕ
 lastBits last.Absent = 0
 lastBits (last.Seen e) = errorBits (e .error)
@@ -77,7 +77,7 @@ largestBits (largest.Ms x) = toBits binary64 x
 abbrev pub largestOf : ℕ → ℕ → LargestError
 largestOf known bits = cond (isSet known) (largest.Ms (ofBits binary64 bits)) largest.Absent
 
--- ---- the whole: what the eleven words from a place on say, and the words of a clock quality
+-- ---- the whole: what the fourteen words from a place on say, and the words of a clock quality
 
 -- what the words from place `at` on say; words that the list does not have are 0
 unfoldable pub qualityAt : ℕ → List ℕ → ClockQuality
@@ -87,21 +87,25 @@ qualityAt at w = record {
   unsynchronized = getD w (at + 2) 0;
   invalid = getD w (at + 3) 0;
   unknown = getD w (at + 4) 0;
-  largest = largestOf (getD w (at + 5) 0) (getD w (at + 6) 0);
-  sender = lastOf (getD w (at + 7) 0) (getD w (at + 8) 0);
-  reflector = lastOf (getD w (at + 9) 0) (getD w (at + 10) 0);
+  «invalid_sender» = getD w (at + 5) 0;
+  «invalid_reflector» = getD w (at + 6) 0;
+  «invalid_both» = getD w (at + 7) 0;
+  largest = largestOf (getD w (at + 8) 0) (getD w (at + 9) 0);
+  sender = lastOf (getD w (at + 10) 0) (getD w (at + 11) 0);
+  reflector = lastOf (getD w (at + 12) 0) (getD w (at + 13) 0);
 }
 
--- samples, both, unsynchronized, invalid, unknown; largest; the sender's last, the reflector's last
+-- samples, both, unsynchronized, invalid, unknown; invalid at the sender alone, at the reflector alone, at both; largest; the sender's last, the reflector's last
 unfoldable pub qualityWords : ClockQuality → List ℕ
 qualityWords q =
-    q .samples ∷ q .both ∷ q .unsynchronized ∷ q .invalid ∷ q .unknown ∷ largestWord (q .largest) ∷ largestBits (q .largest)
+    q .samples ∷ q .both ∷ q .unsynchronized ∷ q .invalid ∷ q .unknown ∷ q .«invalid_sender» ∷ q .«invalid_reflector» ∷ q .«invalid_both»
+    ∷ largestWord (q .largest) ∷ largestBits (q .largest)
     ∷ lastWord (q .sender) ∷ lastBits (q .sender) ∷ lastWord (q .reflector) ∷ lastBits (q .reflector) ∷ []
 
 -- ---- nothing is lost: what is written is read back, of every value that fits its type
 
--- an error, from whether it is known and its bits
-abbrev pub ErrorKept : ErrorMs → Type 0
+-- a reading, from whether it is known and its bits
+abbrev pub ErrorKept : Reading → Type 0
 ErrorKept e = errorOf (isKnown e) (errorBits e) ≡ e
 
 -- a last estimate or none, from its two words
@@ -112,6 +116,6 @@ LastKept l = lastOf (lastWord l) (lastBits l) ≡ l
 abbrev pub LargestKept : LargestError → Type 0
 LargestKept l = largestOf (largestWord l) (largestBits l) ≡ l
 
--- a clock quality, from its eleven words
+-- a clock quality, from its fourteen words
 abbrev pub QualityKept : ClockQuality → Type 0
 QualityKept q = qualityAt 0 (qualityWords q) ≡ q

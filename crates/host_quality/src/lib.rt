@@ -9,7 +9,7 @@ use clock_quality::ClockEstimate;
 use clock_quality::LargestError;
 use clock_quality::LastEstimate;
 use estimate::ClockFormat;
-use estimate::ErrorMs;
+use estimate::Reading;
 use host_numbers::bits_of;
 use host_numbers::flag;
 use host_numbers::float_of;
@@ -26,13 +26,13 @@ fn format_of(ptp: bool) -> ClockFormat
     ClockFormat::NTP
 }
 
-fn error_of(known: bool, bits: u64) -> ErrorMs
+fn error_of(known: bool, bits: u64) -> Reading
     ensures { λ r. ⌜ r ≡ errorOf known bits ⌝ }
 {
     if known {
-        return ErrorMs::Known(float_of(bits));
+        return Reading::Known(float_of(bits));
     }
-    ErrorMs::Invalid
+    Reading::Invalid((bits % 65536) as u16)
 }
 
 fn estimate_of(word: u64, bits: u64) -> ClockEstimate
@@ -69,21 +69,21 @@ pub fn largest_of(known: u64, bits: u64) -> LargestError
 
 // ---- and back
 
-fn is_known(error: ErrorMs) -> bool
+fn is_known(error: Reading) -> bool
     ensures { λ r. ⌜ r ≡ isKnown error ⌝ }
 {
     match error {
-        ErrorMs::Known(_) => true,
-        ErrorMs::Invalid => false,
+        Reading::Known(_) => true,
+        Reading::Invalid(_) => false,
     }
 }
 
-fn error_bits(error: ErrorMs) -> u64
+fn error_bits(error: Reading) -> u64
     ensures { λ r. ⌜ (r ≡ errorBits error) × ErrorKept error ⌝ }
 {
     match error {
-        ErrorMs::Known(x) => bits_of(x),
-        ErrorMs::Invalid => 0,
+        Reading::Known(x) => bits_of(x),
+        Reading::Invalid(wire) => wire as u64,
     }
 }
 

@@ -21,7 +21,7 @@ unfolding pointWords
 point-length counters.Absent = refl
 point-length (counters.Point p) = refl
 
-estimate-length : (e : LastEstimate) → length (estimateWords e) ≡ 7
+estimate-length : (e : LastEstimate) → length (estimateWords e) ≡ 8
 unfolding estimateWords
 estimate-length last.Absent = refl
 estimate-length (last.Seen e) = refl
@@ -44,23 +44,23 @@ direct-length d = simp length-append (omega (arith, point-length (d .anchor), po
 -- ---- clock quality
 
 pub quality-as : (at : ℕ) (q : ClockQuality) (room : List ℕ)
-    → placed (at + 19) (largestWords (q .largest)) (placed (at + 12) (estimateWords (q .reflector)) (placed (at + 5) (estimateWords (q .sender)) (placed at (qualityCountWords q) room)))
+    → placed (at + 24) (largestWords (q .largest)) (placed (at + 16) (estimateWords (q .reflector)) (placed (at + 8) (estimateWords (q .sender)) (placed at (qualityCountWords q) room)))
     ≡ placed at (qualityWords q) room
 unfolding qualityWords
 quality-as at q room =
-    ap (λ (n : ℕ). placed n (largestWords (q .largest)) (placed (at + 12) (estimateWords (q .reflector)) (placed (at + 5) (estimateWords (q .sender)) (placed at (qualityCountWords q) room)))) (later at)
-    ∙ placed-next (at + 12) 7 (estimateWords (q .reflector)) (largestWords (q .largest)) (placed (at + 5) (estimateWords (q .sender)) (placed at (qualityCountWords q) room)) (estimate-length (q .reflector))
-    ∙ ap (λ (n : ℕ). placed n (estimateWords (q .reflector) ++ largestWords (q .largest)) (placed (at + 5) (estimateWords (q .sender)) (placed at (qualityCountWords q) room))) (sooner at)
-    ∙ placed-next (at + 5) 7 (estimateWords (q .sender)) (estimateWords (q .reflector) ++ largestWords (q .largest)) (placed at (qualityCountWords q) room) (estimate-length (q .sender))
-    ∙ placed-next at 5 (qualityCountWords q) (estimateWords (q .sender) ++ (estimateWords (q .reflector) ++ largestWords (q .largest))) room refl
+    ap (λ (n : ℕ). placed n (largestWords (q .largest)) (placed (at + 16) (estimateWords (q .reflector)) (placed (at + 8) (estimateWords (q .sender)) (placed at (qualityCountWords q) room)))) (later at)
+    ∙ placed-next (at + 16) 8 (estimateWords (q .reflector)) (largestWords (q .largest)) (placed (at + 8) (estimateWords (q .sender)) (placed at (qualityCountWords q) room)) (estimate-length (q .reflector))
+    ∙ ap (λ (n : ℕ). placed n (estimateWords (q .reflector) ++ largestWords (q .largest)) (placed (at + 8) (estimateWords (q .sender)) (placed at (qualityCountWords q) room))) (sooner at)
+    ∙ placed-next (at + 8) 8 (estimateWords (q .sender)) (estimateWords (q .reflector) ++ largestWords (q .largest)) (placed at (qualityCountWords q) room) (estimate-length (q .sender))
+    ∙ placed-next at 8 (qualityCountWords q) (estimateWords (q .sender) ++ (estimateWords (q .reflector) ++ largestWords (q .largest))) room refl
   where
-    later : (n : ℕ) → n + 19 ≡ n + 12 + 7
+    later : (n : ℕ) → n + 24 ≡ n + 16 + 8
     later n = omega arith
 
-    sooner : (n : ℕ) → n + 12 ≡ n + 5 + 7
+    sooner : (n : ℕ) → n + 16 ≡ n + 8 + 8
     sooner n = omega arith
 
-quality-length : (q : ClockQuality) → length (qualityWords q) ≡ 21
+quality-length : (q : ClockQuality) → length (qualityWords q) ≡ 26
 unfolding qualityWords
 quality-length q = simp length-append (omega (arith, estimate-length (q .sender), estimate-length (q .reflector)))
 
@@ -74,17 +74,17 @@ follow-as f room =
     placed-next 57 7 (delayWords (f .delay)) (qualityWords (f .quality)) (placed 51 (followCountWords (f .counts)) room) refl
     ∙ placed-next 51 6 (followCountWords (f .counts)) (delayWords (f .delay) ++ qualityWords (f .quality)) room refl
 
-follow-length : (f : FollowUpSummary) → length (followWords f) ≡ 34
+follow-length : (f : FollowUpSummary) → length (followWords f) ≡ 39
 unfolding followWords
 follow-length f = simp length-append (omega (arith, quality-length (f .quality)))
 
 -- ---- the whole
 
-shown-length : (s : Snapshot) → length (shownWords s) ≡ 85
+shown-length : (s : Snapshot) → length (shownWords s) ≡ 90
 unfolding shownWords
 shown-length s = simp length-append (omega (arith, direct-length (s .direct), follow-length (s .follow)))
 
-pub shown-as : (s : Snapshot) (room : List ℕ) → length room ≡ 85
+pub shown-as : (s : Snapshot) (room : List ℕ) → length room ≡ 90
     → placed 51 (followWords (s .follow)) (placed 26 (directWords (s .direct)) (placed 19 (delayWords (s .rtt)) (placed 16 (lossWords s) (placed 0 (repliesWords (s .replies)) room))))
     ≡ shownWords s
 unfolding shownWords

@@ -1,13 +1,13 @@
--- A snapshot as the 85 words that a host is shown. A flag is 0 or 1; a value that is absent is a flag 0 and zeros; an f64 is its bits
+-- A snapshot as the 90 words that a host is shown. A flag is 0 or 1; a value that is absent is a flag 0 and zeros; an f64 is its bits
 -- (`toBits` is the logic's own). Assumes nothing.
 use mathlib.Core.Bool.{Bool}
 use mathlib.Core.List.{List, [], _∷_, _++_}
 use Prim.Native.Nat.{ℕ}
 use lib.Ieee.{binary64, toBits}
 use Rattle.host_numbers.specs.Numbers.{flagWord}
-use Rattle.host_quality.specs.Words.{errorBits, largestWord, largestBits}
-use Rattle.estimate.specs.declared.ErrorMs.{ErrorMs}
-use Rattle.estimate.specs.declared.ErrorMs.the-variants as error
+use Rattle.host_quality.specs.Words.{largestWord, largestBits}
+use Rattle.estimate.specs.declared.Reading.{Reading}
+use Rattle.estimate.specs.declared.Reading.the-variants as error
 use Rattle.estimate.specs.Make.{isPtp}
 use Rattle.calls.specs.declared.Counters.{Counters}
 use Rattle.calls.specs.declared.Counters.the-variants as counters
@@ -64,20 +64,30 @@ msBits milliseconds.Absent = 0
 msBits (milliseconds.Known x) = toBits binary64 x
 
 -- whether the error of an estimate is known: 1, or 0 where it is invalid
-abbrev pub errorKnown : ErrorMs → ℕ
-errorKnown error.Invalid = 0
+abbrev pub errorKnown : Reading → ℕ
+errorKnown (error.Invalid wire) = 0
 errorKnown (error.Known x) = 1
+
+-- the bits of its f64 in ms, 0 where it is invalid
+abbrev pub shownError : Reading → ℕ
+shownError (error.Invalid wire) = 0
+shownError (error.Known x) = toBits binary64 x
+
+-- the 16 bits as received where it is invalid, and 0 where it is known
+abbrev pub receivedBits : Reading → ℕ
+receivedBits (error.Invalid wire) = wire
+receivedBits (error.Known x) = 0
 
 -- S_TxC, R_RxC, R_TxC
 unfoldable pub pointWords : Counters → List ℕ
 pointWords counters.Absent = 0 ∷ 0 ∷ 0 ∷ 0 ∷ []
 pointWords (counters.Point p) = 1 ∷ p .sender .0 ∷ p .received .0 ∷ p .transmitted .0 ∷ []
 
--- synchronized, PTP, scale, multiplier, and the error in ms where it is known
+-- synchronized, PTP, scale, multiplier, and the error in ms where it is known, or else the 16 bits as received
 unfoldable pub estimateWords : LastEstimate → List ℕ
-estimateWords last.Absent = 0 ∷ 0 ∷ 0 ∷ 0 ∷ 0 ∷ 0 ∷ 0 ∷ []
+estimateWords last.Absent = 0 ∷ 0 ∷ 0 ∷ 0 ∷ 0 ∷ 0 ∷ 0 ∷ 0 ∷ []
 estimateWords (last.Seen e) =
-    1 ∷ flagWord (e .synchronized) ∷ flagWord (isPtp (e .format)) ∷ e .scale ∷ e .multiplier ∷ errorKnown (e .error) ∷ errorBits (e .error) ∷ []
+    1 ∷ flagWord (e .synchronized) ∷ flagWord (isPtp (e .format)) ∷ e .scale ∷ e .multiplier ∷ errorKnown (e .error) ∷ shownError (e .error) ∷ receivedBits (e .error) ∷ []
 
 -- ---- words 0 to 15
 
@@ -126,11 +136,12 @@ directWords d = directCountWords (d .counts) ++ (pointWords (d .anchor) ++ (poin
 abbrev pub followCountWords : FollowCounts → List ℕ
 followCountWords c = c .observations ∷ c .matched ∷ c .repeated ∷ c .unmatched ∷ c .ambiguous ∷ c .unavailable ∷ []
 
--- ---- words 64 to 84
+-- ---- words 64 to 89
 
--- samples; then each class: both clocks synchronized, not both, an error invalid, no estimates
+-- samples; then each class: both clocks synchronized, not both, an error invalid, no estimates; and of the invalid ones those at the sender alone,
+-- at the reflector alone, at both
 abbrev pub qualityCountWords : ClockQuality → List ℕ
-qualityCountWords q = q .samples ∷ q .both ∷ q .unsynchronized ∷ q .invalid ∷ q .unknown ∷ []
+qualityCountWords q = q .samples ∷ q .both ∷ q .unsynchronized ∷ q .invalid ∷ q .unknown ∷ q .«invalid_sender» ∷ q .«invalid_reflector» ∷ q .«invalid_both» ∷ []
 
 -- the largest combined error in ms: a flag and its bits
 abbrev pub largestWords : LargestError → List ℕ
@@ -140,7 +151,7 @@ largestWords x = largestWord x ∷ largestBits x ∷ []
 unfoldable pub qualityWords : ClockQuality → List ℕ
 qualityWords q = qualityCountWords q ++ (estimateWords (q .sender) ++ (estimateWords (q .reflector) ++ largestWords (q .largest)))
 
--- ---- words 51 to 84
+-- ---- words 51 to 89
 
 -- the counts of the classes, the delay of the matched ones, the clock quality
 unfoldable pub followWords : FollowUpSummary → List ℕ
@@ -148,7 +159,7 @@ followWords f = followCountWords (f .counts) ++ (delayWords (f .delay) ++ qualit
 
 -- ---- the whole
 
--- replies, loss, round trip, direct counters, follow-ups: 85 words
+-- replies, loss, round trip, direct counters, follow-ups: 90 words
 unfoldable pub shownWords : Snapshot → List ℕ
 shownWords s =
     repliesWords (s .replies) ++ (lossWords s ++ (delayWords (s .rtt) ++ (directWords (s .direct) ++ followWords (s .follow))))

@@ -26,6 +26,7 @@ use ledger_snapshot::Snapshot;
 use replies::Replies;
 use values::error_bits;
 use values::error_known;
+use values::error_received;
 use values::ms_bits;
 use values::ms_known;
 use values::packets_known;
@@ -187,7 +188,7 @@ fn place_follow_counts(room: &mut [u64], at: usize, counts: FollowCounts)
 }
 
 fn place_estimate(room: &mut [u64], at: usize, estimate: ClockEstimate)
-    requires { ⌜ at + 7 ≤ length (now room) ⌝ }
+    requires { ⌜ at + 8 ≤ length (now room) ⌝ }
     ensures { λ _. ⌜ now (room .exit) ≡ sets (now (room .entry)) at (estimateWords (Seen estimate)) ⌝ }
 {
     let format = estimate.format;
@@ -200,17 +201,18 @@ fn place_estimate(room: &mut [u64], at: usize, estimate: ClockEstimate)
         estimate.multiplier as u64,
         error_known(error),
         error_bits(error),
+        error_received(error),
     ];
     place(room, at, &words);
 }
 
 fn place_last(room: &mut [u64], at: usize, last: LastEstimate)
-    requires { ⌜ at + 7 ≤ length (now room) ⌝ }
+    requires { ⌜ at + 8 ≤ length (now room) ⌝ }
     ensures { λ _. ⌜ now (room .exit) ≡ sets (now (room .entry)) at (estimateWords last) ⌝ }
 {
     match last {
         LastEstimate::Absent => {
-            let words = [0; 7];
+            let words = [0; 8];
             place(room, at, &words);
         }
         LastEstimate::Seen(estimate) => place_estimate(room, at, estimate),
@@ -218,7 +220,7 @@ fn place_last(room: &mut [u64], at: usize, last: LastEstimate)
 }
 
 fn place_quality_counts(room: &mut [u64], at: usize, quality: ClockQuality)
-    requires { ⌜ at + 5 ≤ length (now room) ⌝ }
+    requires { ⌜ at + 8 ≤ length (now room) ⌝ }
     ensures { λ _. ⌜ now (room .exit) ≡ sets (now (room .entry)) at (qualityCountWords quality) ⌝ }
 {
     let words = [
@@ -227,6 +229,9 @@ fn place_quality_counts(room: &mut [u64], at: usize, quality: ClockQuality)
         quality.unsynchronized,
         quality.invalid,
         quality.unknown,
+        quality.invalid_sender,
+        quality.invalid_reflector,
+        quality.invalid_both,
     ];
     place(room, at, &words);
 }
@@ -239,22 +244,22 @@ fn place_largest(room: &mut [u64], at: usize, largest: LargestError)
     place(room, at, &words);
 }
 
-// Clock quality in 21 words.
+// Clock quality in 26 words.
 pub fn place_quality(room: &mut [u64], at: usize, quality: ClockQuality)
-    requires { ⌜ at + 21 ≤ length (now room) ⌝ }
+    requires { ⌜ at + 26 ≤ length (now room) ⌝ }
     ensures { λ _. ⌜ now (room .exit) ≡ sets (now (room .entry)) at (qualityWords quality) ⌝ }
 {
     let sender = quality.sender;
     let reflector = quality.reflector;
     let largest = quality.largest;
     place_quality_counts(room, at, quality);
-    place_last(room, at + 5, sender);
-    place_last(room, at + 12, reflector);
-    place_largest(room, at + 19, largest);
+    place_last(room, at + 8, sender);
+    place_last(room, at + 16, reflector);
+    place_largest(room, at + 24, largest);
 }
 
 fn place_follow(room: &mut [u64], follow: FollowUpSummary)
-    requires { ⌜ 85 ≤ length (now room) ⌝ }
+    requires { ⌜ 90 ≤ length (now room) ⌝ }
     ensures { λ _. ⌜ now (room .exit) ≡ sets (now (room .entry)) 51 (followWords follow) ⌝ }
 {
     let counts = follow.counts;
@@ -278,8 +283,11 @@ fn place_loss(room: &mut [u64], snapshot: Snapshot)
     place(room, 16, &words);
 }
 
-// The whole snapshot over the 85 words of a room.
-pub fn show(shown: &mut [u64; 85], snapshot: Snapshot)
+// How many words a snapshot has.
+pub const SHOWN_WORDS: usize = 90;
+
+// The whole snapshot over the words of a room.
+pub fn show(shown: &mut [u64; SHOWN_WORDS], snapshot: Snapshot)
     ensures { λ _. ⌜ now (shown .exit) ≡ shownWords snapshot ⌝ }
 {
     let replies = snapshot.replies;

@@ -1,12 +1,11 @@
 // Values that may be absent: whether they are known, and the value, 0 where they are not.
 ghost use mathlib.Core.Path.{_≡_};
-ghost use Rattle.host_quality.specs.Words.{errorBits};
 ghost use Rattle.host_shown.specs.Words.{reflectorKnown, reflectorNumber, packetsKnown, packetsNumber, msKnown, msBits};
 ghost use Rattle.thousandths.specs.Thousandths.{knownOf, valueOf};
-ghost use Rattle.host_shown.specs.Words.{errorKnown};
+ghost use Rattle.host_shown.specs.Words.{errorKnown, shownError, receivedBits};
 use delays::Milliseconds;
 use direct::summary::Packets;
-use estimate::ErrorMs;
+use estimate::Reading;
 use host_numbers::bits_of;
 use replies::Reflector;
 use thousandths::Thousandths;
@@ -83,20 +82,29 @@ pub fn ms_bits(ms: Milliseconds) -> u64
     }
 }
 
-pub fn error_known(error: ErrorMs) -> u64
+pub fn error_known(error: Reading) -> u64
     ensures { λ r. ⌜ r ≡ errorKnown error ⌝ }
 {
     match error {
-        ErrorMs::Invalid => 0,
-        ErrorMs::Known(_) => 1,
+        Reading::Invalid(_) => 0,
+        Reading::Known(_) => 1,
     }
 }
 
-pub fn error_bits(error: ErrorMs) -> u64
-    ensures { λ r. ⌜ r ≡ errorBits error ⌝ }
+pub fn error_bits(error: Reading) -> u64
+    ensures { λ r. ⌜ r ≡ shownError error ⌝ }
 {
     match error {
-        ErrorMs::Invalid => 0,
-        ErrorMs::Known(x) => bits_of(x),
+        Reading::Invalid(_) => 0,
+        Reading::Known(x) => bits_of(x),
+    }
+}
+
+pub fn error_received(error: Reading) -> u64
+    ensures { λ r. ⌜ r ≡ receivedBits error ⌝ }
+{
+    match error {
+        Reading::Invalid(wire) => wire as u64,
+        Reading::Known(_) => 0,
     }
 }

@@ -1,7 +1,8 @@
-// `snapshot` of src/sender/measurements.rs for a host: `MeasurementSummary` and document 01's thousandths in 85 words.
+// `snapshot` of src/sender/measurements.rs for a host: `MeasurementSummary` and document 01's thousandths in 90 words.
 ghost use mathlib.Core.Path.{_≡_};
 ghost use Rattle.host_snapshot.specs.Snapshot.{left, snapshotLeaves};
 use host_ledger::LEDGER_WORDS;
+use host_shown::SHOWN_WORDS;
 
 // A word whose name ends in `known` or `seen` is 0 or 1; where it is 0, the words of the value are 0. Times are in ms.
 // Words of `shown`: 0 requested, 1 unique, 2 duplicate, 3 unknown, 4 answered, 5 additional, 6 late, 7 satisfied, 8 last_known, 9 last,
@@ -17,14 +18,19 @@ use host_ledger::LEDGER_WORDS;
 // 56 follow_up.unavailable, 57 follow_up.delay.samples, 58 follow_up.delay.minimum_known, 59 follow_up.delay.minimum (f64),
 // 60 follow_up.delay.average_known, 61 follow_up.delay.average (f64), 62 follow_up.delay.maximum_known, 63 follow_up.delay.maximum (f64),
 // 64 follow_up.quality.samples, 65 follow_up.quality.both, 66 follow_up.quality.unsynchronized, 67 follow_up.quality.invalid,
-// 68 follow_up.quality.unknown, 69 follow_up.quality.sender.seen, 70 follow_up.quality.sender.synchronized,
-// 71 follow_up.quality.sender.ptp, 72 follow_up.quality.sender.scale, 73 follow_up.quality.sender.multiplier,
-// 74 follow_up.quality.sender.error_known, 75 follow_up.quality.sender.error (f64), 76 follow_up.quality.reflector.seen,
-// 77 follow_up.quality.reflector.synchronized, 78 follow_up.quality.reflector.ptp, 79 follow_up.quality.reflector.scale,
-// 80 follow_up.quality.reflector.multiplier, 81 follow_up.quality.reflector.error_known, 82 follow_up.quality.reflector.error (f64),
-// 83 follow_up.quality.largest_known, 84 follow_up.quality.largest (f64).
+// 68 follow_up.quality.unknown, 69 follow_up.quality.invalid_sender, 70 follow_up.quality.invalid_reflector,
+// 71 follow_up.quality.invalid_both, 72 follow_up.quality.sender.seen, 73 follow_up.quality.sender.synchronized,
+// 74 follow_up.quality.sender.ptp, 75 follow_up.quality.sender.scale, 76 follow_up.quality.sender.multiplier,
+// 77 follow_up.quality.sender.error_known, 78 follow_up.quality.sender.error (f64), 79 follow_up.quality.sender.received,
+// 80 follow_up.quality.reflector.seen, 81 follow_up.quality.reflector.synchronized, 82 follow_up.quality.reflector.ptp,
+// 83 follow_up.quality.reflector.scale, 84 follow_up.quality.reflector.multiplier, 85 follow_up.quality.reflector.error_known,
+// 86 follow_up.quality.reflector.error (f64), 87 follow_up.quality.reflector.received, 88 follow_up.quality.largest_known,
+// 89 follow_up.quality.largest (f64).
 #[no_mangle]
-pub extern "C" fn ambrulicciu_snapshot(ledger: &[u64; LEDGER_WORDS], shown: &mut [u64; 85]) -> u8
+pub extern "C" fn ambrulicciu_snapshot(
+    ledger: &[u64; LEDGER_WORDS],
+    shown: &mut [u64; SHOWN_WORDS],
+) -> u8
     ensures { λ r. ⌜ left r (now (shown .exit)) ≡ snapshotLeaves (now (ledger .entry)) ⌝ }
 {
     let state = host_ledger::load(ledger);

@@ -20,6 +20,15 @@ element-copy-out-result-4 c = search needs
 element-copy-out-result-5 : tie.Need-element-copy-out-result-5
 element-copy-out-result-5 c = search needs
 
+element-copy-out-result-6 : tie.Need-element-copy-out-result-6
+element-copy-out-result-6 c = search needs
+
+element-copy-out-result-7 : tie.Need-element-copy-out-result-7
+element-copy-out-result-7 c = search needs
+
+element-copy-out-result-8 : tie.Need-element-copy-out-result-8
+element-copy-out-result-8 c = search needs
+
 returns : tie.Need-returns
 unfolding qualityAt
 returns c = refl
@@ -33,4 +42,7 @@ quality-fits-spec =
     element-copy-out-result-3
     element-copy-out-result-4
     element-copy-out-result-5
+    element-copy-out-result-6
+    element-copy-out-result-7
+    element-copy-out-result-8
     returns)

@@ -39,6 +39,15 @@ element-write-quality-10 c = search needs
 element-write-quality-11 : tie.Need-element-write-quality-11
 element-write-quality-11 c = search needs
 
+element-write-quality-12 : tie.Need-element-write-quality-12
+element-write-quality-12 c = search needs
+
+element-write-quality-13 : tie.Need-element-write-quality-13
+element-write-quality-13 c = search needs
+
+element-write-quality-14 : tie.Need-element-write-quality-14
+element-write-quality-14 c = search needs
+
 returns : tie.Need-returns
 unfolding freshTo qualityWords
 returns c = refl
@@ -58,4 +67,7 @@ ambrulicciu-clock-quality-fresh-spec =
     element-write-quality-9
     element-write-quality-10
     element-write-quality-11
+    element-write-quality-12
+    element-write-quality-13
+    element-write-quality-14
     returns)

@@ -49,6 +49,15 @@ element-write-words-10 c = search needs
 element-write-words-11 : tie.Need-element-write-words-11
 element-write-words-11 c = search needs
 
+element-write-words-12 : tie.Need-element-write-words-12
+element-write-words-12 c = search needs
+
+element-write-words-13 : tie.Need-element-write-words-13
+element-write-words-13 c = search needs
+
+element-write-words-14 : tie.Need-element-write-words-14
+element-write-words-14 c = search needs
+
 returns : tie.Need-returns
 returns c =
     let sender = c .before .before .before .last-words in
@@ -66,12 +75,15 @@ store-spec =
     element-write-words-3
     element-write-words-4
     element-write-words-5
-    largest-word-requires
     element-write-words-6
-    largest-bits-requires
     element-write-words-7
     element-write-words-8
+    largest-word-requires
     element-write-words-9
+    largest-bits-requires
     element-write-words-10
     element-write-words-11
+    element-write-words-12
+    element-write-words-13
+    element-write-words-14
     returns)

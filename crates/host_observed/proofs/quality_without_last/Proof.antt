@@ -28,9 +28,18 @@ element-copy-out-t18 c = search needs
 element-copy-out-t21 : tie.Need-element-copy-out-t21
 element-copy-out-t21 c = search needs
 
+element-copy-out-t24 : tie.Need-element-copy-out-t24
+element-copy-out-t24 c = search needs
+
+element-copy-out-t27 : tie.Need-element-copy-out-t27
+element-copy-out-t27 c = search needs
+
+element-copy-out-t30 : tie.Need-element-copy-out-t30
+element-copy-out-t30 c = search needs
+
 returns : tie.Need-returns
 unfolding qualityAt
-returns c = rw (c .before .before .before .before .before .largest-of .ensures)
+returns c = rw (c .before .before .before .before .before .before .before .before .largest-of .ensures)
 
 pub quality-without-last-spec : {M : Type 1} → statement M
 quality-without-last-spec =
@@ -44,4 +53,7 @@ quality-without-last-spec =
     element-copy-out-t15
     element-copy-out-t18
     element-copy-out-t21
+    element-copy-out-t24
+    element-copy-out-t27
+    element-copy-out-t30
     returns)

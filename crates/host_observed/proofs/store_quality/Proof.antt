@@ -51,6 +51,15 @@ element-write-state-10 c = search needs
 element-write-state-11 : tie.Need-element-write-state-11
 element-write-state-11 c = search needs
 
+element-write-state-12 : tie.Need-element-write-state-12
+element-write-state-12 c = search needs
+
+element-write-state-13 : tie.Need-element-write-state-13
+element-write-state-13 c = search needs
+
+element-write-state-14 : tie.Need-element-write-state-14
+element-write-state-14 c = search needs
+
 returns : tie.Need-returns
 unfolding qualityWords
 returns c =
@@ -71,12 +80,15 @@ store-quality-spec =
     element-write-state-3
     element-write-state-4
     element-write-state-5
-    largest-word-requires
     element-write-state-6
-    largest-bits-requires
     element-write-state-7
     element-write-state-8
+    largest-word-requires
     element-write-state-9
+    largest-bits-requires
     element-write-state-10
     element-write-state-11
+    element-write-state-12
+    element-write-state-13
+    element-write-state-14
     returns)

@@ -25,6 +25,9 @@ error-known-requires c κs = search needs
 error-bits-requires : tie.Need-error-bits-requires
 error-bits-requires c κs = search needs
 
+error-received-requires : tie.Need-error-received-requires
+error-received-requires c κs = search needs
+
 slice-aggregate-place : tie.Need-slice-aggregate-place
 slice-aggregate-place c = search needs
 
@@ -36,7 +39,7 @@ same-length c = search needs
 
 returns : tie.Need-returns
 unfolding estimateWords
-returns c = rw (c .before .before .place .ensures, c .before .before .before .before .before .error-bits .ensures, c .before .before .before .before .before .before .error-known .ensures, c .before .before .before .before .before .before .before .before .before .flag2 .ensures .0, c .before .before .before .before .before .before .before .before .before .before .is-ptp .ensures, c .before .before .before .before .before .before .before .before .before .before .before .flag .ensures .0)
+returns c = rw (c .before .before .place .ensures, c .before .before .before .before .before .error-received .ensures, c .before .before .before .before .before .before .error-bits .ensures, c .before .before .before .before .before .before .before .error-known .ensures, c .before .before .before .before .before .before .before .before .before .before .flag2 .ensures .0, c .before .before .before .before .before .before .before .before .before .before .before .is-ptp .ensures, c .before .before .before .before .before .before .before .before .before .before .before .before .flag .ensures .0)
 
 pub place-estimate-spec : {M : Type 1} → statement M
 place-estimate-spec =
@@ -49,6 +52,7 @@ place-estimate-spec =
     cast-t11
     error-known-requires
     error-bits-requires
+    error-received-requires
     slice-aggregate-place
     place-requires
     same-length
