@@ -29,9 +29,9 @@ pub fn rows(table: &mut Table) {
             black_box(ErrorEstimate::from_wire(black_box(0x8c07)).error_seconds());
         },
     );
-    let mut known = [0];
+    let (mut known, mut received) = ([0], [0]);
     table.alone("`estimate_error`", 20_000, || {
-        calls::estimate_error(black_box(0x8c07), black_box(&mut known), black_box(&mut seconds));
+        calls::estimate_error(black_box(0x8c07), black_box(&mut known), black_box(&mut seconds), black_box(&mut received));
     });
     let (mut ours, mut original) = (ClockQuality::new(), Original::default());
     table.row(

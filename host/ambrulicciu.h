@@ -95,12 +95,13 @@ uint8_t ambrulicciu_version(uint32_t *version);
 
 /* ---- states and rooms --------------------------------------------------------------------------------------------------------------
  * Their words are the library's own: a host keeps them and hands them over, and reads figures by the calls below. They may be copied,
- * written to a file and read back as bytes. Every content is allowed, and a call is defined on each. What is tested of it is said at
- * refusals 5 and 4 of each section, and no more: a ledger of 1,000,000 answered probes and 0 unique replies, which no call leaves, is
- * served, and its figures are what its words say. So a host that reads a state back from a file sees to it that it is the one it wrote. */
+ * written to a file and read back as bytes, by the same library: their order is no format. Every content is allowed, and a call is
+ * defined on each. What is tested of it is said at refusals 5 and 4 of each section, and no more: a ledger of 1,000,000 answered probes
+ * and 0 unique replies, which no call leaves, is served, and its figures are what its words say. So a host that reads a state back from
+ * a file sees to it that it is the one it wrote. */
 typedef struct { uint64_t word[80]; } ambrulicciu_ledger;
 typedef struct { uint64_t word[12]; } ambrulicciu_monitor;
-typedef struct { uint64_t word[12]; } ambrulicciu_clock_quality;
+typedef struct { uint64_t word[16]; } ambrulicciu_clock_quality;
 typedef struct { uint64_t word[4]; } ambrulicciu_quantiles;
 typedef struct { uint64_t word[8]; } ambrulicciu_bit_summary;
 typedef struct { uint64_t word[2]; } ambrulicciu_key;
@@ -223,17 +224,22 @@ typedef struct {
     uint64_t ptp;
     uint64_t scale;
     uint64_t multiplier;
-    uint64_t error_known; /* 0: the multiplier is 0, which is no error of zero (RFC 4656) */
+    uint64_t error_known; /* 0: the estimate is invalid: the multiplier is 0, which is no error of zero (RFC 4656) */
     double error;         /* ms */
+    uint64_t received;    /* of an invalid estimate the 16 bits as received */
 } ambrulicciu_estimate;
 
-/* Declared clock quality: samples = both + unsynchronized + invalid + unknown. */
+/* Declared clock quality: samples = both + unsynchronized + invalid + unknown, and invalid = invalid_sender + invalid_reflector +
+ * invalid_both. */
 typedef struct {
     uint64_t samples;
     uint64_t both;
     uint64_t unsynchronized;
     uint64_t invalid;
     uint64_t unknown;
+    uint64_t invalid_sender;    /* invalid at the sender alone */
+    uint64_t invalid_reflector; /* at the reflector alone */
+    uint64_t invalid_both;      /* at both */
     ambrulicciu_estimate sender;
     ambrulicciu_estimate reflector;
     uint64_t largest_known;
@@ -403,8 +409,9 @@ uint8_t ambrulicciu_estimate_parts(uint16_t wire, ambrulicciu_parts *parts);
 /* The error in seconds. Refuses nothing. */
 uint8_t ambrulicciu_estimate_seconds(uint16_t wire, double *seconds);
 
-/* The error in ms: known is 1, or 0 at multiplier 0, which has no error. Refuses nothing. */
-uint8_t ambrulicciu_estimate_error(uint16_t wire, uint64_t *known, double *milliseconds);
+/* The reading of an estimate: known is 1, with the error in ms; or 0 at multiplier 0, which has no error, with the 16 bits as received.
+ * Refuses nothing. */
+uint8_t ambrulicciu_estimate_error(uint16_t wire, uint64_t *known, double *milliseconds, uint16_t *received);
 
 /* ---- clock quality of its own ------------------------------------------------------------------------------------------------------
  * The ledger keeps one for matched follow-ups (figures.follow_up.quality); this is for hosts that keep another. */

@@ -387,8 +387,9 @@ static void try_estimates(void) {
     done("estimate_seconds", ambrulicciu_estimate_seconds((uint16_t)drawn(), seconds), "");
     uint64_t *known = lend(8, 0);
     double *ms = lend(8, 0);
+    uint16_t *received = lend(2, 0);
     ready();
-    done("estimate_error", ambrulicciu_estimate_error((uint16_t)drawn(), known, ms), "");
+    done("estimate_error", ambrulicciu_estimate_error((uint16_t)drawn(), known, ms, received), "");
 }
 
 static ambrulicciu_clock_quality *quality(int read_only) {

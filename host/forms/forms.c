@@ -97,8 +97,9 @@ static void absent_counters(const char *what, const ambrulicciu_counters *c) {
 }
 
 static void absent_estimate(const char *what, const ambrulicciu_estimate *e) {
-    absent(what, e->seen, e->synchronized | e->ptp | e->scale | e->multiplier | e->error_known);
+    absent(what, e->seen, e->synchronized | e->ptp | e->scale | e->multiplier | e->error_known | e->received);
     absent(what, e->error_known, bits(e->error));
+    absent(what, !e->error_known, e->received);
     absent(what, e->synchronized, 0);
     absent(what, e->ptp, 0);
 }

@@ -2,8 +2,8 @@
 use crate::Answer;
 use estimate::ClockFormat;
 use estimate::ErrorEstimate;
-use estimate::ErrorMs;
 use estimate::Made;
+use estimate::Reading;
 use script::Call;
 
 pub fn flag(set: bool) -> u64 {
@@ -50,24 +50,30 @@ fn refused(number: u8) -> Answer {
     }
 }
 
-// An error's bits, 0 where there is none, after a word that says whether there is one.
+// Of a reading: whether the error is known, the error's bits, and the 16 bits of an invalid one. What is not there is 0.
 pub struct ErrorWords {
     pub known: u64,
     pub bits: u64,
+    pub received: u64,
 }
 
-pub fn error_words(error: ErrorMs) -> ErrorWords {
+pub fn error_words(error: Reading) -> ErrorWords {
     match error {
-        ErrorMs::Known(ms) => ErrorWords {
+        Reading::Known(ms) => ErrorWords {
             known: 1,
             bits: script::bits_of(ms),
+            received: 0,
         },
-        ErrorMs::Invalid => ErrorWords { known: 0, bits: 0 },
+        Reading::Invalid(wire) => ErrorWords {
+            known: 0,
+            bits: 0,
+            received: wire as u64,
+        },
     }
 }
 
 fn shown(e: ErrorEstimate) -> Answer {
-    let ms = error_words(e.error_ms());
+    let ms = error_words(e.reading());
     let wire = e.to_wire() as u64;
     let seconds = script::bits_of(e.error_seconds());
     let format = number_of(e.clock_format());
@@ -82,7 +88,7 @@ fn shown(e: ErrorEstimate) -> Answer {
             seconds,
             ms.known,
         ],
-        second: [ms.bits, format, 0, 0, 0, 0, 0, 0],
+        second: [ms.bits, format, ms.received, 0, 0, 0, 0, 0],
     }
 }
 

@@ -47,7 +47,7 @@ fn play(state: State, call: Call) -> Outcome {
             answer: estimates::play(call),
             state,
         },
-        5 | 6 => quality::play(state, call),
+        5 | 6 | 7 => quality::play(state, call),
         _ => fresh(),
     }
 }

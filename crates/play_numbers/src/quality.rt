@@ -1,4 +1,4 @@
-// Calls 5 and 6: clock quality.
+// Calls 5 to 7: clock quality.
 use crate::Answer;
 use crate::Outcome;
 use crate::State;
@@ -42,21 +42,49 @@ fn loaded(call: Call) -> ClockQuality {
         unsynchronized: call.c,
         invalid: call.d,
         unknown: call.e,
+        invalid_sender: 0,
+        invalid_reflector: 0,
+        invalid_both: 0,
         sender: LastEstimate::Absent,
         reflector: LastEstimate::Absent,
         largest,
     }
 }
 
-// An estimate's fields in one word, and its error in ms.
+// The quality with three counts loaded: invalid at the sender alone, at the reflector alone, at both.
+fn with_ends(q: ClockQuality, call: Call) -> ClockQuality {
+    let sender = q.sender;
+    let reflector = q.reflector;
+    let largest = q.largest;
+    ClockQuality {
+        samples: q.samples,
+        both: q.both,
+        unsynchronized: q.unsynchronized,
+        invalid: q.invalid,
+        unknown: q.unknown,
+        invalid_sender: call.a,
+        invalid_reflector: call.b,
+        invalid_both: call.c,
+        sender,
+        reflector,
+        largest,
+    }
+}
+
+// An estimate's fields in one word, its error in ms, and the 16 bits of an invalid one.
 struct LastWords {
     fields: u64,
     bits: u64,
+    received: u64,
 }
 
 fn last_words(last: LastEstimate) -> LastWords {
     match last {
-        LastEstimate::Absent => LastWords { fields: 0, bits: 0 },
+        LastEstimate::Absent => LastWords {
+            fields: 0,
+            bits: 0,
+            received: 0,
+        },
         LastEstimate::Seen(e) => {
             let error = e.error;
             let ms = estimates::error_words(error);
@@ -66,6 +94,7 @@ fn last_words(last: LastEstimate) -> LastWords {
             LastWords {
                 fields: flags | numbers | 16777216 | (ms.known << 25),
                 bits: ms.bits,
+                received: ms.received,
             }
         }
     }
@@ -73,10 +102,15 @@ fn last_words(last: LastEstimate) -> LastWords {
 
 fn largest_words(largest: LargestError) -> LastWords {
     match largest {
-        LargestError::Absent => LastWords { fields: 0, bits: 0 },
+        LargestError::Absent => LastWords {
+            fields: 0,
+            bits: 0,
+            received: 0,
+        },
         LargestError::Ms(ms) => LastWords {
             fields: 1,
             bits: script::bits_of(ms),
+            received: 0,
         },
     }
 }
@@ -104,10 +138,10 @@ fn shown(refusal: u64, q: ClockQuality) -> Answer {
             reflector.bits,
             largest.fields,
             largest.bits,
-            0,
-            0,
-            0,
-            0,
+            q.invalid_sender,
+            q.invalid_reflector,
+            q.invalid_both,
+            sender.received | (reflector.received << 16),
         ],
     }
 }
@@ -123,6 +157,9 @@ pub fn play(state: State, call: Call) -> Outcome {
     let quality = state.quality;
     if call.operation == 6 {
         return outcome(0, loaded(call));
+    }
+    if call.operation == 7 {
+        return outcome(0, with_ends(quality, call));
     }
     match quality.record(estimates_of(call)) {
         Recorded::Quality(next) => outcome(0, next),

@@ -9,6 +9,8 @@ use crate::shown::{Figures, Quality};
 
 /// How many words a ledger has.
 pub const LEDGER_WORDS: usize = 80;
+/// How many words a clock quality has.
+pub const QUALITY_WORDS: usize = 16;
 
 /// Flags of an [`Observation`]: which of its fields are there.
 pub const T4: u32 = 1;
@@ -232,10 +234,10 @@ extern "C" {
     fn ambrulicciu_estimate_unsynchronized(ptp: u32, wire: &mut [u16; 1]) -> u8;
     fn ambrulicciu_estimate_parts(wire: u16, parts: &mut [u64; 4]) -> u8;
     fn ambrulicciu_estimate_seconds(wire: u16, seconds: &mut [f64; 1]) -> u8;
-    fn ambrulicciu_estimate_error(wire: u16, known: &mut [u64; 1], milliseconds: &mut [f64; 1]) -> u8;
-    fn ambrulicciu_clock_quality_fresh(quality: &mut [u64; 12]) -> u8;
-    fn ambrulicciu_clock_quality_record(quality: &mut [u64; 12], estimated: u32, sender: u16, reflector: u16) -> u8;
-    fn ambrulicciu_clock_quality_summary(quality: &[u64; 12], shown: &mut Quality) -> u8;
+    fn ambrulicciu_estimate_error(wire: u16, known: &mut [u64; 1], milliseconds: &mut [f64; 1], received: &mut [u16; 1]) -> u8;
+    fn ambrulicciu_clock_quality_fresh(quality: &mut [u64; QUALITY_WORDS]) -> u8;
+    fn ambrulicciu_clock_quality_record(quality: &mut [u64; QUALITY_WORDS], estimated: u32, sender: u16, reflector: u16) -> u8;
+    fn ambrulicciu_clock_quality_summary(quality: &[u64; QUALITY_WORDS], shown: &mut Quality) -> u8;
     fn ambrulicciu_parse_pattern(
         text: *const u8,
         text_length: usize,
@@ -575,19 +577,19 @@ pub fn estimate_seconds(wire: u16, seconds: &mut [f64; 1]) -> u8 {
     unsafe { ambrulicciu_estimate_seconds(wire, seconds) }
 }
 
-pub fn estimate_error(wire: u16, known: &mut [u64; 1], milliseconds: &mut [f64; 1]) -> u8 {
-    unsafe { ambrulicciu_estimate_error(wire, known, milliseconds) }
+pub fn estimate_error(wire: u16, known: &mut [u64; 1], milliseconds: &mut [f64; 1], received: &mut [u16; 1]) -> u8 {
+    unsafe { ambrulicciu_estimate_error(wire, known, milliseconds, received) }
 }
 
-pub fn clock_quality_fresh(quality: &mut [u64; 12]) -> u8 {
+pub fn clock_quality_fresh(quality: &mut [u64; QUALITY_WORDS]) -> u8 {
     unsafe { ambrulicciu_clock_quality_fresh(quality) }
 }
 
-pub fn clock_quality_record(quality: &mut [u64; 12], estimated: u32, sender: u16, reflector: u16) -> u8 {
+pub fn clock_quality_record(quality: &mut [u64; QUALITY_WORDS], estimated: u32, sender: u16, reflector: u16) -> u8 {
     unsafe { ambrulicciu_clock_quality_record(quality, estimated, sender, reflector) }
 }
 
-pub fn clock_quality_summary(quality: &[u64; 12], shown: &mut Quality) -> u8 {
+pub fn clock_quality_summary(quality: &[u64; QUALITY_WORDS], shown: &mut Quality) -> u8 {
     unsafe { ambrulicciu_clock_quality_summary(quality, shown) }
 }
 

@@ -8,6 +8,10 @@ use crate::{
 #[derive(Clone, Copy, Debug, PartialEq, Eq)]
 pub struct Estimate(pub u16);
 
+/// What an estimate without an error is: its 16 bits.
+#[derive(Clone, Copy, Debug, PartialEq, Eq)]
+pub struct Invalid(pub u16);
+
 /// What the 16 bits say.
 #[derive(Clone, Copy, Debug, PartialEq, Eq)]
 pub struct Parts {
@@ -46,10 +50,18 @@ impl Estimate {
         seconds[0]
     }
 
-    /// In ms. None at multiplier 0, which is no error of zero.
+    /// The error in ms; or the 16 bits at multiplier 0, which is no error of zero.
+    pub fn reading(self) -> Result<f64, Invalid> {
+        let (mut known, mut error, mut received) = ([0], [0.0], [0]);
+        calls::estimate_error(self.0, &mut known, &mut error, &mut received);
+        if known[0] != 0 {
+            return Ok(error[0]);
+        }
+        Err(Invalid(received[0]))
+    }
+
+    /// In ms. None at multiplier 0.
     pub fn error(self) -> Option<f64> {
-        let (mut known, mut error) = ([0], [0.0]);
-        calls::estimate_error(self.0, &mut known, &mut error);
-        (known[0] != 0).then_some(error[0])
+        self.reading().ok()
     }
 }

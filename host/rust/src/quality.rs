@@ -1,19 +1,19 @@
 //! Declared clock quality, for hosts that keep one beside the link's own.
 use crate::{
-    calls,
+    calls::{self, QUALITY_WORDS},
     refusal::{served, Refusal},
     shown::Quality,
 };
 
 #[derive(Clone, Debug)]
 pub struct ClockQuality {
-    pub words: [u64; 12],
+    pub words: [u64; QUALITY_WORDS],
 }
 
 impl ClockQuality {
     #[allow(clippy::new_without_default)]
     pub fn new() -> ClockQuality {
-        let mut words = [0; 12];
+        let mut words = [0; QUALITY_WORDS];
         calls::clock_quality_fresh(&mut words);
         ClockQuality { words }
     }

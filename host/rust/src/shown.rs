@@ -61,6 +61,8 @@ pub struct LastEstimate {
     pub multiplier: u64,
     /// In ms. None at multiplier 0.
     pub error: Maybe<f64>,
+    /// Of an invalid estimate the 16 bits as received.
+    pub received: u64,
 }
 
 /// Declared clock quality.
@@ -72,6 +74,10 @@ pub struct Quality {
     pub unsynchronized: u64,
     pub invalid: u64,
     pub unknown: u64,
+    /// Of the invalid ones those at the sender alone, at the reflector alone, at both.
+    pub invalid_sender: u64,
+    pub invalid_reflector: u64,
+    pub invalid_both: u64,
     pub sender: Maybe<LastEstimate>,
     pub reflector: Maybe<LastEstimate>,
     /// The largest sum of both ends' errors, in ms.
@@ -118,5 +124,5 @@ pub struct Figures {
     pub follow_up: FollowUps,
 }
 
-const _: () = assert!(std::mem::size_of::<Figures>() == 85 * 8);
-const _: () = assert!(std::mem::size_of::<Quality>() == 21 * 8);
+const _: () = assert!(std::mem::size_of::<Figures>() == 90 * 8);
+const _: () = assert!(std::mem::size_of::<Quality>() == 26 * 8);

@@ -47,6 +47,7 @@ fn count_word(which: u64) -> usize {
         13..=16 => 20 + which,
         17..=22 => 27 + which,
         23..=27 => 35 + which,
+        34..=36 => 29 + which,
         28 => ROUND_TRIPS,
         31 => FOLLOW_DELAYS,
         _ => panic!("no count {which}"),
@@ -265,7 +266,9 @@ fn shown(link: &Link, call: &Call, reply: &Reply) -> Answer {
     if let Some(watch) = &link.watch {
         shown_monitor(link, watch, call, &mut words);
     }
-    words.resize(120, 0);
+    words.resize(117, 0);
+    let q = &figures.follow_up.quality;
+    words.extend([q.invalid_sender, q.invalid_reflector, q.invalid_both]);
     words.try_into().expect("120 words")
 }
 
@@ -401,7 +404,8 @@ fn shown_follow(f: &Figures, words: &mut Vec<u64>) {
     ]);
     let last = [q.sender.get(), q.reflector.get()];
     words.extend(last.map(estimate));
-    words.push(0);
+    let received = last.map(|e| e.map_or(0, |e| e.received));
+    words.push(received[0] | received[1] << 16);
     words.extend(last.map(|e| e.map_or(0, |e| bits(e.error))));
 }
 

@@ -6,11 +6,12 @@ mod scripts;
 mod shown;
 
 use super::{
-    CAPACITY, COUNTS_FULL, COUNT_BOUND, DEADLINE_PASSES, NOT_AWAITING, OUT_OF_RANGE, QUEUE_FULL,
-    SUM_BOUND, WRONG_ROOM,
+    numbers::Ends, CAPACITY, COUNTS_FULL, COUNT_BOUND, DEADLINE_PASSES, NOT_AWAITING, OUT_OF_RANGE,
+    QUEUE_FULL, SUM_BOUND, WRONG_ROOM,
 };
 use crate::{
     cover::Cover,
+    error_estimate::ErrorEstimate,
     part::{Answer, Call, Original, Part},
     sender::measurements::{Follow, Ledger, Told},
 };
@@ -112,6 +113,7 @@ struct Booked {
     freed: std::collections::HashSet<u32>,
     unobserved: std::collections::HashSet<(u32, u32, u64)>,
     broken: bool,
+    ends: Ends,
 }
 
 pub fn halves(low: u32, high: u32) -> u64 {
@@ -160,6 +162,7 @@ impl Booked {
             freed: Default::default(),
             unobserved: Default::default(),
             broken: false,
+            ends: Ends::default(),
         }
     }
 }
@@ -192,7 +195,14 @@ impl Original for Booked {
             _ => {
                 match call[1] {
                     0 => self.calls = call[2],
-                    count => self.ledger.load(count, call[2]),
+                    34..=36 => {
+                        self.ends.counts[call[1] as usize - 34] = call[2];
+                        self.ends = self.ends.loaded(self.invalid());
+                    }
+                    count => {
+                        self.ledger.load(count, call[2]);
+                        self.ends = self.ends.loaded(self.invalid());
+                    }
                 }
                 self.shown(Reply::default(), call)
             }
@@ -222,12 +232,21 @@ impl Booked {
         }
     }
 
+    fn invalid(&self) -> u64 {
+        self.ledger
+            .snapshot()
+            .follow_up
+            .clock_quality
+            .invalid_estimate
+    }
+
     /// Whether the calls, a count or a sum is at its bound.
     fn full(&self) -> bool {
         let counts = self.ledger.counts();
         let sums = self.ledger.sums();
         self.calls >= MOST_CALLS
             || counts.iter().any(|c| *c >= COUNT_BOUND)
+            || self.ends.counts.iter().any(|c| *c >= COUNT_BOUND)
             || sums
                 .iter()
                 .any(|s| s.0 >= COUNT_BOUND || s.1.unsigned_abs() >= SUM_BOUND)
@@ -355,10 +374,19 @@ impl Booked {
         let lookup_only = self.follow_line(&told, shown.is_some());
         let slot = self.ledger.slot(told.key.1);
         let before_sum = self.ledger.sums()[1].1;
+        let corrected = told.follow.and_then(|f| self.ledger.slot(f.sequence));
         self.ledger.observe(told);
         self.calls += 1;
         self.unobserved.remove(&told.key);
         let after = self.ledger.snapshot();
+        if after.follow_up.matched > before.follow_up.matched {
+            let pair = corrected
+                .and_then(|slot| slot.2)
+                .and_then(|record| record.3);
+            let wires = |(s, r)| (ErrorEstimate::from_wire(s), ErrorEstimate::from_wire(r));
+            self.ends.told(pair.map(wires));
+        }
+        self.ends.held_against(self.invalid());
         self.reached_by_direct_after(&told, &before, &after, cover);
         if let Some(line) = lookup_only {
             cover.reached(line);

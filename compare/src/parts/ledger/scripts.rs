@@ -473,7 +473,7 @@ fn bounds(random: &mut Random) -> Script {
     let fresh = fresh(random, 3, [monitor, 2, 5]);
     let mut draw = Draw::new(random, fresh, true);
     let mut i = 0;
-    for which in 0..=33 {
+    for which in 0..=36 {
         let sum = matches!(which, 29 | 30 | 32 | 33);
         let bound = match which {
             0 => MOST_CALLS,

@@ -1,5 +1,8 @@
 //! An answer's words: the call's own answer, every field of the snapshot, and all that can be seen of the rest of the original's state.
-use super::{super::monitor::digest, halves, Booked, Reply, DIGEST};
+use super::{
+    super::{monitor::digest, numbers::received},
+    halves, Booked, Reply, DIGEST,
+};
 use crate::{
     clock_format::ClockFormat,
     digest::Digest,
@@ -83,7 +86,7 @@ pub const WORDS: [&str; 120] = [
     "unknown estimates",
     "last sender estimate",
     "last reflector estimate",
-    "",
+    "the 16 bits of invalid last estimates",
     "error of the last sender estimate",
     "error of the last reflector estimate",
     "direct observations",
@@ -129,9 +132,9 @@ pub const WORDS: [&str; 120] = [
     "queued probes",
     "first digest of the queue",
     "second digest of the queue",
-    "",
-    "",
-    "",
+    "invalid at the sender alone",
+    "invalid at the reflector alone",
+    "invalid at both",
 ];
 
 /// The words of an answer, one after the other.
@@ -159,7 +162,8 @@ impl Booked {
         self.shown_rooms(call, &mut words);
         words.0.resize(112, 0);
         self.shown_monitor(&s, call, &mut words);
-        words.0.resize(120, 0);
+        words.0.resize(117, 0);
+        words.add(&self.ends.counts);
         words.0.try_into().expect("120 words")
     }
 
@@ -242,7 +246,7 @@ impl Booked {
             q.unknown,
             estimate(q.last_sender),
             estimate(q.last_reflector),
-            0,
+            received(q.last_sender) | received(q.last_reflector) << 16,
             bits(q.last_sender.and_then(|e| e.error_ms)),
             bits(q.last_reflector.and_then(|e| e.error_ms)),
         ]);

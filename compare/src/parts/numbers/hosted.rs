@@ -2,9 +2,12 @@
 //!
 //! Each call is made twice: by the plain call, into memory that holds something else before, and by the wrapper. Where the two say different
 //! things, the answer is made a difference.
-use super::{scripts, FRESH, LINES, LOAD_QUALITY, PART, QUALITY, UNSYNCHRONIZED, WIRE};
+use super::{scripts, FRESH, LINES, LOAD_ENDS, LOAD_QUALITY, PART, QUALITY, UNSYNCHRONIZED, WIRE};
 use crate::part::{Part, Script};
-use ambrulicciu::{calls, served, ClockQuality, Estimate, LastEstimate, Maybe, Parts, Quality};
+use ambrulicciu::{
+    calls::{self, QUALITY_WORDS},
+    served, ClockQuality, Estimate, Invalid, LastEstimate, Maybe, Parts, Quality,
+};
 
 pub const HOSTED: Part = Part {
     name: "host_numbers",
@@ -74,14 +77,14 @@ fn wire(word: u64) -> u16 {
 
 /// A clock quality by the plain calls, and one by the wrapper.
 struct Both {
-    words: [u64; 12],
+    words: [u64; QUALITY_WORDS],
     wrapped: ClockQuality,
 }
 
 impl Both {
     fn fresh() -> Self {
-        let mut words = [u64::MAX; 12];
-        // The last word is no part of it, and stays as it was.
+        let mut words = [u64::MAX; QUALITY_WORDS];
+        // The last two words are no part of it, and stay as they were.
         assert_eq!(calls::clock_quality_fresh(&mut words), 0);
         let wrapped = ClockQuality::new();
         Self { words, wrapped }
@@ -97,8 +100,14 @@ impl Both {
             UNSYNCHRONIZED => unsynchronized(call[1] == 2),
             QUALITY => self.record(call),
             LOAD_QUALITY => {
-                self.words = [0; 12];
-                self.words[..7].copy_from_slice(&call[1..8]);
+                self.words = [0; QUALITY_WORDS];
+                self.words[..5].copy_from_slice(&call[1..6]);
+                self.words[8..10].copy_from_slice(&call[6..8]);
+                self.wrapped.words = self.words;
+                self.shown(0)
+            }
+            LOAD_ENDS => {
+                self.words[5..8].copy_from_slice(&call[1..4]);
                 self.wrapped.words = self.words;
                 self.shown(0)
             }
@@ -122,12 +131,12 @@ impl Both {
     fn shown(&self, refusal: u8) -> [u64; 16] {
         let mut shown = JUNK;
         assert_eq!(calls::clock_quality_summary(&self.words, &mut shown), 0);
-        if self.words[..11] != self.wrapped.words[..11] || shown != self.wrapped.summary() {
+        if self.words[..14] != self.wrapped.words[..14] || shown != self.wrapped.summary() {
             return UNLIKE;
         }
         let (sender, reflector) = (last(shown.sender), last(shown.reflector));
         let mut words = [0; 16];
-        words[..12].copy_from_slice(&[
+        words.copy_from_slice(&[
             refusal.into(),
             shown.samples,
             shown.both,
@@ -140,6 +149,10 @@ impl Both {
             reflector[1],
             u64::from(shown.largest.get().is_some()),
             bits(shown.largest),
+            shown.invalid_sender,
+            shown.invalid_reflector,
+            shown.invalid_both,
+            received(shown.sender) | received(shown.reflector) << 16,
         ]);
         words
     }
@@ -153,6 +166,7 @@ const JUNK: Quality = {
         scale: 7,
         multiplier: 7,
         error: Maybe::of(7.0),
+        received: 7,
     };
     Quality {
         samples: u64::MAX,
@@ -160,6 +174,9 @@ const JUNK: Quality = {
         unsynchronized: u64::MAX,
         invalid: u64::MAX,
         unknown: u64::MAX,
+        invalid_sender: u64::MAX,
+        invalid_reflector: u64::MAX,
+        invalid_both: u64::MAX,
         sender: Maybe::of(last),
         reflector: Maybe::of(last),
         largest: Maybe::of(7.0),
@@ -168,6 +185,10 @@ const JUNK: Quality = {
 
 fn bits(value: Maybe<f64>) -> u64 {
     value.get().map_or(0, f64::to_bits)
+}
+
+fn received(estimate: Maybe<LastEstimate>) -> u64 {
+    estimate.get().map_or(0, |e| e.received)
 }
 
 fn last(estimate: Maybe<LastEstimate>) -> [u64; 2] {
@@ -224,10 +245,10 @@ fn unsynchronized(ptp: bool) -> [u64; 16] {
 /// All that 16 bits say.
 fn estimate(refusal: u8, wire: u16) -> [u64; 16] {
     let (mut parts, mut seconds) = ([u64::MAX; 4], [7.0]);
-    let (mut known, mut error) = ([u64::MAX], [7.0]);
+    let (mut known, mut error, mut received) = ([u64::MAX], [7.0], [0xa5a5]);
     let mut numbers = calls::estimate_parts(wire, &mut parts);
     numbers |= calls::estimate_seconds(wire, &mut seconds);
-    numbers |= calls::estimate_error(wire, &mut known, &mut error);
+    numbers |= calls::estimate_error(wire, &mut known, &mut error, &mut received);
     let [synchronized, ptp, scale, multiplier] = parts;
     let wrapped = Estimate(wire);
     let same = wrapped.parts()
@@ -238,12 +259,13 @@ fn estimate(refusal: u8, wire: u16) -> [u64; 16] {
             multiplier: multiplier as u8,
         }
         && wrapped.seconds() == seconds[0]
-        && wrapped.error() == (known[0] == 1).then_some(error[0]);
+        && wrapped.error() == (known[0] == 1).then_some(error[0])
+        && wrapped.reading().err() == (known[0] == 0).then_some(Invalid(received[0]));
     if numbers != 0 || !same {
         return UNLIKE;
     }
     let mut words = [0; 16];
-    words[..10].copy_from_slice(&[
+    words[..11].copy_from_slice(&[
         refusal.into(),
         synchronized,
         ptp,
@@ -254,6 +276,7 @@ fn estimate(refusal: u8, wire: u16) -> [u64; 16] {
         known[0],
         error[0].to_bits(),
         ptp,
+        received[0].into(),
     ]);
     words
 }

@@ -26,6 +26,8 @@ const UNSYNCHRONIZED: u64 = 4;
 const QUALITY: u64 = 5;
 /// The five counts, 0 or 1, the largest error: a state as a host could hand it over.
 const LOAD_QUALITY: u64 = 6;
+/// The three counts of whose estimate was invalid (document 02, Q-8), which the original has not.
+const LOAD_ENDS: u64 = 7;
 
 pub const PART: Part = Part {
     name: "numbers",
@@ -49,12 +51,16 @@ pub const PART: Part = Part {
         "its error, or 1 if there is an error in ms",
         "last reflector, or the error in ms",
         "its error, or the format",
-        "1 if there is a largest error",
+        "1 if there is a largest error, or the 16 bits of an invalid estimate",
         "largest error",
+        "invalid at the sender alone",
+        "invalid at the reflector alone",
+        "invalid at both",
+        "the 16 bits of invalid last estimates",
     ],
 };
 
-const LINES: [&str; 34] = [
+const LINES: [&str; 40] = [
     "estimate: every u16",
     "estimate: S set",
     "estimate: S clear",
@@ -89,11 +95,70 @@ const LINES: [&str; 34] = [
     "quality: refused 4 for unsynchronized",
     "quality: refused 4 for invalid",
     "quality: refused 4 for unknown",
+    "quality: refused 4 for invalid at the sender alone",
+    "quality: refused 4 for invalid at the reflector alone",
+    "quality: refused 4 for invalid at both",
+    "quality: invalid beside an unsynchronized clock",
+    "quality: invalid beside a synchronized clock",
+    "quality: unknown raises none of the three",
 ];
 
 #[derive(Default)]
 struct Numbers {
     quality: ClockQuality,
+    ends: Ends,
+}
+
+/// Document 02, Q-8, from the estimates that the script hands over: invalid at the sender alone, at the reflector alone, at both. The
+/// original has their sum alone, which each call holds them against; `loaded` is how far a load set them apart.
+#[derive(Clone, Copy, Default)]
+pub struct Ends {
+    pub counts: [u64; 3],
+    loaded: u64,
+}
+
+impl Ends {
+    /// A sample: the estimates are invalid by their fields alone, whatever their clocks say.
+    pub fn told(&mut self, pair: Option<(ErrorEstimate, ErrorEstimate)>) {
+        let invalid = |e: ErrorEstimate| e.multiplier == 0 || e.scale > 63;
+        let which = match pair.map(|(s, r)| (invalid(s), invalid(r))) {
+            Some((true, false)) => 0,
+            Some((false, true)) => 1,
+            Some((true, true)) => 2,
+            Some((false, false)) | None => return,
+        };
+        self.counts[which] += 1;
+    }
+
+    fn sum(&self) -> u64 {
+        self.counts.iter().fold(0, |sum, n| sum.wrapping_add(*n))
+    }
+
+    /// The three after a load of them or of the original's count.
+    pub fn loaded(self, invalid: u64) -> Self {
+        Self {
+            loaded: invalid.wrapping_sub(self.sum()),
+            ..self
+        }
+    }
+
+    /// The three are the original's one.
+    pub fn held_against(&self, invalid: u64) {
+        assert_eq!(self.sum().wrapping_add(self.loaded), invalid);
+    }
+}
+
+/// The 16 bits of an estimate that has no error.
+pub fn received(e: Option<ClockEstimate>) -> u64 {
+    e.filter(|e| e.error_ms.is_none()).map_or(0, |e| {
+        let fields = ErrorEstimate {
+            synchronized: e.synchronized,
+            z_flag: e.format == ClockFormat::PTP,
+            scale: e.scale,
+            multiplier: e.multiplier,
+        };
+        fields.to_wire().into()
+    })
 }
 
 /// An estimate in one word: S, Z, scale, multiplier.
@@ -116,6 +181,11 @@ impl Original for Numbers {
             WIRE | NEW | WITH_FORMAT | UNSYNCHRONIZED => estimate(call, cover),
             QUALITY => self.quality(call, cover),
             LOAD_QUALITY => self.load_quality(call),
+            LOAD_ENDS => {
+                self.ends.counts.copy_from_slice(&call[1..4]);
+                self.ends = self.ends.loaded(self.quality.invalid_estimate);
+                self.shown_quality(0)
+            }
             _ => {
                 *self = Self::default();
                 answer(&[])
@@ -172,6 +242,7 @@ fn estimate(call: &Call, cover: &mut Cover) -> Answer {
         u64::from(ms.is_some()),
         ms.map_or(0, f64::to_bits),
         u64::from(e.clock_format() == ClockFormat::PTP),
+        received(Some(ClockEstimate::from(e))),
     ])
 }
 
@@ -226,6 +297,10 @@ impl Numbers {
             reflector[1],
             u64::from(q.max_combined_error_ms.is_some()),
             q.max_combined_error_ms.map_or(0, f64::to_bits),
+            self.ends.counts[0],
+            self.ends.counts[1],
+            self.ends.counts[2],
+            received(q.last_sender) | received(q.last_reflector) << 16,
         ])
     }
 
@@ -236,7 +311,14 @@ impl Numbers {
             return self.shown_quality(refusal);
         }
         let before = self.quality.clone();
+        let ends = self.ends.counts;
         self.quality.told(pair);
+        self.ends.told(pair);
+        self.ends.held_against(self.quality.invalid_estimate);
+        cover.reached_if(
+            pair.is_none() && ends == self.ends.counts,
+            "quality: unknown raises none of the three",
+        );
         self.reached_by_quality(&before, pair, cover);
         self.shown_quality(0)
     }
@@ -252,6 +334,18 @@ impl Numbers {
             (q.unsynchronized, "quality: refused 4 for unsynchronized"),
             (q.invalid_estimate, "quality: refused 4 for invalid"),
             (q.unknown, "quality: refused 4 for unknown"),
+            (
+                self.ends.counts[0],
+                "quality: refused 4 for invalid at the sender alone",
+            ),
+            (
+                self.ends.counts[1],
+                "quality: refused 4 for invalid at the reflector alone",
+            ),
+            (
+                self.ends.counts[2],
+                "quality: refused 4 for invalid at both",
+            ),
         ];
         for (count, line) in counts {
             if count >= COUNT_BOUND {
@@ -285,6 +379,16 @@ impl Numbers {
             "quality: a scale above 63 is invalid at the reflector",
         );
         let valid = |e: ErrorEstimate| e.multiplier != 0 && e.scale <= 63;
+        let beside = if valid(s) { s } else { r };
+        let alone = valid(s) != valid(r);
+        cover.reached_if(
+            alone && !beside.synchronized,
+            "quality: invalid beside an unsynchronized clock",
+        );
+        cover.reached_if(
+            alone && beside.synchronized,
+            "quality: invalid beside a synchronized clock",
+        );
         match (valid(s), valid(r)) {
             (false, false) => cover.reached("quality: invalid at both"),
             (false, true) => cover.reached("quality: invalid at the sender alone"),
@@ -325,6 +429,7 @@ impl Numbers {
             last_reflector: None,
             max_combined_error_ms: (call[6] != 0).then(|| f64::from_bits(call[7])),
         };
+        self.ends = Ends::default().loaded(call[4]);
         self.shown_quality(0)
     }
 }
@@ -337,6 +442,7 @@ fn show(call: &Call) -> String {
         WITH_FORMAT => "with_clock_format",
         UNSYNCHRONIZED => "unsynchronized",
         QUALITY => "quality record",
+        LOAD_ENDS => "quality load of the three",
         _ => "quality load",
     };
     format!("{name} {:?}", &call[1..8])

@@ -1,6 +1,6 @@
 //! Scripts for estimates and clock quality.
 use super::{
-    super::COUNT_BOUND, packed, FRESH, LOAD_QUALITY, NEW, QUALITY, UNSYNCHRONIZED, WIRE,
+    super::COUNT_BOUND, packed, FRESH, LOAD_ENDS, LOAD_QUALITY, NEW, QUALITY, UNSYNCHRONIZED, WIRE,
     WITH_FORMAT,
 };
 use crate::{
@@ -101,18 +101,23 @@ fn dense_qualities(random: &mut Random) -> Script {
 /// Each count at its bound, one short of it, and beyond.
 fn quality_limits(random: &mut Random) -> Script {
     let mut script = vec![fresh()];
-    for which in 0..5 {
+    for which in 0..8 {
         for value in [COUNT_BOUND - 1, COUNT_BOUND, COUNT_BOUND + 1, u64::MAX] {
             let mut counts = [0; 7];
             for count in &mut counts[..5] {
                 *count = random.below(1000);
             }
-            counts[which] = value;
+            let mut ends = [0; 3].map(|_: u64| random.below(1000));
+            match which {
+                0..5 => counts[which] = value,
+                _ => ends[which - 5] = value,
+            }
             if random.chance(500) {
                 counts[5] = 1;
                 counts[6] = (random.below(1 << 40) as f64).to_bits();
             }
             script.push(call(LOAD_QUALITY, &counts));
+            script.push(call(LOAD_ENDS, &ends));
             for _ in 0..3 {
                 let told = [
                     u64::from(!random.chance(300)),
