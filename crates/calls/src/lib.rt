@@ -55,12 +55,11 @@ pub enum Time {
     Nanoseconds(i64),
 }
 
-// `FollowUpTelemetryTlv`, with the time that the host converted its timestamp to.
+// `FollowUpTelemetryTlv`, its timestamp as it came.
 pub struct FollowUpTelemetry {
     pub sequence: u32,
     pub timestamp: u64,
     pub unknown: bool,
-    pub t3: Time,
 }
 
 // The follow-up of a reply, or none.

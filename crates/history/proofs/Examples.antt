@@ -3,9 +3,9 @@ use mathlib.Core.Path.{_≡_, refl}
 use mathlib.Core.Bool.{Bool, true, false}
 use mathlib.Core.List.{List, [], _∷_}
 use mathlib.Core.Option.{Option, none, some}
-use Prim.Native.Nat.{ℕ, zero, suc}
+use Prim.Native.Nat.{ℕ, zero, suc, _*_, _^_}
 use lib.IntN.{ℤ, pos, negsuc}
-use Rattle.estimate.specs.declared.ClockFormat.the-variants.{NTP, PTP}
+use Rattle.estimate.specs.declared.ClockFormat.the-variants.{PTP}
 use Rattle.estimate.specs.declared.Estimates.the-variants.{Absent as NoEstimates}
 use Rattle.calls.specs.declared.PendingPacket.{PendingPacket}
 use Rattle.calls.specs.declared.Pending.{Pending}
@@ -23,9 +23,10 @@ use Rattle.calls.specs.declared.ReplyKey.{ReplyKey}
 use Rattle.calls.specs.declared.ReplyObservation.{ReplyObservation}
 use Rattle.calls.specs.declared.Call.{Call}
 use Rattle.calls.specs.declared.Call.the-variants.{Sent, Accept, Observe}
+use Rattle.timestamps.specs.Converted.{converted, secondNear}
 use Rattle.history.specs.Counting.{has, offset}
 use Rattle.history.specs.Ledger.{rememberings, without, distinct, replies, ordinal, packet, accepted, hasKey, awaiting, lastAccepted, held, replyClass, ready, afterReply, events, Answer, isUnique, answer, count, highestReflector, behind, probesEvicted, replyCounts, thousandths, unobserved}
-use Rattle.history.specs.FollowUps.{Slot, free, taken, followClass, slotAt, FollowClass, unavailable, ambiguous, unmatched, repeated, matched, classAt, followCounts, measured, Lookup, nothing, shows, lookup, delay}
+use Rattle.history.specs.FollowUps.{Slot, free, taken, followClass, slotAt, FollowClass, unavailable, ambiguous, unmatched, repeated, matched, classAt, followCounts, measured, measuredIn, delay}
 use Rattle.history.specs.DirectLoss.{anchorOf, receivedMaximum, latest, missing, DirectClass, mismatch, zeros, anchors, jump, again, exceeded, reordered, advanced, directClass, window, spans, Spans}
 
 -- ---- short ways to write calls
@@ -45,13 +46,13 @@ accept k p = Accept (record { key = k; pending = p })
 abbrev point : ℕ → ℕ → ℕ → CounterPoint
 point s r t = record { sender = record { 0 = s }; received = record { 0 = r }; transmitted = record { 0 = t } }
 
--- an observation with a round trip of 50, T4 at 900, NTP, reference 7, and these counters and this follow-up
+-- an observation with a round trip of 50, T4 at 900, PTP, reference 7, and these counters and this follow-up
 abbrev seenBy : ReplyKey → Counters → FollowUp → ReplyObservation
 seenBy k c f = record {
   key = k;
   rtt = 50;
   t4 = Nanoseconds (pos 900);
-  format = NTP;
+  format = PTP;
   reference = pos 7;
   offset = pos 0;
   ordinal = Number (k .sender);
@@ -63,9 +64,9 @@ seenBy k c f = record {
 abbrev observe : ReplyKey → Counters → FollowUp → Call
 observe k c f = Observe (seenBy k c f)
 
--- a follow-up of a sequence, its timestamp converted to this time
-abbrev followUp : ℕ → Time → FollowUpTelemetry
-followUp s t = record { sequence = s; timestamp = 1; unknown = false; t3 = t }
+-- a follow-up of a sequence, with this raw timestamp
+abbrev followUp : ℕ → ℕ → FollowUpTelemetry
+followUp s w = record { sequence = s; timestamp = w; unknown = false }
 
 -- ---- document 01's listing: sent 7, accept (7,7,5) pending, observe, the same accept again
 
@@ -177,50 +178,50 @@ one = observe (key 1 11 5) NoCounters NoFollowUp ∷ accept (key 1 11 5) NoPacke
 
 -- the class of a follow-up of an observation of reflector number 12
 abbrev classAfter : FollowUpTelemetry → List Call → FollowClass
-classAfter f h = classAt 4 1 f 12 (events 4 h)
+classAfter f h = classAt 4 1 f 12 (pos 0) (events 4 h)
 
-is-matched : classAfter (followUp 11 (Nanoseconds (pos 800))) one ≡ matched
-unfolding followClass slotAt events replyClass lastAccepted held ready afterReply accepted rememberings distinct without hasKey has
+is-matched : classAfter (followUp 11 800) one ≡ matched
+unfolding converted secondNear followClass slotAt events replyClass lastAccepted held ready afterReply accepted rememberings distinct without hasKey has
 is-matched = refl
 
--- no converted time
-is-unavailable : classAfter (followUp 11 NoTime) one ≡ unavailable
-unfolding followClass slotAt events replyClass lastAccepted held ready afterReply accepted rememberings distinct without hasKey has
+-- no conversion: 10^9 in the ns field
+is-unavailable : classAfter (followUp 11 1000000000) one ≡ unavailable
+unfolding converted secondNear followClass slotAt events replyClass lastAccepted held ready afterReply accepted rememberings distinct without hasKey has
 is-unavailable = refl
 
 -- no timestamp comes first
-is-unavailable-first : classAfter (record { sequence = 12; timestamp = 0; unknown = false; t3 = NoTime }) one ≡ unavailable
-unfolding followClass
+is-unavailable-first : classAfter (record { sequence = 12; timestamp = 0; unknown = false }) one ≡ unavailable
+unfolding converted secondNear followClass
 is-unavailable-first = refl
 
 -- a follow-up of the reply that brings it
-is-ambiguous-own : classAfter (followUp 12 NoTime) one ≡ ambiguous
-unfolding followClass
+is-ambiguous-own : classAfter (followUp 12 1) one ≡ ambiguous
+unfolding converted secondNear followClass
 is-ambiguous-own = refl
 
-is-unmatched : classAfter (followUp 99 NoTime) one ≡ unmatched
-unfolding followClass slotAt events replyClass lastAccepted held ready afterReply accepted rememberings distinct without hasKey has
+is-unmatched : classAfter (followUp 99 1) one ≡ unmatched
+unfolding converted secondNear followClass slotAt events replyClass lastAccepted held ready afterReply accepted rememberings distinct without hasKey has
 is-unmatched = refl
 
 -- matched once, its slot is corrected
 abbrev pub corrected : List Call
-corrected = observe (key 1 12 6) NoCounters (Telemetry (followUp 11 (Nanoseconds (pos 800)))) ∷ accept (key 1 12 6) NoPacket ∷ one
+corrected = observe (key 1 12 6) NoCounters (Telemetry (followUp 11 800)) ∷ accept (key 1 12 6) NoPacket ∷ one
 
-is-repeated : classAfter (followUp 11 NoTime) corrected ≡ repeated
-unfolding followClass slotAt events replyClass lastAccepted held ready afterReply accepted rememberings distinct without hasKey has
+is-repeated : classAfter (followUp 11 1) corrected ≡ repeated
+unfolding converted secondNear followClass slotAt events replyClass lastAccepted held ready afterReply accepted rememberings distinct without hasKey has
 is-repeated = refl
 
 -- its delay is 900 - 800
 corrected-delay : measured 4 1 (events 4 corrected) ≡ record { delay-ns = pos 100; quality = none } ∷ []
-unfolding measured followClass slotAt events replyClass lastAccepted held ready afterReply accepted rememberings distinct without hasKey has
+unfolding converted secondNear measured followClass slotAt events replyClass lastAccepted held ready afterReply accepted rememberings distinct without hasKey has
 corrected-delay = refl
 
 -- a second observation of number 11 makes it ambiguous, also after an eviction lowered the count to 1 again: the record is dropped for good
 abbrev twice : List Call
 twice = observe (key 1 11 6) NoCounters NoFollowUp ∷ accept (key 1 11 6) NoPacket ∷ one
 
-is-ambiguous-twice : classAfter (followUp 11 (Nanoseconds (pos 800))) twice ≡ ambiguous
-unfolding followClass slotAt events replyClass lastAccepted held ready afterReply accepted rememberings distinct without hasKey has
+is-ambiguous-twice : classAfter (followUp 11 800) twice ≡ ambiguous
+unfolding converted secondNear followClass slotAt events replyClass lastAccepted held ready afterReply accepted rememberings distinct without hasKey has
 is-ambiguous-twice = refl
 
 lowered : (slotAt 2 1 (events 2 (accept (key 1 14 7) NoPacket ∷ twice)) 11 ≡ taken 1 none false)
@@ -233,17 +234,15 @@ abbrev echoed : List Call
 echoed = observe (key 1 1 5) NoCounters NoFollowUp ∷ accept (key 1 1 5) NoPacket ∷ sent 1 1 ∷ []
 
 withheld : (slotAt 4 2 (events 4 echoed) 1 ≡ taken 1 none false)
-    × (slotAt 4 1 (events 4 echoed) 1 ≡ taken 1 (some (record { t4 = some (pos 900); format = NTP; reference = pos 7; quality = none })) false)
+    × (slotAt 4 1 (events 4 echoed) 1 ≡ taken 1 (some (record { t4 = some (pos 900); format = PTP; reference = pos 7; quality = none })) false)
 unfolding slotAt events replyClass lastAccepted held ready afterReply accepted rememberings distinct without hasKey has
 withheld = (refl, refl)
 
--- the lookup shows format and reference where nothing down to repeated holds, and nothing else
-lookups : (lookup 4 1 (followUp 11 NoTime) 12 (events 4 one) ≡ shows NTP (pos 7))
-    × (lookup 4 1 (followUp 11 NoTime) 12 (events 4 corrected) ≡ nothing)
-    × (lookup 4 1 (followUp 12 NoTime) 12 (events 4 one) ≡ nothing)
-    × (lookup 4 1 (followUp 99 NoTime) 12 (events 4 one) ≡ nothing)
-unfolding lookup followClass slotAt events replyClass lastAccepted held ready afterReply accepted rememberings distinct without hasKey has
-lookups = (refl, refl, refl, refl)
+-- the offset moves the window of the timestamp: 2^31 + 7 s is near 7 + 1 s, and the delay is 900 - (T3 - 10^9)
+offset-added : measuredIn (taken 1 (some (record { t4 = some (pos 900); format = PTP; reference = pos 7; quality = none })) false) (2147483655 * 2 ^ 32) (pos 1) []
+    ≡ record { delay-ns = negsuc 2147483653999999099; quality = none } ∷ []
+unfolding converted secondNear
+offset-added = refl
 
 delays : (delay (pos 900) (pos 800) (negsuc 0) ≡ negsuc 999999899) × (delay (pos 0) (pos 5) (pos 0) ≡ negsuc 4)
 delays = (refl, refl)

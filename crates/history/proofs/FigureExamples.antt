@@ -13,6 +13,7 @@ use Rattle.clock_quality.specs.declared.ClockQuality.{ClockQuality}
 use Rattle.clock_quality.specs.Samples as samples
 use Rattle.history.specs.Counting.{has}
 use Rattle.history.specs.Ledger.{rememberings, without, distinct, accepted, hasKey, lastAccepted, held, replyClass, ready, afterReply, events}
+use Rattle.timestamps.specs.Converted.{converted, secondNear}
 use Rattle.history.specs.FollowUps.{followClass, slotAt, measured, roundTrips}
 use Rattle.history.specs.Figures.{total, least, greatest, figuresOf, qualityOf, delays, given, estimates, roundTripFigures, delayFigures, clockQuality}
 use Rattle.history.proofs.Examples.{listing, one, corrected}
@@ -34,7 +35,7 @@ listing-round-trips = refl
 -- a matched follow-up of a delay of 900 - 800, of a reply without estimates; before it, none
 corrected-delays : (delayFigures 4 1 corrected ≡ record { samples = 1; sum = pos 100; minimum = some (pos 100); maximum = some (pos 100) })
     × (delayFigures 4 1 one ≡ record { samples = 0; sum = pos 0; minimum = none; maximum = none })
-unfolding total least greatest delays measured followClass slotAt events replyClass lastAccepted held ready afterReply accepted rememberings distinct without hasKey has
+unfolding converted secondNear total least greatest delays measured followClass slotAt events replyClass lastAccepted held ready afterReply accepted rememberings distinct without hasKey has
 corrected-delays = (refl, refl)
 
 corrected-quality : clockQuality 4 1 corrected ≡ record {
@@ -50,7 +51,7 @@ corrected-quality : clockQuality 4 1 corrected ≡ record {
   reflector = last.Absent;
   largest = largest.Absent;
 }
-unfolding samples.count samples.largestAmong estimates measured followClass slotAt events replyClass lastAccepted held ready afterReply accepted rememberings distinct without hasKey has
+unfolding converted secondNear samples.count samples.largestAmong estimates measured followClass slotAt events replyClass lastAccepted held ready afterReply accepted rememberings distinct without hasKey has
 corrected-quality = refl
 
 -- a synchronized clock with a multiplier of 1, and one with a multiplier of 0, whose error is not known

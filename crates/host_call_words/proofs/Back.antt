@@ -9,11 +9,12 @@ use mir.Val.{ofZ, toZ}
 use mir.ValLaws.{toZ-ofZ, ofZ-fits}
 use Rattle.estimate.specs.Make.{formatOf}
 use Rattle.calls.specs.declared.ReplyObservation.{ReplyObservation}
-use Rattle.record_parts.specs.Parts.{flag, timeWord, followTime, followTimestamp, observeFlags, timeBy, ordinalBy, countersBy, followBy, estimatesBy}
+use Rattle.calls.specs.declared.Time.the-variants.{Absent}
+use Rattle.record_parts.specs.Parts.{flag, timeWord, followTimestamp, observeFlags, timeBy, ordinalBy, countersBy, followBy, estimatesBy}
 use Rattle.record_parts.specs.Parts.{ordinalNumber, senderCount, receivedCount, transmittedCount, followSequence, senderWire, reflectorWire}
 use Rattle.record_parts.specs.Fits.{U16, U64, ObservationFits}
 use Rattle.record_parts.proofs.Back.{time-back, ordinal-back, counters-back, follow-back, estimates-back, format-back, FlagsBack, flags-back}
-use Rattle.record_parts.proofs.Back.{time-word-fits, follow-timestamp-fits, follow-time-fits, sender-wire-fits, reflector-wire-fits}
+use Rattle.record_parts.proofs.Back.{time-word-fits, follow-timestamp-fits, sender-wire-fits, reflector-wire-fits}
 use Rattle.host_numbers.specs.Numbers.{lower, upper, joined}
 use Rattle.host_observation.specs.Observation.{observationAt}
 use Rattle.host_call_words.specs.Words.{observationWords}
@@ -33,11 +34,11 @@ small : (n : ℕ) → n < 256 → n % 256 ≡ n
 small n h = omega arith
 
 module _ (o : ReplyObservation) (h : ObservationFits o) where
-  back : FlagsBack o
-  back = flags-back o
+  back : FlagsBack o Absent
+  back = flags-back o Absent
 
-  set : (k : ℕ) {b : Bool} → flag k (observeFlags o) ≡ b → flag k (observeFlags o % 256) ≡ b
-  set k e = ap (flag k) (small (observeFlags o) (back .fits)) ∙ e
+  set : (k : ℕ) {b : Bool} → flag k (observeFlags o Absent) ≡ b → flag k (observeFlags o Absent % 256) ≡ b
+  set k e = ap (flag k) (small (observeFlags o Absent) (back .fits)) ∙ e
 
   -- Nothing is lost, for each observation that its types hold.
   pub observation-back : observationAt (observationWords o) ≡ o
@@ -54,10 +55,8 @@ module _ (o : ReplyObservation) (h : ObservationFits o) where
         ∙ counters-back (o .counters)) i;
     follow = ((λ j.
         followBy (set 8 (back .followed) j) (followSequence (o .follow))
-        (long-back (followTimestamp (o .follow)) (follow-timestamp-fits (o .follow) (h .follow)) j) (set 128 (back .unknown) j)
-        (timeBy (set 16 (back .converted) j)
-        (long-back (timeWord (followTime (o .follow))) (time-word-fits (followTime (o .follow)) (follow-time-fits (o .follow) (h .follow))) j)))
-        ∙ follow-back (o .follow) (h .follow)) i;
+        (long-back (followTimestamp (o .follow)) (follow-timestamp-fits (o .follow) (h .follow)) j) (set 128 (back .unknown) j))
+        ∙ follow-back (o .follow)) i;
     quality = ((λ j.
         estimatesBy (set 32 (back .estimated) j)
         (sender-back (senderWire (o .quality)) (reflectorWire (o .quality)) (sender-wire-fits (o .quality) (h .quality)) j)

@@ -6,12 +6,12 @@ use lib.ListN.{set, replicate}
 use mir.Syntax.{w32, w64}
 use mir.Val.{ofZ}
 use Rattle.host_numbers.specs.Numbers.{lower, upper}
-use Rattle.calls.specs.declared.Time.{Time}
+use Rattle.calls.specs.declared.Time.the-variants.{Absent}
 use Rattle.calls.specs.declared.Reply.{Reply}
 use Rattle.calls.specs.declared.ReplyObservation.{ReplyObservation}
 use Rattle.calls.specs.declared.SentProbe.{SentProbe}
 use Rattle.record_parts.specs.Parts.{observeFlags, pendingFlag, pendingTime, pendingTag, timeWord, ordinalNumber}
-use Rattle.record_parts.specs.Parts.{senderCount, receivedCount, transmittedCount, followSequence, followTimestamp, followTime}
+use Rattle.record_parts.specs.Parts.{senderCount, receivedCount, transmittedCount, followSequence, followTimestamp}
 use Rattle.host_call_words.specs.Words.{wires, sentWords, acceptWords, observeWords}
 use Rattle.host_call_words.specs.Stores.{longAt, timesAt, numbersAt}
 
@@ -33,21 +33,19 @@ accept-stored r w₁ w₂ w₃ t g k e₁ et e₂ eg e₃ ek =
     let third = e₃ ∙ (λ i. longAt (second i) 12 (eg i)) in
     λ i. set (set (set (third i) 14 (r .key .sender)) 15 (r .key .reflector)) 16 (ek i)
 
-pub times-stored : (o : ReplyObservation) (w₀ w₁ w₂ w₃ w₄ w₅ w₆ : List ℕ) (a b d t : ℕ) (z : Time)
-    → a ≡ timeWord (o .t4) → b ≡ ofZ w64 (o .reference) → z ≡ followTime (o .follow) → d ≡ timeWord z → t ≡ followTimestamp (o .follow)
-    → w₁ ≡ longAt w₀ 18 (o .key .t3) → w₂ ≡ longAt w₁ 20 (o .rtt) → w₃ ≡ longAt w₂ 22 a → w₄ ≡ longAt w₃ 24 b → w₅ ≡ longAt w₄ 26 d → w₆ ≡ longAt w₅ 28 t
-    → w₆ ≡ timesAt w₀ o
-times-stored o w₀ w₁ w₂ w₃ w₄ w₅ w₆ a b d t z ea eb ez ed et e₁ e₂ e₃ e₄ e₅ e₆ =
+pub times-stored : (o : ReplyObservation) (w₀ w₁ w₂ w₃ w₄ w₅ : List ℕ) (a b t : ℕ)
+    → a ≡ timeWord (o .t4) → b ≡ ofZ w64 (o .reference) → t ≡ followTimestamp (o .follow)
+    → w₁ ≡ longAt w₀ 18 (o .key .t3) → w₂ ≡ longAt w₁ 20 (o .rtt) → w₃ ≡ longAt w₂ 22 a → w₄ ≡ longAt w₃ 24 b → w₅ ≡ longAt w₄ 28 t
+    → w₅ ≡ timesAt w₀ o
+times-stored o w₀ w₁ w₂ w₃ w₄ w₅ a b t ea eb et e₁ e₂ e₃ e₄ e₅ =
     let second = e₂ ∙ (λ i. longAt (e₁ i) 20 (o .rtt)) in
     let third = e₃ ∙ (λ i. longAt (second i) 22 (ea i)) in
     let fourth = e₄ ∙ (λ i. longAt (third i) 24 (eb i)) in
-    let converted = ed ∙ ap timeWord ez in
-    let fifth = e₅ ∙ (λ i. longAt (fourth i) 26 (converted i)) in
-    e₆ ∙ (λ i. longAt (fifth i) 28 (et i))
+    e₅ ∙ (λ i. longAt (fourth i) 28 (et i))
 
 pub numbers-stored : (w : List ℕ) (o : ReplyObservation) (n s r t q z e f : ℕ)
     → n ≡ ordinalNumber (o .ordinal) → s ≡ senderCount (o .counters) → r ≡ receivedCount (o .counters) → t ≡ transmittedCount (o .counters)
-    → q ≡ followSequence (o .follow) → z ≡ ofZ w32 (o .offset) → e ≡ wires (o .quality) → f ≡ observeFlags o
+    → q ≡ followSequence (o .follow) → z ≡ ofZ w32 (o .offset) → e ≡ wires (o .quality) → f ≡ observeFlags o Absent
     → set (set (set (set (set (set (set (set (set (set w 30 (o .key .sender)) 31 (o .key .reflector)) 32 n) 33 s) 34 r) 35 t) 36 q) 37 z) 38 e) 39 f
     ≡ numbersAt w o
 numbers-stored w o n s r t q z e f en es er et eq ez ee ef =

@@ -10,10 +10,11 @@ use Rattle.estimate.specs.declared.Estimates.{Estimates}
 use Rattle.calls.specs.declared.Reply.{Reply}
 use Rattle.calls.specs.declared.ReplyObservation.{ReplyObservation}
 use Rattle.calls.specs.declared.SentProbe.{SentProbe}
+use Rattle.calls.specs.declared.Time.the-variants.{Absent}
 use Rattle.calls.specs.declared.Call.{Call}
 use Rattle.calls.specs.declared.Call.the-variants as call
 use Rattle.record_parts.specs.Parts.{observeFlags, pendingFlag, pendingTime, pendingTag, timeWord, ordinalNumber}
-use Rattle.record_parts.specs.Parts.{senderCount, receivedCount, transmittedCount, followSequence, followTimestamp, followTime, senderWire, reflectorWire}
+use Rattle.record_parts.specs.Parts.{senderCount, receivedCount, transmittedCount, followSequence, followTimestamp, senderWire, reflectorWire}
 
 -- a number of 8 bytes as two words, before others
 abbrev pub long : ℕ → List ℕ → List ℕ
@@ -34,14 +35,14 @@ acceptWords r =
     ++ long (r .key .t3) (long (pendingTime (r .pending)) (long (pendingTag (r .pending))
     (r .key .sender ∷ r .key .reflector ∷ pendingFlag (r .pending) ∷ replicate 27 0)))
 
--- an observation, as a host lends it to `observe`: what is absent is 0, and the flags are those of the log's record
+-- an observation, as a host lends it to `observe`: what is absent is 0, and the flags are those of the log's record but for 16
 abbrev pub observationWords : ReplyObservation → List ℕ
 observationWords o =
     long (o .key .t3) (long (o .rtt) (long (timeWord (o .t4)) (long (ofZ w64 (o .reference))
-    (long (timeWord (followTime (o .follow))) (long (followTimestamp (o .follow))
+    (0 ∷ 0 ∷ long (followTimestamp (o .follow))
     (o .key .sender ∷ o .key .reflector ∷ ordinalNumber (o .ordinal)
     ∷ senderCount (o .counters) ∷ receivedCount (o .counters) ∷ transmittedCount (o .counters)
-    ∷ followSequence (o .follow) ∷ ofZ w32 (o .offset) ∷ wires (o .quality) ∷ observeFlags o ∷ 0 ∷ 0 ∷ []))))))
+    ∷ followSequence (o .follow) ∷ ofZ w32 (o .offset) ∷ wires (o .quality) ∷ observeFlags o Absent ∷ 0 ∷ 0 ∷ [])))))
 
 -- kind 2
 abbrev pub observeWords : ReplyObservation → List ℕ

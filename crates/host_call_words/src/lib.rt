@@ -9,6 +9,7 @@ use calls::Call;
 use calls::Reply;
 use calls::ReplyObservation;
 use calls::SentProbe;
+use calls::Time;
 use estimate::Estimates;
 
 fn put_long(words: &mut [u32; 44], at: usize, n: u64)
@@ -76,13 +77,11 @@ fn put_times(words: &mut [u32; 44], o: ReplyObservation)
     let follow = o.follow;
     let received = record_parts::time_word(t4);
     let reference = reference_word(o);
-    let converted = record_parts::time_word(record_parts::follow_time(follow));
     let timestamp = record_parts::follow_timestamp(follow);
     put_long(words, 18, key.t3);
     put_long(words, 20, o.rtt);
     put_long(words, 22, received);
     put_long(words, 24, reference);
-    put_long(words, 26, converted);
     put_long(words, 28, timestamp);
 }
 
@@ -103,7 +102,7 @@ fn put_numbers(words: &mut [u32; 44], o: ReplyObservation)
     words[36] = record_parts::follow_sequence(follow);
     words[37] = offset_word(o);
     words[38] = both_wires(quality);
-    words[39] = record_parts::observe_flags(o) as u32;
+    words[39] = record_parts::observe_flags(o, Time::Absent) as u32;
 }
 
 fn observe_words(o: ReplyObservation) -> [u32; 44]

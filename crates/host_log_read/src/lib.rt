@@ -81,7 +81,7 @@ fn no_call(checked: Log) -> u8
 // Words of `call`: 0 kind, 1 unused, 2 sent.time (u64), 4 sent.tag (u64), 6 sent.sequence, 7 sent.ordinal,
 // 8 accept.t3 (u64), 10 accept.time (u64), 12 accept.tag (u64), 14 accept.sender, 15 accept.reflector, 16 accept.pending, 17 accept.unused,
 // 18 observation.t3 (u64), 20 observation.round_trip (u64), 22 observation.t4 (i64), 24 observation.reference (i64),
-// 26 observation.converted_t3 (i64), 28 observation.follow_up_timestamp (u64), 30 observation.sender, 31 observation.reflector,
+// 26 observation.reserved (2), 28 observation.follow_up_timestamp (u64), 30 observation.sender, 31 observation.reflector,
 // 32 observation.ordinal, 33 observation.s_txc, 34 observation.r_rxc, 35 observation.r_txc, 36 observation.follow_up_sequence,
 // 37 observation.offset (i32), 38 observation.sender_estimate (u16), observation.reflector_estimate (u16), 39 observation.flags,
 // 40 observation.unused (2), 42 now (u64).

@@ -9,7 +9,7 @@ use lib.Dec.{eqb, leb}
 use lib.ListN.{length}
 use borrow.Author.Tests.{le-leb}
 use Rattle.scope.specs.Refusals.{wrongRoom, outOfRange}
-use Rattle.calls.specs.declared.Call.{Call}
+use Rattle.record_parts.specs.declared.Entry.{Entry}
 use Rattle.record_parts.specs.Parts.{flag, estimatesBy}
 use Rattle.ranges.specs.Ranges.{estimatesFit}
 use Rattle.log_record.specs.Records.{scalesFit, writtenTo}
@@ -20,7 +20,7 @@ use Rattle.host_log_write.specs.Told.{sentTold, acceptTold, observeTold,
 abbrev pub numberBy : List ℕ → ℕ
 numberBy bytes = cond (eqb (length bytes) 96) 0 wrongRoom
 
-by-size : (bytes : List ℕ) (c : Call) → scalesFit c ≡ true → writtenTo bytes c .number ≡ numberBy bytes
+by-size : (bytes : List ℕ) (c : Entry) → scalesFit c ≡ true → writtenTo bytes c .number ≡ numberBy bytes
 unfolding writtenTo
 by-size bytes c e = ap (λ (fits : Bool). cond (eqb (length bytes) 96) (cond fits 0 outOfRange) wrongRoom) e
 

@@ -1,30 +1,31 @@
--- The call that a host's numbers name. What is written of it is log_record's `writtenTo`: its record over 96 bytes, 5 for another number of
+-- What a host's numbers have written in a log: a entry. What is written of it is log_record's `writtenTo`: its record over 96 bytes, 5 for another number of
 -- bytes, and a refusal changes nothing. Assumes nothing.
 use mathlib.Core.List.{List}
 use Prim.Native.Nat.{ℕ}
-use Rattle.calls.specs.declared.Call.{Call}
-use Rattle.calls.specs.declared.Call.the-variants as call
+use Rattle.calls.specs.declared.Time.the-variants.{Absent}
+use Rattle.record_parts.specs.declared.Entry.{Entry}
+use Rattle.record_parts.specs.declared.Entry.the-variants as entry
 use Rattle.record_parts.specs.Parts.{pendingBy}
 use Rattle.host_numbers.specs.Numbers.{isSet}
 use Rattle.host_observation.specs.Observation.{observationAt}
 
 -- "0 sent (4 sequence, 8 ordinal, 12 time, 20 tag)"
-abbrev pub sentTold : (sequence ordinal time tag : ℕ) → Call
-sentTold sequence ordinal time tag = call.Sent (record { sequence = sequence; ordinal = ordinal; packet = record { time = time; tag = tag } })
+abbrev pub sentTold : (sequence ordinal time tag : ℕ) → Entry
+sentTold sequence ordinal time tag = entry.Sent (record { sequence = sequence; ordinal = ordinal; packet = record { time = time; tag = tag } })
 
 -- "1 accept (4 sender, 8 reflector, 12 T3; flag 1 pending: 20 time, 28 tag)"
-abbrev pub acceptTold : (sender reflector t3 pending time tag : ℕ) → Call
+abbrev pub acceptTold : (sender reflector t3 pending time tag : ℕ) → Entry
 acceptTold sender reflector t3 pending time tag =
-    call.Accept (record { key = record { sender = sender; reflector = reflector; t3 = t3 }; pending = pendingBy (isSet pending) time tag })
+    entry.Accept (record { key = record { sender = sender; reflector = reflector; t3 = t3 }; pending = pendingBy (isSet pending) time tag })
 
--- "2 observe": the observation that the lent words say
-abbrev pub observeTold : List ℕ → Call
-observeTold words = call.Observe (observationAt words)
+-- "2 observe": the observation that the lent words say, without the converted T3 of flag 16
+abbrev pub observeTold : List ℕ → Entry
+observeTold words = entry.Observe (observationAt words) Absent
 
 -- "3 advance (4 now). 4 idle."
-abbrev pub advanceTold : ℕ → Call
-advanceTold time = call.Advance time
+abbrev pub advanceTold : ℕ → Entry
+advanceTold time = entry.Advance time
 
 -- kind 4 has no fields
-abbrev pub idleTold : Call
-idleTold = call.Idle
+abbrev pub idleTold : Entry
+idleTold = entry.Idle

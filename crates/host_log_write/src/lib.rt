@@ -3,11 +3,12 @@ ghost use mathlib.Core.Path.{_≡_};
 ghost use Rattle.log_record.specs.Records.{wrote, writtenTo};
 ghost use Rattle.link_log.specs.Logs.{wrote as wroteTrailer, trailerTo};
 ghost use Rattle.host_log_write.specs.Told.{sentTold, acceptTold, observeTold, advanceTold, idleTold};
-use calls::Call;
 use calls::PendingPacket;
 use calls::Reply;
 use calls::ReplyKey;
 use calls::SentProbe;
+use calls::Time;
+use record_parts::Entry;
 
 // The record of a `sent`, over 96 lent bytes; 5 for another number of bytes.
 #[no_mangle]
@@ -26,7 +27,7 @@ pub extern "C" fn ambrulicciu_log_write_sent(
         ordinal,
         packet,
     };
-    log_record::write(bytes, Call::Sent(probe))
+    log_record::write(bytes, Entry::Sent(probe))
 }
 
 // The record of an `accept`. Where `pending` is 0 there is no pending packet, and time and tag are not looked at.
@@ -49,12 +50,12 @@ pub extern "C" fn ambrulicciu_log_write_accept(
     };
     let held = record_parts::pending_by(pending != 0, time, tag);
     let reply = Reply { key, pending: held };
-    log_record::write(bytes, Call::Accept(reply))
+    log_record::write(bytes, Entry::Accept(reply))
 }
 
 // The record of an `observe`, whose observation is lent as `ambrulicciu_observe` takes it. It is not held to the ranges of `observe`: the record
-// says what the call was told.
-// Words of `observation`: 0 t3 (u64), 2 round_trip (u64), 4 t4 (i64), 6 reference (i64), 8 converted_t3 (i64), 10 follow_up_timestamp (u64),
+// says what the call was told, and flag 16 is never set.
+// Words of `observation`: 0 t3 (u64), 2 round_trip (u64), 4 t4 (i64), 6 reference (i64), 8 reserved (2), 10 follow_up_timestamp (u64),
 // 12 sender, 13 reflector, 14 ordinal, 15 s_txc, 16 r_rxc, 17 r_txc, 18 follow_up_sequence, 19 offset (i32),
 // 20 sender_estimate (u16), reflector_estimate (u16), 21 flags, 22 unused (2).
 #[no_mangle]
@@ -62,7 +63,7 @@ pub extern "C" fn ambrulicciu_log_write_observe(bytes: &mut [u8], observation: &
     ensures { λ r. ⌜ wrote r (now (bytes .exit)) ≡ writtenTo (now (bytes .entry)) (observeTold (now (observation .entry))) ⌝ }
 {
     let told = host_observation::observation_of(observation);
-    log_record::write(bytes, Call::Observe(told))
+    log_record::write(bytes, Entry::Observe(told, Time::Absent))
 }
 
 // The record of the monitor's `advance`.
@@ -70,7 +71,7 @@ pub extern "C" fn ambrulicciu_log_write_observe(bytes: &mut [u8], observation: &
 pub extern "C" fn ambrulicciu_log_write_advance(bytes: &mut [u8], time: u64) -> u8
     ensures { λ r. ⌜ wrote r (now (bytes .exit)) ≡ writtenTo (now (bytes .entry)) (advanceTold time) ⌝ }
 {
-    log_record::write(bytes, Call::Advance(time))
+    log_record::write(bytes, Entry::Advance(time))
 }
 
 // The record of the monitor's `idle`.
@@ -78,7 +79,7 @@ pub extern "C" fn ambrulicciu_log_write_advance(bytes: &mut [u8], time: u64) -> 
 pub extern "C" fn ambrulicciu_log_write_idle(bytes: &mut [u8]) -> u8
     ensures { λ r. ⌜ wrote r (now (bytes .exit)) ≡ writtenTo (now (bytes .entry)) idleTold ⌝ }
 {
-    log_record::write(bytes, Call::Idle)
+    log_record::write(bytes, Entry::Idle)
 }
 
 // The trailer of a log of `count` records, over 24 lent bytes; 5 for another number of bytes, and 9 for more records than 65,536 bytes hold.

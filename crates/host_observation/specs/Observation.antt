@@ -1,5 +1,6 @@
 -- The observation that 24 words of 32 bits say: what a host lends to `observe`. The fields are those of document 01's observe record ('Log and
--- program', kind 2), the 8-byte ones first, each as two words with the low one first; the flags are that record's byte 1.
+-- program', kind 2) without the converted T3, the 8-byte ones first, each as two words with the low one first; the flags are that record's
+-- byte 1, of which 16 is ignored.
 -- Every word pattern says an observation. Assumes nothing.
 use mathlib.Core.List.{List}
 use Prim.Native.Nat.{ℕ, _+_, _/_, _%_}
@@ -35,15 +36,15 @@ keyAt w = record { sender = word w 12; reflector = word w 13; t3 = double w 0 }
 abbrev pub countersAt : List ℕ → Counters
 countersAt w = countersBy (flag 4 (flagsAt w)) (word w 15) (word w 16) (word w 17)
 
--- 18 sequence, 10-11 timestamp: flag 8; within it 8-9 converted T3: flag 16, and unknown mode: flag 128
+-- 18 sequence, 10-11 timestamp: flag 8; within it unknown mode: flag 128
 abbrev pub followAt : List ℕ → FollowUp
-followAt w = followBy (flag 8 (flagsAt w)) (word w 18) (double w 10) (flag 128 (flagsAt w)) (timeBy (flag 16 (flagsAt w)) (double w 8))
+followAt w = followBy (flag 8 (flagsAt w)) (word w 18) (double w 10) (flag 128 (flagsAt w))
 
 -- 20 as on the wire, the sender's estimate in the low 16 bits and the reflector's in the high ones: flag 32
 abbrev pub estimatesAt : List ℕ → Estimates
 estimatesAt w = estimatesBy (flag 32 (flagsAt w)) (word w 20 % 65536) (word w 20 / 65536)
 
--- 2-3 round trip; 4-5 T4: flag 1; PTP: flag 64; 6-7 reference; 19 offset; 14 ordinal: flag 2. Words 22 and 23 are unused.
+-- 2-3 round trip; 4-5 T4: flag 1; PTP: flag 64; 6-7 reference; 19 offset; 14 ordinal: flag 2. Words 8, 9, 22 and 23 are unused.
 unfoldable pub observationAt : List ℕ → ReplyObservation
 observationAt w = record {
   key = keyAt w;

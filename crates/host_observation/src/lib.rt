@@ -74,16 +74,14 @@ fn counters(words: &[u32; 24]) -> Counters
     record_parts::counters_by(there, words[15], words[16], words[17])
 }
 
-// 16 and 128 count only with 8: without a follow-up there is nothing that they say.
+// 128 counts only with 8: without a follow-up there is nothing that it says.
 fn follow(words: &[u32; 24]) -> FollowUp
     ensures { λ r. ⌜ r ≡ followAt (now (words .entry)) ⌝ }
 {
     let flags = flags(words);
-    let converted = both(words[8], words[9]);
     let timestamp = both(words[10], words[11]);
     let unknown = flag_set(flags, 128);
-    let t3 = record_parts::time_by(flag_set(flags, 16), converted);
-    record_parts::follow_by(flag_set(flags, 8), words[18], timestamp, unknown, t3)
+    record_parts::follow_by(flag_set(flags, 8), words[18], timestamp, unknown)
 }
 
 fn low_half(word: u32) -> u16

@@ -122,7 +122,7 @@ module _ (N : ℕ) (byKey : ReplyKey → ℕ) (byNumber : ℕ → ℕ) (w : List
   pub follow-told :
       (f : FollowUpTelemetry) (c : Class) (offset : ℤ) (slots' : List (List ℕ)) (w' : List ℕ)
       → o .follow ≡ follow.Telemetry f
-      → classOutcome c slots' ≡ classIn N byKey byNumber ring keys slots links (o .key .reflector) f
+      → classOutcome c slots' ≡ classIn N byKey byNumber ring keys slots links (o .key .reflector) offset f
       → offset ≡ o .offset
       → w' ≡ followStored w (followed (followAt 44 w) c offset)
       → followLeft w' slots' ≡ followLeaves w (followIn N byKey byNumber (followAt 44 w) ring keys slots links o)

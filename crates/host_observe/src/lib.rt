@@ -2,7 +2,6 @@
 // words, counted and stored, in the original's order. Crate ledger_observe has the same call on a ledger by value; its contract and this one
 // cite one definition, `observeTo`.
 ghost use mathlib.Core.Path.{_≡_};
-ghost use mathlib.Core.Bool.{true};
 ghost use Prim.Native.Nat.{_≤_};
 ghost use lib.IntN.{pos};
 ghost use lib.ListN.{length};
@@ -10,7 +9,6 @@ ghost use lib.Seq.{sets};
 ghost use Rattle.scope.specs.Limits.{capacity};
 ghost use Rattle.chains.specs.Hash.{numberHash};
 ghost use Rattle.chains.specs.Rings.{RingFits};
-ghost use Rattle.ranges.specs.Ranges.{followFits};
 ghost use Rattle.correlation.specs.declared.follow.Class.the-variants as classes;
 ghost use Rattle.correlation.specs.Class.{MatchedInRange, offsetInRange};
 ghost use Rattle.key_ring.specs.Table.{hashOf};
@@ -137,7 +135,7 @@ fn count_follow_up(
     secret: [u32; 8],
     told: ReplyObservation,
 )
-    requires { ⌜ (length (now keys) ≡ capacity) × (length (now slots) ≡ capacity) × (length (now links) ≡ capacity) × RingFits capacity ring × follow_ups.InBounds (followAt 44 (now ledger)) × (followFits (told .follow) ≡ true) × offsetInRange (told .offset) ⌝ }
+    requires { ⌜ (length (now keys) ≡ capacity) × (length (now slots) ≡ capacity) × (length (now links) ≡ capacity) × RingFits capacity ring × follow_ups.InBounds (followAt 44 (now ledger)) × offsetInRange (told .offset) ⌝ }
     ensures { λ _. ⌜ followLeft (now (ledger .exit)) (now (slots .exit)) ≡ followLeaves (now (ledger .entry)) (followIn capacity (hashOf secret) (numberHash secret) (followAt 44 (now (ledger .entry))) ring (now (keys .entry)) (now (slots .entry)) (now (links .entry)) told) ⌝ }
 {
     let follow_up = told.follow;
@@ -153,6 +151,7 @@ fn count_follow_up(
                 ring,
                 secret,
                 own,
+                told.offset,
                 telemetry,
             );
             count_class(ledger, class, told.offset);
@@ -184,9 +183,9 @@ fn observed(
     ledger_follow::raise_own(copies, keys, slots, links, ring, secret, told);
 }
 
-// `flags` are those of document 01's observe record: 1 T4, 2 ordinal, 4 counters, 8 follow-up, 16 converted T3, 32 estimates, 64 PTP, 128
-// unknown mode; 16 and 128 count only with 8, other bits are ignored.
-// Words of `observation`: 0 t3 (u64), 2 round_trip (u64), 4 t4 (i64), 6 reference (i64), 8 converted_t3 (i64), 10 follow_up_timestamp (u64),
+// `flags` are those of document 01's observe record: 1 T4, 2 ordinal, 4 counters, 8 follow-up, 32 estimates, 64 PTP, 128 unknown
+// mode, which counts only with 8; 16 and the bits above 128 are ignored.
+// Words of `observation`: 0 t3 (u64), 2 round_trip (u64), 4 t4 (i64), 6 reference (i64), 8 reserved (2), 10 follow_up_timestamp (u64),
 // 12 sender, 13 reflector, 14 ordinal, 15 s_txc, 16 r_rxc, 17 r_txc, 18 follow_up_sequence, 19 offset (i32),
 // 20 sender_estimate (u16), reflector_estimate (u16), 21 flags, 22 unused (2).
 #[no_mangle]

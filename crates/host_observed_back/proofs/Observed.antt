@@ -57,7 +57,7 @@ follow-by :
 unfolding followed
 follow-by N byKey byNumber follow.Absent f ring keys slots links o h = h
 follow-by N byKey byNumber (follow.Telemetry t) f ring keys slots links o h =
-    class-fits (f .quality) (classAt N slots (holderOf N byKey byNumber ring keys slots links (t .sequence)) (o .key .reflector) t) h
+    class-fits (f .quality) (classAt N slots (holderOf N byKey byNumber ring keys slots links (t .sequence)) (o .key .reflector) (o .offset) t) h
 
 -- a class that is not matched leaves delays and clock quality
 class-stays : (f : FollowUps) (c : Class) (offset : ℤ) → followed f c offset .counts .matched ≡ f .counts .matched → FollowStays f (followed f c offset)
@@ -73,7 +73,7 @@ follow-stays :
     followBy N byKey byNumber x f ring keys slots links o .follow .counts .matched ≡ f .counts .matched → FollowStays f (followBy N byKey byNumber x f ring keys slots links o .follow)
 follow-stays N byKey byNumber follow.Absent f ring keys slots links o e = record { delay-stays = refl; quality-stays = refl }
 follow-stays N byKey byNumber (follow.Telemetry t) f ring keys slots links o e =
-    class-stays f (classAt N slots (holderOf N byKey byNumber ring keys slots links (t .sequence)) (o .key .reflector) t) (o .offset) e
+    class-stays f (classAt N slots (holderOf N byKey byNumber ring keys slots links (t .sequence)) (o .key .reflector) (o .offset) t) (o .offset) e
 
 -- ---- the whole
 

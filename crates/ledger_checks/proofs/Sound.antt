@@ -23,8 +23,8 @@ use Rattle.follow_ups.specs.Bounds as follow_ups
 use Rattle.ledger_state.specs.declared.Ledger.{Ledger}
 use Rattle.ledger_state.specs.Refusal.{sized, ringFits, ringsFit, countsFit, roomForCall}
 use Rattle.ledger_state.proofs.Served.{served}
-use Rattle.ledger_steps.specs.Refusals.{awaitsKey, refusalOfSent, refusalOfAccept, refusalOfObserve, refusalOfLookup, refusalOfAnswered}
-use Rattle.ledger_checks.specs.Sound.{SoundRings, SoundCounts, SoundSent, SoundAccept, SoundObserve, SoundLookup, SoundAnswered}
+use Rattle.ledger_steps.specs.Refusals.{awaitsKey, refusalOfSent, refusalOfAccept, refusalOfObserve, refusalOfAnswered}
+use Rattle.ledger_checks.specs.Sound.{SoundRings, SoundCounts, SoundSent, SoundAccept, SoundObserve, SoundAnswered}
 use Rattle.ledger_checks.proofs.Order.{earlier-none}
 
 -- ---- the parts of the state
@@ -191,15 +191,6 @@ observe-sound l keys slots offsets links o h =
       counts = counts-sound l (p .counted-is);
       awaiting = p .awaiting-is;
     }
-
-pub lookup-sound : (l : Ledger) (keys slots links : ℕ) → refusalOfLookup l keys slots links ≡ 0 → SoundLookup l keys slots links
-unfolding refusalOfLookup
-lookup-sound l keys slots links h =
-    let p = served (sized keys && sized slots && sized links && ringsFit l) true true true true true h in
-    let x = both (sized keys && sized slots && sized links) (ringsFit l) (p .placed-is) in
-    let y = both (sized keys && sized slots) (sized links) (x .0) in
-    let z = both (sized keys) (sized slots) (y .0) in
-    record { keys-size = size keys (z .0); slots-size = size slots (z .1); links-size = size links (y .1); rings = rings-sound l (x .1) }
 
 pub answered-sound : (l : Ledger) (probes links : ℕ) → refusalOfAnswered l probes links ≡ 0 → SoundAnswered l probes links
 unfolding refusalOfAnswered

@@ -57,13 +57,6 @@ pub record SoundObserve (l : Ledger) (keys : List (List ℕ)) (slots offsets lin
   pub counts : SoundCounts l
   pub awaiting : awaitsKey l keys (o .key) ≡ true
 
--- the lookup, not 5: its three rooms and the rings; it only reads, so that no count is tested
-pub record SoundLookup (l : Ledger) (keys slots links : ℕ) : Type 0 where
-  pub keys-size : keys ≡ capacity
-  pub slots-size : slots ≡ capacity
-  pub links-size : links ≡ capacity
-  pub rings : SoundRings l
-
 -- `answered`, not 5: its two rooms and the rings; it only reads, so that no count is tested
 pub record SoundAnswered (l : Ledger) (probes links : ℕ) : Type 0 where
   pub probes-size : probes ≡ capacity

@@ -3,7 +3,7 @@
 ghost use mathlib.Core.Path.{_≡_};
 ghost use lib.ListN.{length};
 ghost use Rattle.ledger_steps.specs.Refusals.{line as lineOf, earlier as earlierOf, awaitsKey};
-ghost use Rattle.ledger_steps.specs.Refusals.{refusalOfSent, refusalOfAccept, refusalOfObserve, refusalOfLookup, refusalOfAnswered};
+ghost use Rattle.ledger_steps.specs.Refusals.{refusalOfSent, refusalOfAccept, refusalOfObserve, refusalOfAnswered};
 use calls::ReplyObservation;
 use ledger_state::Ledger;
 use ledger_state::first_refusal;
@@ -105,13 +105,6 @@ pub fn refusal_of_observe(
     let awaiting = tables.awaits & key_ring::is_newest(keys, ring, key);
     let ranged = ranges::in_range(observation);
     first_refusal(true, ranged, true, room_for_call(ledger), awaiting, true)
-}
-
-pub fn refusal_of_lookup(ledger: Ledger, keys: usize, slots: usize, links: usize) -> u8
-    ensures { λ r. ⌜ r ≡ refusalOfLookup ledger keys slots links ⌝ }
-{
-    let placed = (keys == CAPACITY) & (slots == CAPACITY) & (links == CAPACITY) & rings_fit(ledger);
-    first_refusal(placed, true, true, true, true, true)
 }
 
 pub fn refusal_of_answered(ledger: Ledger, probes: usize, links: usize) -> u8

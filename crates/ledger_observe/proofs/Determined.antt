@@ -10,9 +10,6 @@ use Rattle.ledger_steps.specs.Calls.{ObserveResult}
 use Rattle.ledger_observe.proofs.observe as observe
 use Rattle.ledger_observe.proofs.observe.Kinds as observe-kinds
 use Rattle.ledger_observe.proofs.observe.Reads as observe-reads
-use Rattle.ledger_observe.proofs.lookup as lookup
-use Rattle.ledger_observe.proofs.lookup.Kinds as lookup-kinds
-use Rattle.ledger_observe.proofs.lookup.Reads as lookup-reads
 
 -- the answer, the rows of words, the seen offsets and the links
 pub observe-unique :
@@ -27,10 +24,3 @@ observe-unique κs a r₁ r₂ s₁ s₂ p q =
       ap (λ (x : ObserveResult). x .offsets) e,
       ap (λ (x : ObserveResult). x .links) e,
     )
-
--- the answer; the rooms are only read
-pub lookup-unique :
-    (κs : Lfts 3) (a : World.ArgsD lookup.signature κs) (r₁ r₂ : World.ResD lookup.signature κs)
-    (s₁ s₂ : Clauses.AtExit (Kinds'.endedOf 3 lookup-kinds.ps lookup-kinds.r) κs)
-    → lookup-reads.Post κs a r₁ s₁ → lookup-reads.Post κs a r₂ s₂ → r₁ ≡ r₂
-lookup-unique κs a r₁ r₂ s₁ s₂ p q = p ∙ sym q

@@ -5,21 +5,18 @@ use mathlib.Core.List.{List}
 use Prim.Native.Nat.{ℕ, zero, suc, _+_, _-_}
 use lib.ListN.{length, set}
 use native.Mathlib.Omega.{arith}
-use Rattle.calls.specs.declared.FollowUpTelemetry.{FollowUpTelemetry}
 use Rattle.calls.specs.declared.ReplyKey.{ReplyKey}
 use Rattle.calls.specs.declared.ReplyObservation.{ReplyObservation}
 use Rattle.chains.specs.declared.Ring.{Ring}
 use Rattle.chains.specs.Rings.{RingFits}
 use Rattle.chains.proofs.Tests.{lt-true}
 use Rattle.chains.proofs.Places.{wrap-below}
-use Rattle.correlation.specs.declared.follow.Shown.{Shown}
 use Rattle.key_ring.specs.Table.{newestSlot}
 use Rattle.ledger_state.specs.declared.Ledger.{Ledger}
 use Rattle.ledger_steps.specs.declared.Answer.the-variants as answer
-use Rattle.ledger_steps.specs.Refusals.{refusalOfObserve, refusalOfLookup}
+use Rattle.ledger_steps.specs.Refusals.{refusalOfObserve}
 use Rattle.ledger_steps.specs.Observe.{ObserveOutcome, holderOf, ownWords, ownIn, observeOn}
-use Rattle.ledger_steps.specs.Readers.{lookupOn}
-use Rattle.ledger_steps.specs.Calls.{number, ObserveResult, observeResult, observeBy, observeTo, lookupNumber, lookupBy, lookupTo}
+use Rattle.ledger_steps.specs.Calls.{number, ObserveResult, observeResult, observeBy, observeTo}
 
 -- ---- `observe`
 
@@ -50,18 +47,6 @@ module _ (l : Ledger) (keys slots : List (List ℕ)) (offsets : List ℕ) (links
   pub observe-refused : (n : ℕ) → observeTo l keys slots offsets links o .answer ≡ answer.Refused n → Refused slots offsets links (observeTo l keys slots offsets links o) n (refusalOfObserve l keys (length slots) (length offsets) (length links) o)
   unfolding observeTo
   observe-refused n e = refused-by slots offsets links _ (observeOn l keys slots offsets links o) n e
-
--- ---- the lookup
-
-looked-by : (k : ℕ) (s : Shown) → lookupNumber (lookupBy k s) ≡ k
-looked-by zero s = refl
-looked-by (suc k) s = refl
-
-pub lookup-number :
-    (l : Ledger) (keys slots links : List (List ℕ)) (own : ℕ) (f : FollowUpTelemetry)
-    → lookupNumber (lookupTo l keys slots links own f) ≡ refusalOfLookup l (length keys) (length slots) (length links)
-unfolding lookupTo
-lookup-number l keys slots links own f = looked-by _ (lookupOn l keys slots links own f)
 
 -- ---- refusal 5, "needs a new slot and none is free"
 

@@ -1,4 +1,4 @@
--- What the answers of the functions that are called say together: the outcome of `observe` and of the lookup, refused or served.
+-- What the answers of the functions that are called say together: the outcome of `observe`, refused or served.
 -- Assumes nothing.
 use mathlib.Core.Path.{_≡_, refl, sym, ap, _∙_}
 use mathlib.Core.Bool.{true, false, _&&_}
@@ -8,12 +8,10 @@ use lib.IntN.{pos}
 use lib.ListN.{length}
 use borrow.Author.Tests.{leb-true}
 use Rattle.scope.specs.Limits.{capacity}
-use Rattle.calls.specs.declared.FollowUpTelemetry.{FollowUpTelemetry}
 use Rattle.calls.specs.declared.ReplyKey.{ReplyKey}
 use Rattle.calls.specs.declared.ReplyObservation.{ReplyObservation}
 use Rattle.chains.specs.Hash.{numberHash}
-use Rattle.ranges.specs.Ranges.{timeFits, referenceWithin, offsetWithin, estimatesFit, followFits, inRange}
-use Rattle.correlation.specs.declared.follow.Shown.{Shown}
+use Rattle.ranges.specs.Ranges.{timeFits, referenceWithin, offsetWithin, estimatesFit, inRange}
 use Rattle.correlation.specs.Class.{offsetInRange}
 use Rattle.key_ring.specs.Table.{hashOf}
 use Rattle.replies.proofs.Tested.{both}
@@ -25,25 +23,20 @@ use Rattle.follow_ups.specs.declared.FollowUps.{FollowUps}
 use Rattle.ledger_state.specs.State.{hashWords}
 use Rattle.ledger_state.specs.declared.Ledger.{Ledger}
 use Rattle.ledger_steps.specs.declared.Answer.the-variants as answer
-use Rattle.ledger_steps.specs.declared.LookupAnswer.the-variants as looks
-use Rattle.ledger_steps.specs.Refusals.{refusalOfObserve, refusalOfLookup}
+use Rattle.ledger_steps.specs.Refusals.{refusalOfObserve}
 use Rattle.ledger_steps.specs.Observe.{DirectOutcome, directOutcome, directIn, FollowOutcome, followOutcome, followIn, ownIn}
 use Rattle.ledger_steps.specs.Observe.{ledgerObserved, ObserveOutcome, observeOutcome, observeWith, observeIn, observeOn}
-use Rattle.ledger_steps.specs.Readers.{shownIn, lookupOn}
-use Rattle.ledger_steps.specs.Calls.{observeResult, observeBy, observeTo, lookupBy, lookupTo}
+use Rattle.ledger_steps.specs.Calls.{observeResult, observeBy, observeTo}
 
 -- what the range tests show to the follow-up's part
-pub follow-ranged : (o : ReplyObservation) → inRange o ≡ true → (followFits (o .follow) ≡ true) × offsetInRange (o .offset)
+pub follow-ranged : (o : ReplyObservation) → inRange o ≡ true → offsetInRange (o .offset)
 unfolding inRange
 follow-ranged o h =
     let a = timeFits (o .t4) in
     let b = referenceWithin (o .reference) in
     let c = offsetWithin (o .offset) in
-    let d = estimatesFit (o .quality) in
-    let x = both (a && b && c && d) (followFits (o .follow)) h in
-    let y = both (a && b && c) d (x .0) in
-    let z = both (a && b) c (y .0) in
-    (x .1, leb-true _ _ (z .1))
+    let x = both (a && b && c) (estimatesFit (o .quality)) h in
+    leb-true _ _ (both (a && b) c (x .0) .1)
 
 -- the state
 pub ledger-as :
@@ -113,28 +106,3 @@ module _ (l : Ledger) (keys slots : List (List ℕ)) (offsets : List ℕ) (links
   refused-as n e h =
       refused-by n (observeOn l keys slots offsets links o) h
       ∙ ap (λ (k : ℕ). observeBy k (observeOn l keys slots offsets links o) slots offsets links) e
-
-module _ (l : Ledger) (keys slots links : List (List ℕ)) (own : ℕ) (f : FollowUpTelemetry) where
-  -- a lookup that is served
-  pub looked-as :
-      (secret : List ℕ) (shown : Shown)
-      → refusalOfLookup l (length keys) (length slots) (length links) ≡ 0
-      → secret ≡ hashWords l
-      → shown ≡ shownIn capacity (hashOf secret) (numberHash secret) (l .tables .keys) keys slots links own f
-      → looks.Served shown ≡ lookupTo l keys slots links own f
-  unfolding lookupTo
-  looked-as secret shown z e₁ e₂ =
-      ap looks.Served (e₂ ∙ ap (λ (s : List ℕ). shownIn capacity (hashOf s) (numberHash s) (l .tables .keys) keys slots links own f) e₁)
-      ∙ sym (ap (λ (k : ℕ). lookupBy k (lookupOn l keys slots links own f)) z)
-
-  -- a lookup that is refused
-  not-looked : (n : ℕ) (shown : Shown) → (n ≡ 0 → ⊥) → looks.Refused n ≡ lookupBy n shown
-  not-looked zero shown h = absurd (h refl)
-  not-looked (suc n) shown h = refl
-
-  pub not-looked-as :
-      (n : ℕ) → n ≡ refusalOfLookup l (length keys) (length slots) (length links) → (n ≡ 0 → ⊥)
-      → looks.Refused n ≡ lookupTo l keys slots links own f
-  unfolding lookupTo
-  not-looked-as n e h =
-      not-looked n (lookupOn l keys slots links own f) h ∙ ap (λ (k : ℕ). lookupBy k (lookupOn l keys slots links own f)) e

@@ -1,11 +1,10 @@
-// `observe` of src/sender/measurements.rs, and the lookup that the host makes before it, over the ledger's lent rooms.
+// `observe` of src/sender/measurements.rs, over the ledger's lent rooms.
 // Refused with document 01's number, or served: round trip, direct counters, follow-up, then the own correlation slot.
 ghost use mathlib.Core.Path.{_≡_};
 ghost use lib.ListN.{length};
 ghost use Rattle.ledger_checks.specs.Sound.{SoundCounts, SoundObserve};
 ghost use Rattle.ledger_steps.specs.Observe.{ledgerObserved, observeOutcome, observeOn};
-ghost use Rattle.ledger_steps.specs.Calls.{observeResult, observeTo, lookupTo};
-use calls::FollowUpTelemetry;
+ghost use Rattle.ledger_steps.specs.Calls.{observeResult, observeTo};
 use calls::ReplyObservation;
 use direct::Direct;
 use follow_ups::FollowUps;
@@ -13,7 +12,6 @@ use ledger_state::Counts;
 use ledger_state::Ledger;
 use ledger_state::Tables;
 use ledger_steps::Answer;
-use ledger_steps::LookupAnswer;
 
 // The state after the round trip, the direct counters and the follow-up: the key no longer awaits.
 fn ledger_observed(ledger: Ledger, rtt: u64, direct: Direct, follow: FollowUps) -> Ledger
@@ -101,34 +99,4 @@ pub fn observe(
         return Answer::Served(observed(ledger, keys, slots, offsets, links, observation));
     }
     Answer::Refused(number)
-}
-
-// The lookup. `own` is the reflector number of the reply that carries the follow-up.
-pub fn lookup(
-    ledger: Ledger,
-    keys: &[[u64; 2]],
-    slots: &[[u64; 3]],
-    links: &[[u16; 8]],
-    own: u32,
-    follow: FollowUpTelemetry,
-) -> LookupAnswer
-    ensures { λ q. ⌜ q ≡ lookupTo ledger (now (keys .entry)) (now (slots .entry)) (now (links .entry)) own follow ⌝ }
-{
-    let number = ledger_checks::refusal_of_lookup(ledger, keys.len(), slots.len(), links.len());
-    if number == 0 {
-        let hash = ledger.secret;
-        let secret = hash.words();
-        let tables = ledger.tables;
-        let ring = tables.keys;
-        return LookupAnswer::Served(ledger_follow::shown(
-            keys,
-            slots,
-            links,
-            ring,
-            secret,
-            own,
-            follow,
-        ));
-    }
-    LookupAnswer::Refused(number)
 }

@@ -20,9 +20,9 @@ use Rattle.calls.specs.declared.Call.the-variants.{Sent, Accept, Observe, Advan
 use Rattle.clock_quality.specs.Quality as quality
 use Rattle.clock_quality.specs.Samples as samples
 use Rattle.history.specs.Counting.{tally, has, orElse}
-use Rattle.history.specs.Given.{EstimatePair, packetOf, timeOf, followOf}
+use Rattle.history.specs.Given.{EstimatePair, packetOf, followOf}
 use Rattle.history.specs.Ledger.{Event, remembered, replied, observed, noPacket, accepted, held, Class, duplicate, unknown, unique, CallTest, isSent, onReply, onObserve, replyClass, ready, afterReply, events, count, probesEvicted}
-use Rattle.history.specs.FollowUps.{Slot, free, taken, Measured, measuredBy, measuredIn, sameFollow, matched, classAt, slotAt, measuredOf, measured, roundTrips}
+use Rattle.history.specs.FollowUps.{Slot, free, taken, convertedIn, Measured, measuredBy, measuredIn, sameFollow, matched, classAt, slotAt, measuredOf, measured, roundTrips}
 use Rattle.history.specs.Figures.{delays, estimates}
 use Rattle.link_history.specs.Shows.{isCounted, callsIn}
 
@@ -122,17 +122,17 @@ by-few (some a) (some b) offset q ms = omega arith
 by-few (some a) none offset q ms = omega arith
 by-few none b offset q ms = omega arith
 
-in-few : (s : Slot) (t3 : Option ℤ) (offset : ℤ) (ms : List Measured) → length (measuredIn s t3 offset ms) ≤ suc (length ms)
-in-few free t3 offset ms = omega arith
-in-few (taken n none c) t3 offset ms = omega arith
-in-few (taken n (some r) c) t3 offset ms = by-few (r .t4) t3 offset (r .quality) ms
+in-few : (s : Slot) (w : ℕ) (offset : ℤ) (ms : List Measured) → length (measuredIn s w offset ms) ≤ suc (length ms)
+in-few free w offset ms = omega arith
+in-few (taken n none c) w offset ms = omega arith
+in-few (taken n (some r) c) w offset ms = by-few (r .t4) (convertedIn r w offset) offset (r .quality) ms
 
 of-few : (copies : ℕ) (f : Option FollowUpTelemetry) (o : ReplyObservation) (es : List Event) (ms : List Measured) → length (measuredOf capacity copies f o es ms) ≤ suc (length ms)
 of-few copies none o es ms = omega arith
-of-few copies (some f) o es ms = go (sameFollow matched (classAt capacity copies f (o .key .reflector) es))
+of-few copies (some f) o es ms = go (sameFollow matched (classAt capacity copies f (o .key .reflector) (o .offset) es))
   where
-    go : (b : Bool) → length (cond b (measuredIn (slotAt capacity copies es (f .sequence)) (timeOf (f .t3)) (o .offset) ms) ms) ≤ suc (length ms)
-    go true = in-few (slotAt capacity copies es (f .sequence)) (timeOf (f .t3)) (o .offset) ms
+    go : (b : Bool) → length (cond b (measuredIn (slotAt capacity copies es (f .sequence)) (f .timestamp) (o .offset) ms) ms) ≤ suc (length ms)
+    go true = in-few (slotAt capacity copies es (f .sequence)) (f .timestamp) (o .offset) ms
     go false = omega arith
 
 pub measured-few : (copies : ℕ) (es : List Event) → length (measured capacity copies es) ≤ length es

@@ -10,7 +10,6 @@ use borrow.Author.Tests.{le-leb}
 use Rattle.scope.specs.Limits.{capacity}
 use Rattle.calls.specs.declared.ReplyKey.{ReplyKey}
 use Rattle.calls.specs.declared.Reply.{Reply}
-use Rattle.calls.specs.declared.FollowUpTelemetry.{FollowUpTelemetry}
 use Rattle.calls.specs.declared.Call.{Call}
 use Rattle.calls.specs.declared.Call.the-variants.{Accept}
 use Rattle.chains.specs.declared.Ring.{Ring}
@@ -27,21 +26,19 @@ use Rattle.ledger_snapshot.specs.Snapshot.{snapshotOf}
 use Rattle.thousandths.specs.Thousandths.{thousandthsOf}
 use Rattle.direct.specs.Outcomes.{seenIn}
 use Rattle.ledger_steps.specs.declared.AcceptAnswer.the-variants as accepts
-use Rattle.ledger_steps.specs.declared.LookupAnswer.the-variants as looks
 use Rattle.ledger_steps.specs.declared.AnsweredAnswer.the-variants as answers
 use Rattle.ledger_steps.specs.Rooms.{Stand}
 use Rattle.ledger_steps.specs.Accept.{AcceptOutcome, acceptIn, acceptOn}
-use Rattle.ledger_steps.specs.Readers.{lookupIn, lookupOn, answeredIn, answeredOn}
-use Rattle.ledger_steps.specs.Refusals.{awaitsKey, refusalOfAccept, refusalOfLookup, refusalOfAnswered}
-use Rattle.ledger_steps.specs.Calls.{acceptNumber, acceptBy, acceptTo, lookupBy, lookupTo, answeredBy, answeredTo}
+use Rattle.ledger_steps.specs.Readers.{answeredIn, answeredOn}
+use Rattle.ledger_steps.specs.Refusals.{awaitsKey, refusalOfAccept, refusalOfAnswered}
+use Rattle.ledger_steps.specs.Calls.{acceptNumber, acceptBy, acceptTo, answeredBy, answeredTo}
 use Rattle.reply_history.specs.Fits.{KeyFits, AllFit}
 use Rattle.reply_history.proofs.Accept.{accept-follows}
 use Rattle.reply_history.proofs.Shown.{shown-wait, shown-answered, shown-awaits}
-use Rattle.observe_history.proofs.Lookups.{lookup-follows}
 use Rattle.observe_history.proofs.Steps.{shown-follows}
 use Rattle.link_steps.specs.Steps.{Standing, watchRefuses, ledgerOfAccept, acceptResult, refuses, after, played, served}
 use Rattle.link_history.specs.Fresh.{Making, MakingFits, freshLink, wordsIn, standOf, AllFits}
-use Rattle.link_history.specs.Shows.{lostOf, thousandthsFrom, snapshotFrom, countsFrom, waitFrom, lookupFrom, answeredFrom, awaitsFrom, acceptedFrom, LedgerShows}
+use Rattle.link_history.specs.Shows.{lostOf, thousandthsFrom, snapshotFrom, countsFrom, waitFrom, answeredFrom, awaitsFrom, acceptedFrom, LedgerShows}
 use Rattle.link_history.proofs.Calls.{served-fit}
 use Rattle.link_history.proofs.Follows.{Follow, key-below, copies-fit, calls-fit, link-follows}
 
@@ -153,19 +150,6 @@ module _ (words : List ℕ) (copies : ℕ) (h : List Call) (k : Standing) (f : F
   unfolding answeredTo
   answered-is q = ap (λ (n : ℕ). answeredBy n (answeredOn l (k .rooms .probes) (k .rooms .links) q)) answered-served ∙ ap answers.Served (answered-on q)
 
-  looked-on : (own : ℕ) (t : FollowUpTelemetry) → lookupOn l (k .rooms .keys) (k .rooms .slots) (k .rooms .links) own t ≡ lookupFrom copies h own t
-  looked-on own t =
-      subst (λ (w : List ℕ). lookupIn capacity (hashOf w) (numberHash w) l (k .rooms .keys) (k .rooms .slots) (k .rooms .links) own t ≡ lookupFrom copies h own t) (sym (f .words-are))
-      (lookup-follows capacity (hashOf words) (numberHash words) copies h s (f .replies .keys-sound) (f .observes .follow-ups) own t)
-
-  looked-served : refusalOfLookup l (length (k .rooms .keys)) (length (k .rooms .slots)) (length (k .rooms .links)) ≡ 0
-  unfolding refusalOfLookup
-  looked-served = none-refused _ (both-hold _ _ (both-hold _ _ (both-hold _ _ keys-sized slots-sized) links-sized) rings-fit)
-
-  pub looked-is : (own : ℕ) (t : FollowUpTelemetry) → lookupTo l (k .rooms .keys) (k .rooms .slots) (k .rooms .links) own t ≡ looks.Served (lookupFrom copies h own t)
-  unfolding lookupTo
-  looked-is own t = ap (λ (n : ℕ). lookupBy n (lookupOn l (k .rooms .keys) (k .rooms .slots) (k .rooms .links) own t)) looked-served ∙ ap looks.Served (looked-on own t)
-
   module _ (copies-in : copies < 2 ^ 16) (fit : AllFit h) where
     accepted-on : (a : Reply) → KeyFits (a .key) → acceptOn l (k .rooms .keys) (k .rooms .slots) (k .rooms .probes) (k .rooms .links) a .accepted ≡ acceptedFrom h a
     accepted-on a fits =
@@ -193,7 +177,6 @@ module _ (words : List ℕ) (copies : ℕ) (h : List Call) (k : Standing) (f : F
       waits = waits-is;
       awaits = awaits-is;
       answered = answered-is;
-      looked-up = looked-is;
       accepted = accepted-is;
     }
 

@@ -8,21 +8,21 @@ use Prim.Native.Nat.{ℕ, zero, suc, _*_, _^_, _≤_, _<_}
 use native.Mathlib.Nat.{mul-le-mul-right}
 use native.Mathlib.Omega.{arith}
 use lib.Dec.{eqb, ltb}
-use lib.IntN.{ℤ, pos, negsuc, natAbs, _-ℤ_, _*ℤ_}
+use lib.IntN.{ℤ, pos, negsuc, natAbs, _+ℤ_, _-ℤ_, _*ℤ_}
 use lib.ListN.{length}
 use borrow.Author.Tests.{leb-true}
 use Rattle.scope.specs.Limits.{capacity}
 use Rattle.calls.specs.declared.Time.{Time}
 use Rattle.calls.specs.declared.Time.the-variants as time
-use Rattle.calls.specs.declared.FollowUp.{FollowUp}
-use Rattle.calls.specs.declared.FollowUp.the-variants as follow
 use Rattle.calls.specs.declared.ReplyKey.{ReplyKey}
 use Rattle.calls.specs.declared.FollowUpTelemetry.{FollowUpTelemetry}
 use Rattle.calls.specs.declared.PendingPacket.{PendingPacket}
 use Rattle.calls.specs.declared.ReplyObservation.{ReplyObservation}
 use Rattle.calls.specs.declared.Call.{Call}
 use Rattle.calls.specs.declared.Call.the-variants.{Sent, Accept, Observe, Advance, Idle}
-use Rattle.ranges.specs.Ranges.{timeFits, referenceWithin, offsetWithin, estimatesFit, followFits, inRange}
+use Rattle.ranges.specs.Ranges.{timeFits, referenceWithin, offsetWithin, estimatesFit, inRange}
+use Rattle.timestamps.specs.Converted.{converted}
+use Rattle.timestamps.proofs.Outcome.{converted-fits}
 use Rattle.correlation.proofs.Span.{natAbs-add, natAbs-sub, natAbs-times}
 use Rattle.floats.specs.Whole.{magnitude}
 use Rattle.delays.specs.Sums.{sumOf}
@@ -30,7 +30,7 @@ use Rattle.replies.proofs.Tested.{both}
 use Rattle.history.specs.Counting.{has, orElse}
 use Rattle.history.specs.Given.{EstimatePair, packetOf, timeOf, followOf, estimatesOf}
 use Rattle.history.specs.Ledger.{Event, remembered, replied, observed, noPacket, accepted, held, Class, duplicate, unknown, unique, replyClass, ready, afterReply, events}
-use Rattle.history.specs.FollowUps.{Kept, Slot, free, taken, recordOf, raise, lower, correct, sameFollow, matched, followClass, classAt, evicting, following, delay, Measured, measuredBy, measuredIn, evicted, slotAt, measuredOf, measured, roundTrips}
+use Rattle.history.specs.FollowUps.{Kept, Slot, free, taken, recordOf, raise, lower, correct, sameFollow, matched, followClass, classAt, evicting, following, convertedIn, delay, Measured, measuredBy, measuredIn, evicted, slotAt, measuredOf, measured, roundTrips}
 use Rattle.history.specs.Figures.{total, delays}
 use Rattle.ledger_steps.specs.Rooms.{Stand}
 use Rattle.observe_history.specs.Follows.{ServedAt}
@@ -45,32 +45,26 @@ abbrev TimeIn : Option ℤ → Type 0
 TimeIn none = Unit
 TimeIn (some z) = natAbs z ≤ 4000000000000000000
 
-abbrev FollowIn : Option FollowUpTelemetry → Type 0
-FollowIn none = Unit
-FollowIn (some f) = TimeIn (timeOf (f .t3))
-
 pub record ObservedIn (o : ReplyObservation) : Type 0 where
   pub rtt-in : o .rtt < 2 ^ 64
   pub t4-in : TimeIn (timeOf (o .t4))
   pub offset-in : natAbs (o .offset) ≤ 86400
-  pub follow-in : FollowIn (followOf (o .follow))
 
 time-in : (t : Time) → timeFits t ≡ true → TimeIn (timeOf t)
 time-in time.Absent e = tt
 time-in (time.Nanoseconds z) e = leb-true (natAbs z) 4000000000000000000 e
 
-follow-in : (f : FollowUp) → followFits f ≡ true → FollowIn (followOf f)
-follow-in follow.Absent e = tt
-follow-in (follow.Telemetry f) e = time-in (f .t3) e
+-- what is converted is not outside either
+converted-in : (r : Kept) (w : ℕ) (offset : ℤ) → TimeIn (convertedIn r w offset)
+converted-in r w offset = time-in (converted (r .format) w (r .reference +ℤ offset)) (converted-fits (r .format) w (r .reference +ℤ offset))
 
 observed-in : (o : ReplyObservation) → o .rtt < 2 ^ 64 → inRange o ≡ true → ObservedIn o
 unfolding inRange
 observed-in o l e =
-    let w = both (timeFits (o .t4) && referenceWithin (o .reference) && offsetWithin (o .offset) && estimatesFit (o .quality)) (followFits (o .follow)) e in
-    let x = both (timeFits (o .t4) && referenceWithin (o .reference) && offsetWithin (o .offset)) (estimatesFit (o .quality)) (w .0) in
+    let x = both (timeFits (o .t4) && referenceWithin (o .reference) && offsetWithin (o .offset)) (estimatesFit (o .quality)) e in
     let y = both (timeFits (o .t4) && referenceWithin (o .reference)) (offsetWithin (o .offset)) (x .0) in
     let z = both (timeFits (o .t4)) (referenceWithin (o .reference)) (y .0) in
-    record { rtt-in = l; t4-in = time-in (o .t4) (z .0); offset-in = leb-true (natAbs (o .offset)) 86400 (y .1); follow-in = follow-in (o .follow) (w .1) }
+    record { rtt-in = l; t4-in = time-in (o .t4) (z .0); offset-in = leb-true (natAbs (o .offset)) 86400 (y .1) }
 
 -- of every observation of a history
 unfoldable pub EventsIn : List Event → Type 0
@@ -168,10 +162,10 @@ evicting-in : (k : Option ReplyKey) (r : ℕ) (s : Slot) → SlotIn s → SlotIn
 evicting-in none r s w = w
 evicting-in (some k) r s w = either-in (eqb r (k .reflector)) (lower s) s (lower-in s w) w
 
-following-in : (f : Option FollowUpTelemetry) (own : ℕ) (slot : ℕ → Slot) (r : ℕ) → SlotIn (slot r) → SlotIn (following f own slot r)
-following-in none own slot r w = w
-following-in (some f) own slot r w =
-    either-in (sameFollow matched (followClass f own (slot (f .sequence))) && eqb r (f .sequence)) (correct (slot r)) (slot r) (correct-in (slot r) w) w
+following-in : (f : Option FollowUpTelemetry) (own : ℕ) (offset : ℤ) (slot : ℕ → Slot) (r : ℕ) → SlotIn (slot r) → SlotIn (following f own offset slot r)
+following-in none own offset slot r w = w
+following-in (some f) own offset slot r w =
+    either-in (sameFollow matched (followClass f own offset (slot (f .sequence))) && eqb r (f .sequence)) (correct (slot r)) (slot r) (correct-in (slot r) w) w
 
 slot-in : (copies : ℕ) (es : List Event) → EventsIn es → (r : ℕ) → SlotIn (slotAt capacity copies es r)
 unfolding slotAt EventsIn
@@ -179,8 +173,8 @@ slot-in copies [] w r = tt
 slot-in copies (remembered s o p ∷ es) w r = slot-in copies es w r
 slot-in copies (replied k p ∷ es) w r = evicting-in (evicted capacity copies (accepted es)) r (slotAt capacity copies es r) (slot-in copies es w r)
 slot-in copies (observed o ∷ es) w r =
-    let s : Slot = following (followOf (o .follow)) (o .key .reflector) (slotAt capacity copies es) r in
-    let i : SlotIn s = following-in (followOf (o .follow)) (o .key .reflector) (slotAt capacity copies es) r (slot-in copies es (w .1) r) in
+    let s : Slot = following (followOf (o .follow)) (o .key .reflector) (o .offset) (slotAt capacity copies es) r in
+    let i : SlotIn s = following-in (followOf (o .follow)) (o .key .reflector) (o .offset) (slotAt capacity copies es) r (slot-in copies es (w .1) r) in
     either-in (eqb r (o .key .reflector)) (raise (recordOf copies o) s) s (raise-in (recordOf copies o) s (record-in copies o (w .0))) i
 
 -- ---- the delays
@@ -197,18 +191,18 @@ by-in (some a) (some b) offset q ms x y z w = (delay-few a b offset x y z, w)
 by-in (some a) none offset q ms x y z w = w
 by-in none b offset q ms x y z w = w
 
-in-in : (s : Slot) (t3 : Option ℤ) (offset : ℤ) (ms : List Measured) → SlotIn s → TimeIn t3 → natAbs offset ≤ 86400 → AllIn (delays ms) → AllIn (delays (measuredIn s t3 offset ms))
-in-in free t3 offset ms x y z w = w
-in-in (taken n none c) t3 offset ms x y z w = w
-in-in (taken n (some r) c) t3 offset ms x y z w = by-in (r .t4) t3 offset (r .quality) ms x y z w
+in-in : (s : Slot) (w : ℕ) (offset : ℤ) (ms : List Measured) → SlotIn s → natAbs offset ≤ 86400 → AllIn (delays ms) → AllIn (delays (measuredIn s w offset ms))
+in-in free w offset ms x z v = v
+in-in (taken n none c) w offset ms x z v = v
+in-in (taken n (some r) c) w offset ms x z v = by-in (r .t4) (convertedIn r w offset) offset (r .quality) ms x (converted-in r w offset) z v
 
-of-in : (copies : ℕ) (f : Option FollowUpTelemetry) (o : ReplyObservation) (es : List Event) (ms : List Measured) → EventsIn es → FollowIn f → natAbs (o .offset) ≤ 86400 → AllIn (delays ms)
+of-in : (copies : ℕ) (f : Option FollowUpTelemetry) (o : ReplyObservation) (es : List Event) (ms : List Measured) → EventsIn es → natAbs (o .offset) ≤ 86400 → AllIn (delays ms)
     → AllIn (delays (measuredOf capacity copies f o es ms))
-of-in copies none o es ms v y z w = w
-of-in copies (some f) o es ms v y z w = go (sameFollow matched (classAt capacity copies f (o .key .reflector) es))
+of-in copies none o es ms v z w = w
+of-in copies (some f) o es ms v z w = go (sameFollow matched (classAt capacity copies f (o .key .reflector) (o .offset) es))
   where
-    go : (b : Bool) → AllIn (delays (cond b (measuredIn (slotAt capacity copies es (f .sequence)) (timeOf (f .t3)) (o .offset) ms) ms))
-    go true = in-in (slotAt capacity copies es (f .sequence)) (timeOf (f .t3)) (o .offset) ms (slot-in copies es v (f .sequence)) y z w
+    go : (b : Bool) → AllIn (delays (cond b (measuredIn (slotAt capacity copies es (f .sequence)) (f .timestamp) (o .offset) ms) ms))
+    go true = in-in (slotAt capacity copies es (f .sequence)) (f .timestamp) (o .offset) ms (slot-in copies es v (f .sequence)) z w
     go false = w
 
 pub delays-in : (copies : ℕ) (es : List Event) → EventsIn es → AllIn (delays (measured capacity copies es))
@@ -217,4 +211,4 @@ delays-in copies [] w = tt
 delays-in copies (remembered s o p ∷ es) w = delays-in copies es w
 delays-in copies (replied k p ∷ es) w = delays-in copies es w
 delays-in copies (observed o ∷ es) w =
-    of-in copies (followOf (o .follow)) o es (measured capacity copies es) (w .1) (w .0 .follow-in) (w .0 .offset-in) (delays-in copies es (w .1))
+    of-in copies (followOf (o .follow)) o es (measured capacity copies es) (w .1) (w .0 .offset-in) (delays-in copies es (w .1))

@@ -9,15 +9,13 @@ use lib.Dec.{eqb, ltb}
 use Rattle.scope.specs.Limits.{capacity}
 use Rattle.calls.specs.declared.ReplyKey.{ReplyKey}
 use Rattle.calls.specs.declared.Reply.{Reply}
-use Rattle.calls.specs.declared.FollowUpTelemetry.{FollowUpTelemetry}
 use Rattle.calls.specs.declared.Call.{Call}
 use Rattle.calls.specs.declared.Call.the-variants.{Sent, Accept, Observe, Advance, Idle}
-use Rattle.correlation.specs.declared.follow.Shown.{Shown}
 use Rattle.history.specs.Counting.{has}
 use Rattle.history.specs.Given.{packetOf}
 use Rattle.history.specs.Ledger.{ReplyCounts, CallTest, count, events, held, replies, awaiting, answer, replyCounts, unobserved, thousandths}
 use Rattle.history.specs.DirectLoss.{directCounts}
-use Rattle.history.specs.FollowUps.{lookup, followCounts}
+use Rattle.history.specs.FollowUps.{followCounts}
 use Rattle.history.specs.Figures.{roundTripFigures, delayFigures, clockQuality}
 use Rattle.reply_history.specs.Fits.{KeyFits}
 use Rattle.reply_history.specs.Follows.{repliesIn, awaitsIn, asAccepted}
@@ -33,10 +31,9 @@ use Rattle.thousandths.specs.declared.Thousandths.{Thousandths}
 use Rattle.thousandths.specs.declared.Thousandths.the-variants.{Absent, Known}
 use Rattle.ledger_steps.specs.declared.Accepted.{Accepted}
 use Rattle.ledger_steps.specs.declared.AcceptAnswer.the-variants as accepts
-use Rattle.ledger_steps.specs.declared.LookupAnswer.the-variants as looks
 use Rattle.ledger_steps.specs.declared.AnsweredAnswer.the-variants as answers
 use Rattle.ledger_steps.specs.Refusals.{awaitsKey}
-use Rattle.ledger_steps.specs.Calls.{lookupTo, answeredTo}
+use Rattle.ledger_steps.specs.Calls.{answeredTo}
 use Rattle.link_steps.specs.Steps.{Standing, acceptResult, refuses, after}
 
 -- ---- the counts
@@ -100,10 +97,6 @@ acceptedFrom h a = asAccepted (answer capacity (events capacity h) (a .key) (pac
 abbrev pub answeredFrom : List Call → ℕ → Bool
 answeredFrom h q = has (held capacity (events capacity h)) q && not (eqb (replies q (events capacity h)) 0)
 
--- the lookup
-abbrev pub lookupFrom : (copies : ℕ) → List Call → (own : ℕ) → FollowUpTelemetry → Shown
-lookupFrom copies h own f = observe_history.lookupFrom (lookup capacity copies f own (events capacity h))
-
 -- whether this key awaits its observe
 abbrev pub awaitsFrom : List Call → ReplyKey → Bool
 awaitsFrom h key = awaitsIn (awaiting (events capacity h)) key
@@ -116,7 +109,5 @@ pub record LedgerShows (copies : ℕ) (h : List Call) (k : Standing) : Type 0 wh
   pub waits : burstWait (k .link .ledger) ≡ waitFrom copies h
   pub awaits : (key : ReplyKey) → awaitsKey (k .link .ledger) (k .rooms .keys) key ≡ awaitsFrom h key
   pub answered : (q : ℕ) → answeredTo (k .link .ledger) (k .rooms .probes) (k .rooms .links) q ≡ answers.Served (answeredFrom h q)
-  pub looked-up : (own : ℕ) (f : FollowUpTelemetry)
-      → lookupTo (k .link .ledger) (k .rooms .keys) (k .rooms .slots) (k .rooms .links) own f ≡ looks.Served (lookupFrom copies h own f)
   pub accepted : (a : Reply) → KeyFits (a .key) → refuses k (Accept a) ≡ 0
       → acceptResult k a .answer ≡ accepts.Served (after k (Accept a) .link .ledger) (acceptedFrom h a)

@@ -7,9 +7,10 @@ use native.Mathlib.Omega.{arith}
 use lib.Dec.{eqb, ltb}
 use lib.ListN.{length, take, drop, length-take, length-drop}
 use borrow.Author.Tests.{ltb-true, ltb-false, eqb-true, eqb-false, eq-eqb}
-use Rattle.calls.specs.declared.Call.{Call}
+use Rattle.record_parts.specs.declared.Entry.{Entry}
+use Rattle.record_parts.specs.Parts.{callOf}
 use Rattle.log_record.specs.declared.Record.the-variants as record'
-use Rattle.log_record.specs.Records.{recordOf, callOf, good, readOf}
+use Rattle.log_record.specs.Records.{recordOf, entryOf, good, readOf}
 use Rattle.log_record.specs.Records as records
 use Rattle.log_record.proofs.Good.{good-is-written}
 use Rattle.link_log.specs.declared.Settings.{Settings}
@@ -61,19 +62,19 @@ answer-means bs = by-long (ltb mostBytes (length bs)) refl
     by-long true e = ltb-true 65536 (length bs) e
     by-long false e = by-trailer (ltb-false 65536 (length bs) e) (trailerGood bs) refl
 
-good-read : (r : List ℕ) → length r ≡ 96 → good r ≡ true → readOf r ≡ record'.Good (callOf r)
+good-read : (r : List ℕ) → length r ≡ 96 → good r ≡ true → readOf r ≡ record'.Good (entryOf r)
 unfolding readOf
-good-read r l g = ap (λ (n : ℕ). records.answer n (callOf r)) (λ i. cond (eq-eqb (length r) 96 l i) (cond (g i) 0 8) 5)
+good-read r l g = ap (λ (n : ℕ). records.answer n (entryOf r)) (λ i. cond (eq-eqb (length r) 96 l i) (cond (g i) 0 8) 5)
 
--- Every record of an accepted log says a call, and is the record of that call.
+-- Every record of an accepted log is the record of an entry, and makes the call of it.
 pub accepted-decodes : (bs : List ℕ) (s : Settings) (i : ℕ) → logOf bs ≡ log.Good s → i < s .count
-    → (c : Call) × (callAt bs i ≡ played.Call c) × (recordAt bs (s .start) i ≡ recordOf c)
+    → (e : Entry) × (callAt bs i ≡ played.Call (callOf e)) × (recordAt bs (s .start) i ≡ recordOf e)
 accepted-decodes bs s i e l =
     let m : Means bs (log.Good s) = subst (Means bs) e (answer-means bs) in
     let r : List ℕ = recordAt bs (s .start) i in
     let g : good (recordAt bs (s .start) i) ≡ true = m .3 i l in
     let room : s .start + 96 * i + 96 ≤ length bs = one-within bs s i (m .1) (m .2) l in (
-      callOf (recordAt bs (s .start) i),
+      entryOf (recordAt bs (s .start) i),
       sym (call-there bs i s (m .0) (m .1) (m .2) l) ∙ ap playedBy (good-read (recordAt bs (s .start) i) (part bs (s .start + 96 * i) room) g),
       good-is-written (recordAt bs (s .start) i) g,
     )

@@ -9,7 +9,7 @@ use lib.ListN.{length, take, drop}
 use borrow.Author.Tests.{eq-eqb, ne-eqb, eqb-true, leb-true, lt-ltb, le-ltb, ltb-false}
 use Rattle.log_record.specs.declared.Record.{Record}
 use Rattle.log_record.specs.declared.Record.the-variants as record'
-use Rattle.log_record.specs.Records.{callOf, good, readOf}
+use Rattle.log_record.specs.Records.{entryOf, good, readOf}
 use Rattle.log_record.specs.Records as records
 use Rattle.link_log.specs.declared.Settings.{Settings}
 use Rattle.link_log.specs.declared.Log.{Log}
@@ -108,12 +108,12 @@ pub good-of-read : (r : List ℕ) (a : Record) (b : Bool) → length r ≡ 96 �
 unfolding readOf
 good-of-read r a b l e h = sym h ∙ ap isGood e ∙ by (good r) ∙ refl
   where
-    at-number : (g : Bool) → isGood (records.answer (cond g 0 8) (callOf r)) ≡ g
+    at-number : (g : Bool) → isGood (records.answer (cond g 0 8) (entryOf r)) ≡ g
     at-number true = refl
     at-number false = refl
 
-    by : (g : Bool) → isGood (records.answer (cond (eqb (length r) 96) (cond g 0 8) 5) (callOf r)) ≡ g
-    by g = ap (λ (s : Bool). isGood (records.answer (cond s (cond g 0 8) 5) (callOf r))) (eq-eqb (length r) 96 l) ∙ at-number g
+    by : (g : Bool) → isGood (records.answer (cond (eqb (length r) 96) (cond g 0 8) 5) (entryOf r)) ≡ g
+    by g = ap (λ (s : Bool). isGood (records.answer (cond s (cond g 0 8) 5) (entryOf r))) (eq-eqb (length r) 96 l) ∙ at-number g
 
 -- ---- the first bad record
 

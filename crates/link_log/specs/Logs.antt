@@ -9,6 +9,7 @@ use lib.ListN.{length, take, drop}
 use Rattle.scope.specs.Refusals.{wrongRoom}
 use Rattle.big_endian.specs.Numbers.{numberAt}
 use Rattle.big_endian.specs.Fields.{Field, bytes2, bytes4, bytes8, written}
+use Rattle.record_parts.specs.Parts.{callOf}
 use Rattle.log_record.specs.declared.Record.{Record}
 use Rattle.log_record.specs.declared.Record.the-variants as record'
 use Rattle.log_record.specs.Records.{badRecord, good, readOf}
@@ -108,11 +109,11 @@ firstOf bs = firstBad bs (settingsOf bs .start) 0 (countOf bs)
 unfoldable pub logOf : List ℕ → Log
 logOf bs = answer (numberBy (ltb mostBytes (length bs)) (trailerGood bs) (recordsNumber (firstOf bs) (settingsOf bs .count))) (firstOf bs) (settingsOf bs)
 
--- ---- reading record i as a call
+-- ---- the call of record i
 
--- a good record is its call, and a bad one none
+-- of a good record the call that it makes, and of a bad one none
 abbrev pub playedBy : Record → Played
-playedBy (record'.Good c) = played.Call c
+playedBy (record'.Good e) = played.Call (callOf e)
 playedBy (record'.Refused n) = played.Nothing
 
 -- no call where the log is too long or its trailer bad, where it has no record i, and where that record is bad

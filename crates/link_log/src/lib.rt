@@ -34,7 +34,7 @@ pub enum Log {
     BadRecord(u32),
 }
 
-// What record i of a log says: a call, or nothing.
+// What record i of a log makes: a call, or nothing.
 pub enum Played {
     Call(Call),
     Nothing,
@@ -139,7 +139,7 @@ fn play(answer: Record) -> Played
     ensures { λ r. ⌜ r ≡ playedBy answer ⌝ }
 {
     match answer {
-        Record::Good(call) => Played::Call(call),
+        Record::Good(said) => Played::Call(record_parts::call_of(said)),
         Record::Refused(_) => Played::Nothing,
     }
 }

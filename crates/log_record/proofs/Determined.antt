@@ -7,7 +7,7 @@ use borrow.Fn.World as World
 use borrow.Fn.Kinds as Kinds'
 use denote.Triple.Clauses as Clauses
 use denote.Ref.{now}
-use Rattle.calls.specs.declared.Call.{Call}
+use Rattle.record_parts.specs.declared.Entry.{Entry}
 use Rattle.log_record.specs.Records.{Wrote, writeNumber, bytesAfter, writtenTo}
 use Rattle.log_record.proofs.read as read
 use Rattle.log_record.proofs.read.Kinds as read-kinds
@@ -29,7 +29,7 @@ pub write-unique :
 write-unique κs a r₁ r₂ s₁ s₂ p q = let e = p ∙ sym q in (ap (λ (w : Wrote). w .number) e, ap (λ (w : Wrote). w .bytes) e)
 
 -- a refusal changes nothing
-pub refusal-changes-nothing : (bs : List ℕ) (c : Call) → (writtenTo bs c .number ≡ 0 → ⊥) → writtenTo bs c .bytes ≡ bs
+pub refusal-changes-nothing : (bs : List ℕ) (c : Entry) → (writtenTo bs c .number ≡ 0 → ⊥) → writtenTo bs c .bytes ≡ bs
 unfolding writtenTo
 refusal-changes-nothing bs c n = by (writeNumber bs c) n
   where

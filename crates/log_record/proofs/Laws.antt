@@ -10,32 +10,32 @@ use lib.Seq.{drop-cons}
 use native.Mathlib.Omega.{arith}
 use borrow.Author.Tests.{eq-eqb, ne-eqb, eqb-true}
 use Rattle.big_endian.specs.Numbers.{numberAt}
-use Rattle.calls.specs.declared.Call.the-variants as call
-use Rattle.log_record.specs.Records.{blank, sameBytes, sentAt, acceptAt, observeAt, callBy, callOf}
+use Rattle.record_parts.specs.declared.Entry.the-variants as entry
+use Rattle.log_record.specs.Records.{blank, sameBytes, sentAt, acceptAt, observeAt, convertedAt, entryBy, entryOf}
 
--- ---- the call of each kind
+-- ---- the entry of each kind
 
-pub kind-0 : (r : List ℕ) → numberAt 0 r 0 ≡ 0 → call.Sent (sentAt r) ≡ callOf r
-unfolding callOf
-kind-0 r e = sym (ap (λ (k : ℕ). callBy k (numberAt 0 r 1) r) e)
+pub kind-0 : (r : List ℕ) → numberAt 0 r 0 ≡ 0 → entry.Sent (sentAt r) ≡ entryOf r
+unfolding entryOf
+kind-0 r e = sym (ap (λ (k : ℕ). entryBy k (numberAt 0 r 1) r) e)
 
-pub kind-1 : (r : List ℕ) → numberAt 0 r 0 ≡ 1 → call.Accept (acceptAt (numberAt 0 r 1) r) ≡ callOf r
-unfolding callOf
-kind-1 r e = sym (ap (λ (k : ℕ). callBy k (numberAt 0 r 1) r) e)
+pub kind-1 : (r : List ℕ) → numberAt 0 r 0 ≡ 1 → entry.Accept (acceptAt (numberAt 0 r 1) r) ≡ entryOf r
+unfolding entryOf
+kind-1 r e = sym (ap (λ (k : ℕ). entryBy k (numberAt 0 r 1) r) e)
 
-pub kind-2 : (r : List ℕ) → numberAt 0 r 0 ≡ 2 → call.Observe (observeAt (numberAt 0 r 1) r) ≡ callOf r
-unfolding callOf
-kind-2 r e = sym (ap (λ (k : ℕ). callBy k (numberAt 0 r 1) r) e)
+pub kind-2 : (r : List ℕ) → numberAt 0 r 0 ≡ 2 → entry.Observe (observeAt (numberAt 0 r 1) r) (convertedAt (numberAt 0 r 1) r) ≡ entryOf r
+unfolding entryOf
+kind-2 r e = sym (ap (λ (k : ℕ). entryBy k (numberAt 0 r 1) r) e)
 
-pub kind-3 : (r : List ℕ) → numberAt 0 r 0 ≡ 3 → call.Advance (numberAt 3 r 4) ≡ callOf r
-unfolding callOf
-kind-3 r e = sym (ap (λ (k : ℕ). callBy k (numberAt 0 r 1) r) e)
+pub kind-3 : (r : List ℕ) → numberAt 0 r 0 ≡ 3 → entry.Advance (numberAt 3 r 4) ≡ entryOf r
+unfolding entryOf
+kind-3 r e = sym (ap (λ (k : ℕ). entryBy k (numberAt 0 r 1) r) e)
 
-pub kind-other : (r : List ℕ) (k : ℕ) → k ≡ numberAt 0 r 0 → (k ≡ 0 → ⊥) → (k ≡ 1 → ⊥) → (k ≡ 2 → ⊥) → (k ≡ 3 → ⊥) → call.Idle ≡ callOf r
-unfolding callOf
-kind-other r k e n0 n1 n2 n3 = other (numberAt 0 r 1) ∙ ap (λ (j : ℕ). callBy j (numberAt 0 r 1) r) e
+pub kind-other : (r : List ℕ) (k : ℕ) → k ≡ numberAt 0 r 0 → (k ≡ 0 → ⊥) → (k ≡ 1 → ⊥) → (k ≡ 2 → ⊥) → (k ≡ 3 → ⊥) → entry.Idle ≡ entryOf r
+unfolding entryOf
+kind-other r k e n0 n1 n2 n3 = other (numberAt 0 r 1) ∙ ap (λ (j : ℕ). entryBy j (numberAt 0 r 1) r) e
   where
-    other : (f : ℕ) → call.Idle ≡ callBy k f r
+    other : (f : ℕ) → entry.Idle ≡ entryBy k f r
     other f = simp (ne-eqb k 0 n0, ne-eqb k 1 n1, ne-eqb k 2 n2, ne-eqb k 3 n3)
 
 -- ---- two strings of bytes, one byte further

@@ -9,6 +9,7 @@ use Rattle.calls.specs.declared.FollowUp.{FollowUp}
 use Rattle.calls.specs.declared.Ordinal.{Ordinal}
 use Rattle.calls.specs.declared.Pending.{Pending}
 use Rattle.calls.specs.declared.ReplyObservation.{ReplyObservation}
+use Rattle.calls.specs.declared.Time.{Time}
 use Rattle.record_parts.specs.Parts.{pendingTime, pendingTag, timeWord, ordinalNumber, senderCount, receivedCount, transmittedCount}
 use Rattle.record_parts.specs.Parts.{followSequence, followTimestamp, followTime, senderWire, reflectorWire}
 
@@ -25,8 +26,8 @@ abbrev pub countsGroup : Ordinal → Counters → List Field
 countsGroup n k = bytes4 48 (ordinalNumber n) ∷ bytes4 52 (senderCount k) ∷ bytes4 56 (receivedCount k) ∷ bytes4 60 (transmittedCount k) ∷ []
 
 -- of an observe: "64 follow-up sequence and 68 timestamp flag 8, 76 converted T3 flag 16"
-abbrev pub followGroup : FollowUp → List Field
-followGroup f = bytes4 64 (followSequence f) ∷ bytes8 68 (followTimestamp f) ∷ bytes8 76 (timeWord (followTime f)) ∷ []
+abbrev pub followGroup : FollowUp → Time → List Field
+followGroup f t = bytes4 64 (followSequence f) ∷ bytes8 68 (followTimestamp f) ∷ bytes8 76 (timeWord (followTime f t)) ∷ []
 
 -- of an observe: "84 and 86 sender's and reflector's estimate flag 32"
 abbrev pub qualityGroup : Estimates → List Field

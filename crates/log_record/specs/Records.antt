@@ -1,5 +1,5 @@
 -- One record of a log, 96 bytes (document 01, 'Log and program'): "Byte 0 kind, 1 flags, 95 is 255-kind, unused and absent fields and flags
--- 0; a breach or other kind is bad (8)." A record is good exactly when it is the record of the call that it says; crate log_rules
+-- 0; a breach or other kind is bad (8)." A record is good exactly when it is the record of what it says; crate log_rules
 -- shows that this is the same as document 01's rules byte by byte. Assumes nothing.
 use mathlib.Core.Bool.{Bool, true, false, _&&_, cond}
 use mathlib.Core.List.{List, [], _∷_}
@@ -20,15 +20,16 @@ use Rattle.calls.specs.declared.Reply.{Reply}
 use Rattle.calls.specs.declared.ReplyKey.{ReplyKey}
 use Rattle.calls.specs.declared.ReplyObservation.{ReplyObservation}
 use Rattle.calls.specs.declared.SentProbe.{SentProbe}
-use Rattle.calls.specs.declared.Call.{Call}
-use Rattle.calls.specs.declared.Call.the-variants as call
+use Rattle.calls.specs.declared.Time.{Time}
+use Rattle.record_parts.specs.declared.Entry.{Entry}
+use Rattle.record_parts.specs.declared.Entry.the-variants as entry
 use Rattle.record_parts.specs.Parts.{flag, observeFlags, pendingFlag, pendingTime, pendingTag, timeWord, ordinalNumber}
 use Rattle.record_parts.specs.Parts.{senderCount, receivedCount, transmittedCount, followSequence, followTimestamp, followTime}
 use Rattle.record_parts.specs.Parts.{senderWire, reflectorWire, pendingBy, timeBy, ordinalBy, countersBy, followBy, estimatesBy}
 use Rattle.log_record.specs.declared.Record.{Record}
 use Rattle.log_record.specs.declared.Record.the-variants as answered
 
--- ---- the record of a call
+-- ---- the record of an entry: a call, and with an observe the converted T3 of flag 16
 
 -- "Byte 0 kind, 1 flags, 95 is 255-kind", before the fields of the kind
 abbrev pub frame : ℕ → ℕ → List Field → List Field
@@ -49,8 +50,8 @@ acceptFields r = keyFields (r .key) (bytes8 20 (pendingTime (r .pending)) ∷ by
 -- "2 observe (4 to 19 key, 20 round trip, 28 T4 flag 1, 36 reference, 44 offset, 48 ordinal flag 2, 52 three counters in the order above flag 4,
 -- 64 follow-up sequence and 68 timestamp flag 8, 76 converted T3 flag 16, 84 and 86 sender's and reflector's estimate flag 32;
 -- flag 64 PTP, 128 unknown mode; 16 and 128 need 8)"
-abbrev pub observeFields : ReplyObservation → List Field
-observeFields o =
+abbrev pub observeFields : ReplyObservation → Time → List Field
+observeFields o t =
     keyFields (o .key)
     (bytes8 20 (o .rtt)
     ∷ bytes8 28 (timeWord (o .t4))
@@ -62,28 +63,28 @@ observeFields o =
     ∷ bytes4 60 (transmittedCount (o .counters))
     ∷ bytes4 64 (followSequence (o .follow))
     ∷ bytes8 68 (followTimestamp (o .follow))
-    ∷ bytes8 76 (timeWord (followTime (o .follow)))
+    ∷ bytes8 76 (timeWord (followTime (o .follow) t))
     ∷ bytes2 84 (senderWire (o .quality))
     ∷ bytes2 86 (reflectorWire (o .quality))
     ∷ [])
 
 -- "3 advance (4 now). 4 idle."
-unfoldable pub tableOf : Call → List Field
-tableOf (call.Sent p) = frame 0 0 (sentFields p)
-tableOf (call.Accept r) = frame 1 (pendingFlag (r .pending)) (acceptFields r)
-tableOf (call.Observe o) = frame 2 (observeFlags o) (observeFields o)
-tableOf (call.Advance now) = frame 3 0 (bytes8 4 now ∷ [])
-tableOf call.Idle = frame 4 0 []
+unfoldable pub tableOf : Entry → List Field
+tableOf (entry.Sent p) = frame 0 0 (sentFields p)
+tableOf (entry.Accept r) = frame 1 (pendingFlag (r .pending)) (acceptFields r)
+tableOf (entry.Observe o t) = frame 2 (observeFlags o t) (observeFields o t)
+tableOf (entry.Advance now) = frame 3 0 (bytes8 4 now ∷ [])
+tableOf entry.Idle = frame 4 0 []
 
 -- 96 bytes that are 0
 unfoldable pub blank : List ℕ
 blank = replicate 96 0
 
--- the fields of the call, and every other byte 0
-unfoldable pub recordOf : Call → List ℕ
+-- the fields of the entry, and every other byte 0
+unfoldable pub recordOf : Entry → List ℕ
 recordOf c = written (tableOf c) blank
 
--- ---- the call that 96 bytes say
+-- ---- what 96 bytes say
 
 -- "4 sender, 8 reflector, 12 T3"
 abbrev pub keyAt : List ℕ → ReplyKey
@@ -101,9 +102,13 @@ acceptAt flags r = record { key = keyAt r; pending = pendingBy (flag 1 flags) (n
 abbrev pub countersAt : ℕ → List ℕ → Counters
 countersAt flags r = countersBy (flag 4 flags) (numberAt 2 r 52) (numberAt 2 r 56) (numberAt 2 r 60)
 
--- the follow-up from 64 on, absent without flag 8; flag 128 unknown mode, flag 16 converted T3 at 76
+-- the follow-up from 64 on, absent without flag 8; flag 128 unknown mode
 abbrev pub followAt : ℕ → List ℕ → FollowUp
-followAt flags r = followBy (flag 8 flags) (numberAt 2 r 64) (numberAt 3 r 68) (flag 128 flags) (timeBy (flag 16 flags) (numberAt 3 r 76))
+followAt flags r = followBy (flag 8 flags) (numberAt 2 r 64) (numberAt 3 r 68) (flag 128 flags)
+
+-- the converted T3 at 76, absent without flag 16
+abbrev pub convertedAt : ℕ → List ℕ → Time
+convertedAt flags r = timeBy (flag 16 flags) (numberAt 3 r 76)
 
 -- the sender's estimate at 84 and the reflector's at 86, absent without flag 32
 abbrev pub estimatesAt : ℕ → List ℕ → Estimates
@@ -125,17 +130,17 @@ observeAt flags r = record {
 }
 
 -- by the kind; a kind above 4 says idle, whose record has another kind, so that it is bad
-abbrev pub callBy : ℕ → ℕ → List ℕ → Call
-callBy kind flags r =
-    cond (eqb kind 0) (call.Sent (sentAt r))
-    (cond (eqb kind 1) (call.Accept (acceptAt flags r))
-    (cond (eqb kind 2) (call.Observe (observeAt flags r))
-    (cond (eqb kind 3) (call.Advance (numberAt 3 r 4))
-    call.Idle)))
+abbrev pub entryBy : ℕ → ℕ → List ℕ → Entry
+entryBy kind flags r =
+    cond (eqb kind 0) (entry.Sent (sentAt r))
+    (cond (eqb kind 1) (entry.Accept (acceptAt flags r))
+    (cond (eqb kind 2) (entry.Observe (observeAt flags r) (convertedAt flags r))
+    (cond (eqb kind 3) (entry.Advance (numberAt 3 r 4))
+    entry.Idle)))
 
 -- byte 0 is its kind, byte 1 its flags
-unfoldable pub callOf : List ℕ → Call
-callOf r = callBy (numberAt 0 r 0) (numberAt 0 r 1) r
+unfoldable pub entryOf : List ℕ → Entry
+entryOf r = entryBy (numberAt 0 r 0) (numberAt 0 r 1) r
 
 -- ---- good records
 
@@ -146,16 +151,16 @@ sameBytes [] (b ∷ m) = false
 sameBytes (a ∷ l) [] = false
 sameBytes (a ∷ l) (b ∷ m) = eqb a b && sameBytes l m
 
--- the record of the call that it says
+-- the record of what it says
 unfoldable pub good : List ℕ → Bool
-good r = sameBytes r (recordOf (callOf r))
+good r = sameBytes r (recordOf (entryOf r))
 
 -- "bad (8)"
 abbrev pub badRecord : ℕ
 badRecord = 8
 
--- the answer by its number: at 0 the call, and otherwise the number alone
-abbrev pub answer : ℕ → Call → Record
+-- the answer by its number: at 0 what the record says, and otherwise the number alone
+abbrev pub answer : ℕ → Entry → Record
 answer zero c = answered.Good c
 answer (suc n) c = answered.Refused (suc n)
 
@@ -163,9 +168,9 @@ answer (suc n) c = answered.Refused (suc n)
 abbrev pub readNumber : List ℕ → ℕ
 readNumber r = cond (eqb (length r) 96) (cond (good r) 0 badRecord) wrongRoom
 
--- what reading a record answers: its call, or 5 or 8 alone
+-- what reading a record answers: what it says, or 5 or 8 alone
 unfoldable pub readOf : List ℕ → Record
-readOf r = answer (readNumber r) (callOf r)
+readOf r = answer (readNumber r) (entryOf r)
 
 -- ---- writing
 
@@ -178,23 +183,23 @@ pub record Wrote : Type 0 where
 abbrev pub wrote : ℕ → List ℕ → Wrote
 wrote n bs = record { number = n; bytes = bs }
 
--- an estimate on the wire has six bits of scale: a call with another scale has no record
-abbrev pub scalesFit : Call → Bool
-scalesFit (call.Sent p) = true
-scalesFit (call.Accept r) = true
-scalesFit (call.Observe o) = estimatesFit (o .quality)
-scalesFit (call.Advance n) = true
-scalesFit call.Idle = true
+-- an estimate on the wire has six bits of scale: an entry with another scale has no record
+abbrev pub scalesFit : Entry → Bool
+scalesFit (entry.Sent p) = true
+scalesFit (entry.Accept r) = true
+scalesFit (entry.Observe o t) = estimatesFit (o .quality)
+scalesFit (entry.Advance n) = true
+scalesFit entry.Idle = true
 
 -- 5 where not 96 bytes are lent, else 1 for a scale above 63, else 0
-abbrev pub writeNumber : List ℕ → Call → ℕ
+abbrev pub writeNumber : List ℕ → Entry → ℕ
 writeNumber bs c = cond (eqb (length bs) 96) (cond (scalesFit c) 0 outOfRange) wrongRoom
 
--- at 0 the record of the call; a refusal changes nothing
-abbrev pub bytesAfter : ℕ → Call → List ℕ → List ℕ
+-- at 0 the record of the entry; a refusal changes nothing
+abbrev pub bytesAfter : ℕ → Entry → List ℕ → List ℕ
 bytesAfter zero c bs = recordOf c
 bytesAfter (suc n) c bs = bs
 
--- what writing a call's record answers and leaves in the lent bytes
-unfoldable pub writtenTo : List ℕ → Call → Wrote
+-- what writing an entry's record answers and leaves in the lent bytes
+unfoldable pub writtenTo : List ℕ → Entry → Wrote
 writtenTo bs c = wrote (writeNumber bs c) (bytesAfter (writeNumber bs c) c bs)

@@ -6,14 +6,14 @@ ghost use Rattle.log_record.specs.Records.{blank, sameBytes, recordOf, r
 mod putting;
 mod reading;
 
-use calls::Call;
+use record_parts::Entry;
 
 // Document 01's answer for a record that breaks a rule.
 pub const BAD_RECORD: u8 = 8;
 
-// What reading a record answers: the call that it says, or the number of the refusal.
+// What reading a record answers: what it says, or the number of the refusal.
 pub enum Record {
-    Good(Call),
+    Good(Entry),
     Refused(u8),
 }
 
@@ -42,56 +42,56 @@ fn clear(bytes: &mut [u8])
     }
 }
 
-// Whether 96 bytes are the record of a call.
-fn is_record(bytes: &[u8], call: Call) -> bool
+// Whether 96 bytes are the record of an entry.
+fn is_record(bytes: &[u8], said: Entry) -> bool
     requires { ⌜ length (now bytes) ≡ 96 ⌝ }
-    ensures { λ r. ⌜ r ≡ sameBytes (now (bytes .entry)) (recordOf call) ⌝ }
+    ensures { λ r. ⌜ r ≡ sameBytes (now (bytes .entry)) (recordOf said) ⌝ }
 {
     let mut own = [0u8; 96];
-    putting::put_call(&mut own, call);
+    putting::put_entry(&mut own, said);
     same(bytes, &own)
 }
 
-// The call that a good record says; 8 for a bad one, and 5 for a slice that has not 96 bytes.
+// What a good record says; 8 for a bad one, and 5 for a slice that has not 96 bytes.
 pub fn read(bytes: &[u8]) -> Record
     ensures { λ r. ⌜ r ≡ readOf (now (bytes .entry)) ⌝ }
 {
     if bytes.len() != 96 {
         return Record::Refused(scope::WRONG_ROOM);
     }
-    let call = reading::call(bytes);
-    if is_record(bytes, call) {
-        return Record::Good(call);
+    let said = reading::said(bytes);
+    if is_record(bytes, said) {
+        return Record::Good(said);
     }
     Record::Refused(BAD_RECORD)
 }
 
-fn scales_fit(call: Call) -> bool
-    ensures { λ r. ⌜ r ≡ scalesFit call ⌝ }
+fn scales_fit(said: Entry) -> bool
+    ensures { λ r. ⌜ r ≡ scalesFit said ⌝ }
 {
-    match call {
-        Call::Sent(_) => true,
-        Call::Accept(_) => true,
-        Call::Observe(o) => {
+    match said {
+        Entry::Sent(_) => true,
+        Entry::Accept(_) => true,
+        Entry::Observe(o, _) => {
             let quality = o.quality;
             ranges::estimates_fit(quality)
         }
-        Call::Advance(_) => true,
-        Call::Idle => true,
+        Entry::Advance(_) => true,
+        Entry::Idle => true,
     }
 }
 
-// Writes the record of a call over 96 lent bytes and answers 0; 5 for another number of bytes, and 1 for a scale above 63.
-pub fn write(bytes: &mut [u8], call: Call) -> u8
-    ensures { λ r. ⌜ wrote r (now (bytes .exit)) ≡ writtenTo (now (bytes .entry)) call ⌝ }
+// Writes the record of an entry over 96 lent bytes and answers 0; 5 for another number of bytes, and 1 for a scale above 63.
+pub fn write(bytes: &mut [u8], said: Entry) -> u8
+    ensures { λ r. ⌜ wrote r (now (bytes .exit)) ≡ writtenTo (now (bytes .entry)) said ⌝ }
 {
     if bytes.len() != 96 {
         return scope::WRONG_ROOM;
     }
-    if !scales_fit(call) {
+    if !scales_fit(said) {
         return scope::OUT_OF_RANGE;
     }
     clear(bytes);
-    putting::put_call(bytes, call);
+    putting::put_entry(bytes, said);
     0
 }

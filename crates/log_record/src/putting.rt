@@ -1,4 +1,4 @@
-// The fields of a call, written over the 96 bytes of a record: each group in the order of document 01.
+// The fields of an entry, written over the 96 bytes of a record: each group in the order of document 01.
 ghost use mathlib.Core.Path.{_≡_};
 ghost use mathlib.Core.List.{[]};
 ghost use lib.ListN.{length};
@@ -11,7 +11,6 @@ use big_endian::put_u8;
 use big_endian::put_u16;
 use big_endian::put_u32;
 use big_endian::put_u64;
-use calls::Call;
 use calls::Counters;
 use calls::FollowUp;
 use calls::Ordinal;
@@ -20,7 +19,9 @@ use calls::Reply;
 use calls::ReplyKey;
 use calls::ReplyObservation;
 use calls::SentProbe;
+use calls::Time;
 use estimate::Estimates;
+use record_parts::Entry;
 
 fn put_frame(bytes: &mut [u8], kind: u8, flags: u8)
     requires { ⌜ length (now bytes) ≡ 96 ⌝ }
@@ -101,16 +102,16 @@ fn put_counts(bytes: &mut [u8], ordinal: Ordinal, counters: Counters)
     put_u32(bytes, 60, transmitted);
 }
 
-fn put_follow(bytes: &mut [u8], follow: FollowUp)
+fn put_follow(bytes: &mut [u8], follow: FollowUp, converted: Time)
     requires { ⌜ length (now bytes) ≡ 96 ⌝ }
-    ensures { λ _. ⌜ now (bytes .exit) ≡ written (followGroup follow) (now (bytes .entry)) ⌝ }
+    ensures { λ _. ⌜ now (bytes .exit) ≡ written (followGroup follow converted) (now (bytes .entry)) ⌝ }
 {
     let sequence = record_parts::follow_sequence(follow);
     let timestamp = record_parts::follow_timestamp(follow);
-    let converted = record_parts::time_word(record_parts::follow_time(follow));
+    let word = record_parts::time_word(record_parts::follow_time(follow, converted));
     put_u32(bytes, 64, sequence);
     put_u64(bytes, 68, timestamp);
-    put_u64(bytes, 76, converted);
+    put_u64(bytes, 76, word);
 }
 
 fn put_quality(bytes: &mut [u8], quality: Estimates)
@@ -133,9 +134,9 @@ fn put_accept(bytes: &mut [u8], reply: Reply)
     put_pending(bytes, pending);
 }
 
-fn put_observe(bytes: &mut [u8], o: ReplyObservation)
+fn put_observe(bytes: &mut [u8], o: ReplyObservation, converted: Time)
     requires { ⌜ length (now bytes) ≡ 96 ⌝ }
-    ensures { λ _. ⌜ now (bytes .exit) ≡ written (observeFields o) (now (bytes .entry)) ⌝ }
+    ensures { λ _. ⌜ now (bytes .exit) ≡ written (observeFields o converted) (now (bytes .entry)) ⌝ }
 {
     let key = o.key;
     let ordinal = o.ordinal;
@@ -145,34 +146,34 @@ fn put_observe(bytes: &mut [u8], o: ReplyObservation)
     put_key(bytes, key);
     put_times(bytes, o);
     put_counts(bytes, ordinal, counters);
-    put_follow(bytes, follow);
+    put_follow(bytes, follow, converted);
     put_quality(bytes, quality);
 }
 
-// Every field of a call, over 96 bytes.
-pub fn put_call(bytes: &mut [u8], call: Call)
+// Every field of an entry, over 96 bytes.
+pub fn put_entry(bytes: &mut [u8], said: Entry)
     requires { ⌜ length (now bytes) ≡ 96 ⌝ }
-    ensures { λ _. ⌜ now (bytes .exit) ≡ written (tableOf call) (now (bytes .entry)) ⌝ }
+    ensures { λ _. ⌜ now (bytes .exit) ≡ written (tableOf said) (now (bytes .entry)) ⌝ }
 {
-    match call {
-        Call::Sent(p) => {
+    match said {
+        Entry::Sent(p) => {
             put_frame(bytes, 0, 0);
             put_sent(bytes, p);
         }
-        Call::Accept(reply) => {
+        Entry::Accept(reply) => {
             let pending = reply.pending;
             put_frame(bytes, 1, record_parts::pending_flag(pending));
             put_accept(bytes, reply);
         }
-        Call::Observe(o) => {
-            put_frame(bytes, 2, record_parts::observe_flags(o));
-            put_observe(bytes, o);
+        Entry::Observe(o, converted) => {
+            put_frame(bytes, 2, record_parts::observe_flags(o, converted));
+            put_observe(bytes, o, converted);
         }
-        Call::Advance(now) => {
+        Entry::Advance(now) => {
             put_frame(bytes, 3, 0);
             put_u64(bytes, 4, now);
         }
-        Call::Idle => {
+        Entry::Idle => {
             put_frame(bytes, 4, 0);
         }
     }

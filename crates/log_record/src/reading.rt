@@ -1,4 +1,4 @@
-// The call that 96 bytes say, field by field.
+// What 96 bytes say, field by field.
 ghost use mathlib.Core.Path.{_≡_};
 ghost use Prim.Native.Nat.{_+_, _≤_};
 ghost use lib.ListN.{length};
@@ -6,12 +6,11 @@ ghost use mir.Syntax.{w32, w64};
 ghost use mir.Val.{toZ};
 ghost use Rattle.big_endian.specs.Numbers.{numberAt};
 ghost use Rattle.record_parts.specs.Parts.{timeBy, ordinalBy};
-ghost use Rattle.log_record.specs.Records.{keyAt, sentAt, acceptAt, countersAt, followAt, estimatesAt, observeAt, callOf};
+ghost use Rattle.log_record.specs.Records.{keyAt, sentAt, acceptAt, countersAt, followAt, estimatesAt, observeAt, entryOf};
 use big_endian::u8_at;
 use big_endian::u16_at;
 use big_endian::u32_at;
 use big_endian::u64_at;
-use calls::Call;
 use calls::Counters;
 use calls::FollowUp;
 use calls::Ordinal;
@@ -22,6 +21,7 @@ use calls::ReplyObservation;
 use calls::SentProbe;
 use calls::Time;
 use estimate::Estimates;
+use record_parts::Entry;
 use record_parts::flag_set;
 
 fn key(bytes: &[u8]) -> ReplyKey
@@ -106,8 +106,7 @@ fn follow(bytes: &[u8], flags: u8) -> FollowUp
     let sequence = u32_at(bytes, 64);
     let timestamp = u64_at(bytes, 68);
     let unknown = flag_set(flags, 128);
-    let t3 = time(bytes, 76, flag_set(flags, 16));
-    record_parts::follow_by(flag_set(flags, 8), sequence, timestamp, unknown, t3)
+    record_parts::follow_by(flag_set(flags, 8), sequence, timestamp, unknown)
 }
 
 fn estimates(bytes: &[u8], flags: u8) -> Estimates
@@ -137,24 +136,25 @@ fn observe(bytes: &[u8], flags: u8) -> ReplyObservation
     }
 }
 
-// The call that 96 bytes say. A kind above 4 says idle, whose record has another kind.
-pub fn call(bytes: &[u8]) -> Call
+// What 96 bytes say. A kind above 4 says idle, whose record has another kind.
+pub fn said(bytes: &[u8]) -> Entry
     requires { ⌜ length (now bytes) ≡ 96 ⌝ }
-    ensures { λ r. ⌜ r ≡ callOf (now (bytes .entry)) ⌝ }
+    ensures { λ r. ⌜ r ≡ entryOf (now (bytes .entry)) ⌝ }
 {
     let kind = u8_at(bytes, 0);
     let flags = u8_at(bytes, 1);
     if kind == 0 {
-        return Call::Sent(sent(bytes));
+        return Entry::Sent(sent(bytes));
     }
     if kind == 1 {
-        return Call::Accept(accept(bytes, flags));
+        return Entry::Accept(accept(bytes, flags));
     }
     if kind == 2 {
-        return Call::Observe(observe(bytes, flags));
+        let converted = time(bytes, 76, flag_set(flags, 16));
+        return Entry::Observe(observe(bytes, flags), converted);
     }
     if kind == 3 {
-        return Call::Advance(u64_at(bytes, 4));
+        return Entry::Advance(u64_at(bytes, 4));
     }
-    Call::Idle
+    Entry::Idle
 }

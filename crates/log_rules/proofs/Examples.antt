@@ -11,13 +11,13 @@ use Rattle.calls.specs.declared.Pending.the-variants as pending
 use Rattle.calls.specs.declared.Ordinal.the-variants as ordinal
 use Rattle.calls.specs.declared.Counters.the-variants as counters
 use Rattle.calls.specs.declared.FollowUp.the-variants as follow
-use Rattle.calls.specs.declared.Call.{Call}
-use Rattle.calls.specs.declared.Call.the-variants as call
+use Rattle.record_parts.specs.declared.Entry.{Entry}
+use Rattle.record_parts.specs.declared.Entry.the-variants as entry
 use Rattle.record_parts.specs.Parts.{observeFlags}
 use Rattle.log_record.specs.Records.{tableOf, blank, recordOf}
 
 -- document 01's example, with tag 300: sent 7 ordinal 1 at 100
-sent : recordOf (call.Sent (record { sequence = 7; ordinal = 1; packet = record { time = 100; tag = 300 } })) ≡
+sent : recordOf (entry.Sent (record { sequence = 7; ordinal = 1; packet = record { time = 100; tag = 300 } })) ≡
     0 ∷ 0 ∷ 0 ∷ 0 ∷ 0 ∷ 0 ∷ 0 ∷ 7 ∷ 0 ∷ 0 ∷ 0 ∷ 1 ∷ 0 ∷ 0 ∷ 0 ∷ 0 ∷ 0 ∷ 0 ∷ 0 ∷ 100 ∷ 0 ∷ 0 ∷ 0 ∷ 0 ∷
     0 ∷ 0 ∷ 1 ∷ 44 ∷ 0 ∷ 0 ∷ 0 ∷ 0 ∷ 0 ∷ 0 ∷ 0 ∷ 0 ∷ 0 ∷ 0 ∷ 0 ∷ 0 ∷ 0 ∷ 0 ∷ 0 ∷ 0 ∷ 0 ∷ 0 ∷ 0 ∷ 0 ∷
     0 ∷ 0 ∷ 0 ∷ 0 ∷ 0 ∷ 0 ∷ 0 ∷ 0 ∷ 0 ∷ 0 ∷ 0 ∷ 0 ∷ 0 ∷ 0 ∷ 0 ∷ 0 ∷ 0 ∷ 0 ∷ 0 ∷ 0 ∷ 0 ∷ 0 ∷ 0 ∷ 0 ∷
@@ -26,7 +26,7 @@ unfolding recordOf tableOf blank observeFlags
 sent = refl
 
 -- accept (7,7,5) pending at 100
-accept : recordOf (call.Accept (record { key = record { sender = 7; reflector = 7; t3 = 5 }; pending = pending.Held (record { time = 100; tag = 300 }) })) ≡
+accept : recordOf (entry.Accept (record { key = record { sender = 7; reflector = 7; t3 = 5 }; pending = pending.Held (record { time = 100; tag = 300 }) })) ≡
     1 ∷ 1 ∷ 0 ∷ 0 ∷ 0 ∷ 0 ∷ 0 ∷ 7 ∷ 0 ∷ 0 ∷ 0 ∷ 7 ∷ 0 ∷ 0 ∷ 0 ∷ 0 ∷ 0 ∷ 0 ∷ 0 ∷ 5 ∷ 0 ∷ 0 ∷ 0 ∷ 0 ∷
     0 ∷ 0 ∷ 0 ∷ 100 ∷ 0 ∷ 0 ∷ 0 ∷ 0 ∷ 0 ∷ 0 ∷ 1 ∷ 44 ∷ 0 ∷ 0 ∷ 0 ∷ 0 ∷ 0 ∷ 0 ∷ 0 ∷ 0 ∷ 0 ∷ 0 ∷ 0 ∷ 0 ∷
     0 ∷ 0 ∷ 0 ∷ 0 ∷ 0 ∷ 0 ∷ 0 ∷ 0 ∷ 0 ∷ 0 ∷ 0 ∷ 0 ∷ 0 ∷ 0 ∷ 0 ∷ 0 ∷ 0 ∷ 0 ∷ 0 ∷ 0 ∷ 0 ∷ 0 ∷ 0 ∷ 0 ∷
@@ -34,8 +34,8 @@ accept : recordOf (call.Accept (record { key = record { sender = 7; reflector = 
 unfolding recordOf tableOf blank observeFlags
 accept = refl
 
-abbrev bare : Call
-bare = call.Observe (record {
+abbrev bare : Entry
+bare = entry.Observe (record {
   key = record { sender = 7; reflector = 7; t3 = 5 };
   rtt = 50;
   t4 = time.Absent;
@@ -46,7 +46,7 @@ bare = call.Observe (record {
   counters = counters.Absent;
   follow = follow.Absent;
   quality = estimates.Absent;
-})
+}) time.Absent
 
 -- observe 50 with no flag
 observe : recordOf (bare) ≡
@@ -57,8 +57,8 @@ observe : recordOf (bare) ≡
 unfolding recordOf tableOf blank observeFlags
 observe = refl
 
-abbrev full : Call
-full = call.Observe (record {
+abbrev full : Entry
+full = entry.Observe (record {
   key = record { sender = 1; reflector = 2; t3 = 3 };
   rtt = 4;
   t4 = time.Nanoseconds (negsuc 4);
@@ -67,9 +67,9 @@ full = call.Observe (record {
   offset = negsuc 6;
   ordinal = ordinal.Number 8;
   counters = counters.Point (record { sender = record { 0 = 9 }; received = record { 0 = 10 }; transmitted = record { 0 = 11 } });
-  follow = follow.Telemetry (record { sequence = 12; timestamp = 13; unknown = true; t3 = time.Nanoseconds (negsuc 13) });
+  follow = follow.Telemetry (record { sequence = 12; timestamp = 13; unknown = true });
   quality = estimates.Pair (estimateOf 0xa001) (estimateOf 0x4001);
-})
+}) (time.Nanoseconds (negsuc 13))
 
 -- an observe with every flag, T4 -5, reference -6, offset -7 and converted T3 -14
 all-flags : recordOf (full) ≡
@@ -81,7 +81,7 @@ unfolding recordOf tableOf blank observeFlags
 all-flags = refl
 
 -- advance to 65,537
-advance : recordOf (call.Advance 65537) ≡
+advance : recordOf (entry.Advance 65537) ≡
     3 ∷ 0 ∷ 0 ∷ 0 ∷ 0 ∷ 0 ∷ 0 ∷ 0 ∷ 0 ∷ 1 ∷ 0 ∷ 1 ∷ 0 ∷ 0 ∷ 0 ∷ 0 ∷ 0 ∷ 0 ∷ 0 ∷ 0 ∷ 0 ∷ 0 ∷ 0 ∷ 0 ∷
     0 ∷ 0 ∷ 0 ∷ 0 ∷ 0 ∷ 0 ∷ 0 ∷ 0 ∷ 0 ∷ 0 ∷ 0 ∷ 0 ∷ 0 ∷ 0 ∷ 0 ∷ 0 ∷ 0 ∷ 0 ∷ 0 ∷ 0 ∷ 0 ∷ 0 ∷ 0 ∷ 0 ∷
     0 ∷ 0 ∷ 0 ∷ 0 ∷ 0 ∷ 0 ∷ 0 ∷ 0 ∷ 0 ∷ 0 ∷ 0 ∷ 0 ∷ 0 ∷ 0 ∷ 0 ∷ 0 ∷ 0 ∷ 0 ∷ 0 ∷ 0 ∷ 0 ∷ 0 ∷ 0 ∷ 0 ∷
@@ -90,7 +90,7 @@ unfolding recordOf tableOf blank observeFlags
 advance = refl
 
 -- idle
-idle : recordOf (call.Idle) ≡
+idle : recordOf (entry.Idle) ≡
     4 ∷ 0 ∷ 0 ∷ 0 ∷ 0 ∷ 0 ∷ 0 ∷ 0 ∷ 0 ∷ 0 ∷ 0 ∷ 0 ∷ 0 ∷ 0 ∷ 0 ∷ 0 ∷ 0 ∷ 0 ∷ 0 ∷ 0 ∷ 0 ∷ 0 ∷ 0 ∷ 0 ∷
     0 ∷ 0 ∷ 0 ∷ 0 ∷ 0 ∷ 0 ∷ 0 ∷ 0 ∷ 0 ∷ 0 ∷ 0 ∷ 0 ∷ 0 ∷ 0 ∷ 0 ∷ 0 ∷ 0 ∷ 0 ∷ 0 ∷ 0 ∷ 0 ∷ 0 ∷ 0 ∷ 0 ∷
     0 ∷ 0 ∷ 0 ∷ 0 ∷ 0 ∷ 0 ∷ 0 ∷ 0 ∷ 0 ∷ 0 ∷ 0 ∷ 0 ∷ 0 ∷ 0 ∷ 0 ∷ 0 ∷ 0 ∷ 0 ∷ 0 ∷ 0 ∷ 0 ∷ 0 ∷ 0 ∷ 0 ∷

@@ -1,4 +1,4 @@
--- The record of every call keeps the rules. Assumes nothing.
+-- The record of every entry keeps the rules. Assumes nothing.
 use mathlib.Core.Path.{_≡_, refl, sym, _∙_, subst}
 use mathlib.Core.Bool.{Bool, true, false, _&&_, _||_, not}
 use mathlib.Core.List.{List, [], _∷_}
@@ -25,8 +25,8 @@ use Rattle.calls.specs.declared.FollowUp.{FollowUp}
 use Rattle.calls.specs.declared.FollowUp.the-variants as follow
 use Rattle.calls.specs.declared.Reply.{Reply}
 use Rattle.calls.specs.declared.ReplyObservation.{ReplyObservation}
-use Rattle.calls.specs.declared.Call.{Call}
-use Rattle.calls.specs.declared.Call.the-variants as call
+use Rattle.record_parts.specs.declared.Entry.{Entry}
+use Rattle.record_parts.specs.declared.Entry.the-variants as entry
 use Rattle.record_parts.specs.Parts.{observeFlags, pendingFlag, pendingTime, pendingTag, timeFlag, timeWord, ordinalFlag, ordinalNumber, countersFlag}
 use Rattle.record_parts.specs.Parts.{senderCount, receivedCount, transmittedCount, followFlag, followSequence, followTimestamp, followTime, unknownFlag}
 use Rattle.record_parts.specs.Parts.{estimatesFlag, senderWire, reflectorWire}
@@ -57,7 +57,7 @@ each-below (suc n) p t i l =
     let u = both (p n) (allBelow n p) t in
     below-at n p i (eq-or-lt-of-le (le-of-suc-le-suc l)) (u .0) (λ m. each-below n p (u .1) i m)
 
--- the fields of a call cover just the bytes that its kind uses
+-- the fields of an entry cover just the bytes that its kind uses
 abbrev pub either : Bool → Bool → Bool
 either true b = not b
 either false b = b
@@ -87,14 +87,14 @@ uncovered-by true false t s = refl
 uncovered-by true true t s = absurd t
 uncovered-by false v t s = absurd s
 
-empty-of : (c : Call) (kind : ℕ) → T (allBelow 96 (exact kind (tableOf c))) → (i : ℕ) → i < 96 → T (unused kind i) → getD (recordOf c) i 0 ≡ 0
+empty-of : (c : Entry) (kind : ℕ) → T (allBelow 96 (exact kind (tableOf c))) → (i : ℕ) → i < 96 → T (unused kind i) → getD (recordOf c) i 0 ≡ 0
 unfolding recordOf
 empty-of c kind t i l u =
     uncovered-all (tableOf c) blank i (uncovered-by (unused kind i) (covered (tableOf c) i) (each-below 96 (exact kind (tableOf c)) t i l) u) ∙ blank-zero i l
 
 -- ---- fields that are absent
 
-zero-field : (c : Call) (k : ℕ) → T (within (tableOf c) k) → 0 < base (fieldAt (tableOf c) k .width) → fieldAt (tableOf c) k .value ≡ 0
+zero-field : (c : Entry) (k : ℕ) → T (within (tableOf c) k) → 0 < base (fieldAt (tableOf c) k .width) → fieldAt (tableOf c) k .value ≡ 0
     → numberAt (fieldAt (tableOf c) k .width) (recordOf c) (fieldAt (tableOf c) k .at) ≡ 0
 zero-field c k t p e = field c k t (subst (λ (n : ℕ). n < base (fieldAt (tableOf c) k .width)) (sym e) p) ∙ e
 
@@ -150,7 +150,7 @@ reflector-wire-none (estimates.Pair s r) e = absurd (never e)
 rules-by : (kind flags : ℕ) (r : List ℕ) → getD r 0 0 ≡ kind → getD r 1 0 ≡ flags → RulesAt kind flags r → Rules r
 rules-by kind flags r e f h = subst (λ (k : ℕ). RulesAt k (getD r 1 0) r) (sym e) (subst (λ (g : ℕ). RulesAt kind g r) (sym f) h)
 
-plain : (c : Call) (kind : ℕ) → getD (recordOf c) 0 0 ≡ kind → getD (recordOf c) 1 0 ≡ 0 → getD (recordOf c) 95 0 ≡ 255 - kind → kind ≤ 4
+plain : (c : Entry) (kind : ℕ) → getD (recordOf c) 0 0 ≡ kind → getD (recordOf c) 1 0 ≡ 0 → getD (recordOf c) 95 0 ≡ 255 - kind → kind ≤ 4
     → (kind ≡ 1 → ⊥) → (kind ≡ 2 → ⊥) → T (allBelow 96 (exact kind (tableOf c))) → Rules (recordOf c)
 plain c kind e f l k n1 n2 t = rules-by kind 0 (recordOf c) e f
     (record {
@@ -163,10 +163,10 @@ plain c kind e f l k n1 n2 t = rules-by kind 0 (recordOf c) e f
       empty = empty-of c kind t;
     })
 
-accept-rules : (r : Reply) → Rules (recordOf (call.Accept r))
+accept-rules : (r : Reply) → Rules (recordOf (entry.Accept r))
 unfolding tableOf
 accept-rules r =
-    let c = call.Accept r in
+    let c = entry.Accept r in
     let p = r .pending in
     rules-by 1 (pendingFlag p) (recordOf c) (field c 0 tt (lit< tt)) (field c 1 tt (byte-lt p))
     (record {
@@ -191,23 +191,23 @@ accept-rules r =
     one pending.Absent = omega arith
     one (pending.Held p) = omega arith
 
-converted-need : (f : FollowUp) → eqb (timeFlag (followTime f)) 1 ≡ true → eqb (followFlag f) 1 ≡ true
-converted-need follow.Absent e = e
-converted-need (follow.Telemetry f) e = refl
+converted-need : (f : FollowUp) (t : Time) → eqb (timeFlag (followTime f t)) 1 ≡ true → eqb (followFlag f) 1 ≡ true
+converted-need follow.Absent t e = e
+converted-need (follow.Telemetry f) t e = refl
 
 unknown-need : (f : FollowUp) → eqb (unknownFlag f) 1 ≡ true → eqb (followFlag f) 1 ≡ true
 unknown-need follow.Absent e = e
 unknown-need (follow.Telemetry f) e = refl
 
-module _ (o : ReplyObservation) where
-  abbrev c : Call
-  c = call.Observe o
+module _ (o : ReplyObservation) (t : Time) where
+  abbrev c : Entry
+  c = entry.Observe o t
 
   abbrev f : ℕ
-  f = observeFlags o
+  f = observeFlags o t
 
-  back : FlagsBack o
-  back = flags-back o
+  back : FlagsBack o t
+  back = flags-back o t
 
   observe-fields : ObserveRules f (recordOf c)
   unfolding tableOf
@@ -219,14 +219,14 @@ module _ (o : ReplyObservation) where
     transmitted = λ e. zero-field c 13 tt (lit< tt) (transmitted-none (o .counters) (sym (back .counted) ∙ e));
     sequence = λ e. zero-field c 14 tt (lit< tt) (sequence-none (o .follow) (sym (back .followed) ∙ e));
     timestamp = λ e. zero-field c 15 tt (lit< tt) (timestamp-none (o .follow) (sym (back .followed) ∙ e));
-    converted = λ e. zero-field c 16 tt (lit< tt) (time-none (followTime (o .follow)) (sym (back .converted) ∙ e));
+    converted = λ e. zero-field c 16 tt (lit< tt) (time-none (followTime (o .follow) t) (sym (back .converted) ∙ e));
     sender-estimate = λ e. zero-field c 17 tt (lit< tt) (sender-wire-none (o .quality) (sym (back .estimated) ∙ e));
     reflector-estimate = λ e. zero-field c 18 tt (lit< tt) (reflector-wire-none (o .quality) (sym (back .estimated) ∙ e));
-    converted-needs = λ e. back .followed ∙ converted-need (o .follow) (sym (back .converted) ∙ e);
+    converted-needs = λ e. back .followed ∙ converted-need (o .follow) t (sym (back .converted) ∙ e);
     unknown-needs = λ e. back .followed ∙ unknown-need (o .follow) (sym (back .unknown) ∙ e);
   }
 
-  observe-rules : Rules (recordOf (call.Observe o))
+  observe-rules : Rules (recordOf (entry.Observe o t))
   unfolding tableOf
   observe-rules =
       rules-by 2 f (recordOf c) (field c 0 tt (lit< tt)) (field c 1 tt (back .fits))
@@ -240,17 +240,17 @@ module _ (o : ReplyObservation) where
         empty = empty-of c 2 tt;
       })
 
--- The record of every call keeps the rules.
-pub record-rules : (c : Call) → Rules (recordOf c)
+-- The record of every entry keeps the rules.
+pub record-rules : (c : Entry) → Rules (recordOf c)
 unfolding tableOf
-record-rules (call.Sent p) =
-    let c = call.Sent p in
+record-rules (entry.Sent p) =
+    let c = entry.Sent p in
     plain c 0 (field c 0 tt (lit< tt)) (field c 1 tt (lit< tt)) (field c 2 tt (lit< tt)) (omega arith) (eqb-false 0 1 refl) (eqb-false 0 2 refl) tt
-record-rules (call.Accept r) = accept-rules r
-record-rules (call.Observe o) = observe-rules o
-record-rules (call.Advance n) =
-    let c = call.Advance n in
+record-rules (entry.Accept r) = accept-rules r
+record-rules (entry.Observe o t) = observe-rules o t
+record-rules (entry.Advance n) =
+    let c = entry.Advance n in
     plain c 3 (field c 0 tt (lit< tt)) (field c 1 tt (lit< tt)) (field c 2 tt (lit< tt)) (omega arith) (eqb-false 3 1 refl) (eqb-false 3 2 refl) tt
-record-rules call.Idle =
-    let c = call.Idle in
+record-rules entry.Idle =
+    let c = entry.Idle in
     plain c 4 (field c 0 tt (lit< tt)) (field c 1 tt (lit< tt)) (field c 2 tt (lit< tt)) (omega arith) (eqb-false 4 1 refl) (eqb-false 4 2 refl) tt

@@ -1,4 +1,4 @@
--- Bytes that keep the rules are the record of the call that they say. Assumes nothing.
+-- Bytes that keep the rules are the record of what they say. Assumes nothing.
 use mathlib.Core.Path.{_≡_, refl, sym, ap, _∙_, subst}
 use mathlib.Core.Bool.{Bool, true, false}
 use mathlib.Core.List.{List}
@@ -13,13 +13,12 @@ use Rattle.big_endian.specs.Numbers.{numberAt}
 use Rattle.estimate.specs.Wire.{bit}
 use Rattle.estimate.specs.Make.{formatOf}
 use Rattle.estimate.specs.RoundTrip.{wire-back}
-use Rattle.calls.specs.declared.Time.{Time}
-use Rattle.calls.specs.declared.Call.{Call}
-use Rattle.calls.specs.declared.Call.the-variants as call
+use Rattle.record_parts.specs.declared.Entry.{Entry}
+use Rattle.record_parts.specs.declared.Entry.the-variants as entry
 use Rattle.record_parts.specs.Parts.{flag, observeFlags, pendingFlag, pendingTime, pendingTag, timeFlag, timeWord, ordinalFlag, ordinalNumber, countersFlag}
 use Rattle.record_parts.specs.Parts.{senderCount, receivedCount, transmittedCount, followFlag, followSequence, followTimestamp, followTime, unknownFlag}
 use Rattle.record_parts.specs.Parts.{estimatesFlag, senderWire, reflectorWire, formatFlag, pendingBy, timeBy, ordinalBy, countersBy, followBy, estimatesBy}
-use Rattle.log_record.specs.Records.{tableOf, blank, recordOf, callOf, sentAt, acceptAt, observeAt}
+use Rattle.log_record.specs.Records.{tableOf, blank, recordOf, entryOf, sentAt, acceptAt, observeAt, convertedAt}
 use Rattle.log_record.proofs.Laws.{kind-0, kind-1, kind-2, kind-3, kind-other}
 use Rattle.log_record.proofs.Back.{laid-out}
 use Rattle.log_rules.specs.Rules.{Bytes, unused, ObserveRules, Rules}
@@ -59,13 +58,13 @@ transmitted-says : (b : Bool) (s r t : ℕ) → (b ≡ false → t ≡ 0) → tr
 transmitted-says true s r t h = refl
 transmitted-says false s r t h = sym (h refl)
 
-sequence-says : (b : Bool) (s t : ℕ) (u : Bool) (z : Time) → (b ≡ false → s ≡ 0) → followSequence (followBy b s t u z) ≡ s
-sequence-says true s t u z h = refl
-sequence-says false s t u z h = sym (h refl)
+sequence-says : (b : Bool) (s t : ℕ) (u : Bool) → (b ≡ false → s ≡ 0) → followSequence (followBy b s t u) ≡ s
+sequence-says true s t u h = refl
+sequence-says false s t u h = sym (h refl)
 
-timestamp-says : (b : Bool) (s t : ℕ) (u : Bool) (z : Time) → (b ≡ false → t ≡ 0) → followTimestamp (followBy b s t u z) ≡ t
-timestamp-says true s t u z h = refl
-timestamp-says false s t u z h = sym (h refl)
+timestamp-says : (b : Bool) (s t : ℕ) (u : Bool) → (b ≡ false → t ≡ 0) → followTimestamp (followBy b s t u) ≡ t
+timestamp-says true s t u h = refl
+timestamp-says false s t u h = sym (h refl)
 
 -- "16 and 128 need 8"
 needed : (a b : Bool) → (a ≡ true → b ≡ true) → b ≡ false → a ≡ false
@@ -73,7 +72,7 @@ needed true b h e = absurd (never (sym (h refl) ∙ e))
 needed false b h e = refl
 
 converted-says : (b a : Bool) (s t : ℕ) (u : Bool) (w : ℕ) → w < 2 ^ 64 → (a ≡ true → b ≡ true) → (a ≡ false → w ≡ 0)
-    → timeWord (followTime (followBy b s t u (timeBy a w))) ≡ w
+    → timeWord (followTime (followBy b s t u) (timeBy a w)) ≡ w
 converted-says true a s t u w l n h = time-says a w l h
 converted-says false a s t u w l n h = sym (h (needed a false n refl))
 
@@ -103,17 +102,17 @@ counters-flag-says : (b : Bool) (s r t : ℕ) → countersFlag (countersBy b s r
 counters-flag-says true s r t = refl
 counters-flag-says false s r t = refl
 
-follow-flag-says : (b : Bool) (s t : ℕ) (u : Bool) (z : Time) → followFlag (followBy b s t u z) ≡ bit b
-follow-flag-says true s t u z = refl
-follow-flag-says false s t u z = refl
+follow-flag-says : (b : Bool) (s t : ℕ) (u : Bool) → followFlag (followBy b s t u) ≡ bit b
+follow-flag-says true s t u = refl
+follow-flag-says false s t u = refl
 
-converted-flag-says : (b a : Bool) (s t : ℕ) (u : Bool) (w : ℕ) → (a ≡ true → b ≡ true) → timeFlag (followTime (followBy b s t u (timeBy a w))) ≡ bit a
+converted-flag-says : (b a : Bool) (s t : ℕ) (u : Bool) (w : ℕ) → (a ≡ true → b ≡ true) → timeFlag (followTime (followBy b s t u) (timeBy a w)) ≡ bit a
 converted-flag-says true a s t u w n = time-flag-says a w
 converted-flag-says false a s t u w n = sym (ap bit (needed a false n refl))
 
-unknown-flag-says : (b : Bool) (s t : ℕ) (u : Bool) (z : Time) → (u ≡ true → b ≡ true) → unknownFlag (followBy b s t u z) ≡ bit u
-unknown-flag-says true s t u z n = refl
-unknown-flag-says false s t u z n = sym (ap bit (needed u false n refl))
+unknown-flag-says : (b : Bool) (s t : ℕ) (u : Bool) → (u ≡ true → b ≡ true) → unknownFlag (followBy b s t u) ≡ bit u
+unknown-flag-says true s t u n = refl
+unknown-flag-says false s t u n = sym (ap bit (needed u false n refl))
 
 estimates-flag-says : (b : Bool) (s r : ℕ) → estimatesFlag (estimatesBy b s r) ≡ bit b
 estimates-flag-says true s r = refl
@@ -176,27 +175,27 @@ eight-bits n h =
         → a4 ≡ b4 + 2 * a5 → a5 ≡ b5 + 2 * a6 → a6 ≡ b6 + 2 * a7 → a7 ≡ b7 → b0 + 2 * b1 + 4 * b2 + 8 * b3 + 16 * b4 + 32 * b5 + 64 * b6 + 128 * b7 ≡ a0
     sum a0 a1 a2 a3 a4 a5 a6 a7 b0 b1 b2 b3 b4 b5 b6 b7 e0 e1 e2 e3 e4 e5 e6 e7 = omega arith
 
-flags-say : (f : ℕ) (r : List ℕ) → f < 256 → ObserveRules f r → observeFlags (observeAt f r) ≡ f
+flags-say : (f : ℕ) (r : List ℕ) → f < 256 → ObserveRules f r → observeFlags (observeAt f r) (convertedAt f r) ≡ f
 unfolding observeFlags
 flags-say f r l h =
     (λ i.
     time-flag-says (flag 1 f) (numberAt 3 r 28) i + 2 * ordinal-flag-says (flag 2 f) (numberAt 2 r 48) i
     + 4 * counters-flag-says (flag 4 f) (numberAt 2 r 52) (numberAt 2 r 56) (numberAt 2 r 60) i
-    + 8 * follow-flag-says (flag 8 f) (numberAt 2 r 64) (numberAt 3 r 68) (flag 128 f) (timeBy (flag 16 f) (numberAt 3 r 76)) i
+    + 8 * follow-flag-says (flag 8 f) (numberAt 2 r 64) (numberAt 3 r 68) (flag 128 f) i
     + 16 * converted-flag-says (flag 8 f) (flag 16 f) (numberAt 2 r 64) (numberAt 3 r 68) (flag 128 f) (numberAt 3 r 76) (h .converted-needs) i
     + 32 * estimates-flag-says (flag 32 f) (numberAt 1 r 84) (numberAt 1 r 86) i + 64 * format-flag-says (flag 64 f) i
-    + 128 * unknown-flag-says (flag 8 f) (numberAt 2 r 64) (numberAt 3 r 68) (flag 128 f) (timeBy (flag 16 f) (numberAt 3 r 76)) (h .unknown-needs) i)
+    + 128 * unknown-flag-says (flag 8 f) (numberAt 2 r 64) (numberAt 3 r 68) (flag 128 f) (h .unknown-needs) i)
     ∙ (λ i. bit-flag 1 f i + 2 * bit-flag 2 f i + 4 * bit-flag 4 f i + 8 * bit-flag 8 f i + 16 * bit-flag 16 f i + 32 * bit-flag 32 f i + 64 * bit-flag 64 f i + 128 * bit-flag 128 f i)
     ∙ eight-bits f l
 
--- ---- the record of the call that the bytes say
+-- ---- the record of what the bytes say
 
 uncovered-zero : (u v : Bool) → T (either u v) → v ≡ false → T u
 uncovered-zero true v t e = tt
 uncovered-zero false true t e = absurd (never e)
 uncovered-zero false false t e = absurd t
 
-copied-of : (c : Call) (kind : ℕ) (r : List ℕ) → T (allBelow 96 (exact kind (tableOf c))) → length r ≡ 96 → Bytes r → Says r (tableOf c)
+copied-of : (c : Entry) (kind : ℕ) (r : List ℕ) → T (allBelow 96 (exact kind (tableOf c))) → length r ≡ 96 → Bytes r → Says r (tableOf c)
     → ((i : ℕ) → i < 96 → T (unused kind i) → getD r i 0 ≡ 0) → recordOf c ≡ r
 unfolding recordOf blank
 copied-of c kind r t l b s h =
@@ -219,16 +218,16 @@ module _ (r : List ℕ) (b : Bytes r) (h : Rules r) where
   no-flags : (k : ℕ) → kind ≡ k → (k ≡ 1 → ⊥) → (k ≡ 2 → ⊥) → 0 ≡ flags
   no-flags k e n1 n2 = sym (h .none (λ q. n1 (sym e ∙ q)) (λ q. n2 (sym e ∙ q)))
 
-  of-sent : kind ≡ 0 → recordOf (call.Sent (sentAt r)) ≡ r
+  of-sent : kind ≡ 0 → recordOf (entry.Sent (sentAt r)) ≡ r
   unfolding tableOf
-  of-sent e = copied-of (call.Sent (sentAt r)) 0 r tt (h .size) b
+  of-sent e = copied-of (entry.Sent (sentAt r)) 0 r tt (h .size) b
       (sym e, (no-flags 0 e (eqb-false 0 1 refl) (eqb-false 0 2 refl), (last-of 0 e, (refl, (refl, (refl, (refl, tt))))))) (empty-at 0 e)
 
-  of-accept : kind ≡ 1 → recordOf (call.Accept (acceptAt flags r)) ≡ r
+  of-accept : kind ≡ 1 → recordOf (entry.Accept (acceptAt flags r)) ≡ r
   unfolding tableOf
   of-accept e =
       let a = h .accept e in
-      copied-of (call.Accept (acceptAt flags r)) 1 r tt (h .size) b (
+      copied-of (entry.Accept (acceptAt flags r)) 1 r tt (h .size) b (
         sym e,
         (
           one-flag flags (a .only),
@@ -257,11 +256,11 @@ module _ (r : List ℕ) (b : Bytes r) (h : Rules r) where
           small : (n : ℕ) → n ≤ 1 → n / 1 % 2 ≡ n
           small n l = omega arith
 
-  of-observe : kind ≡ 2 → recordOf (call.Observe (observeAt flags r)) ≡ r
+  of-observe : kind ≡ 2 → recordOf (entry.Observe (observeAt flags r) (convertedAt flags r)) ≡ r
   unfolding tableOf
   of-observe e =
       let o = h .observe e in
-      copied-of (call.Observe (observeAt flags r)) 2 r tt (h .size) b (
+      copied-of (entry.Observe (observeAt flags r) (convertedAt flags r)) 2 r tt (h .size) b (
         sym e,
         (
           flags-say flags r (b 1) o,
@@ -290,9 +289,9 @@ module _ (r : List ℕ) (b : Bytes r) (h : Rules r) where
                                 (
                                   transmitted-says (flag 4 flags) (numberAt 2 r 52) (numberAt 2 r 56) (numberAt 2 r 60) (o .transmitted),
                                   (
-                                    sequence-says (flag 8 flags) (numberAt 2 r 64) (numberAt 3 r 68) (flag 128 flags) (timeBy (flag 16 flags) (numberAt 3 r 76)) (o .sequence),
+                                    sequence-says (flag 8 flags) (numberAt 2 r 64) (numberAt 3 r 68) (flag 128 flags) (o .sequence),
                                     (
-                                      timestamp-says (flag 8 flags) (numberAt 2 r 64) (numberAt 3 r 68) (flag 128 flags) (timeBy (flag 16 flags) (numberAt 3 r 76)) (o .timestamp),
+                                      timestamp-says (flag 8 flags) (numberAt 2 r 64) (numberAt 3 r 68) (flag 128 flags) (o .timestamp),
                                       (
                                         converted-says (flag 8 flags) (flag 16 flags) (numberAt 2 r 64) (numberAt 3 r 68) (flag 128 flags) (numberAt 3 r 76) (number-lt 3 r 76 b) (o .converted-needs) (o .converted),
                                         (
@@ -317,17 +316,17 @@ module _ (r : List ℕ) (b : Bytes r) (h : Rules r) where
         ),
       ) (empty-at 2 e)
 
-  of-advance : kind ≡ 3 → recordOf (call.Advance (numberAt 3 r 4)) ≡ r
+  of-advance : kind ≡ 3 → recordOf (entry.Advance (numberAt 3 r 4)) ≡ r
   unfolding tableOf
-  of-advance e = copied-of (call.Advance (numberAt 3 r 4)) 3 r tt (h .size) b
+  of-advance e = copied-of (entry.Advance (numberAt 3 r 4)) 3 r tt (h .size) b
       (sym e, (no-flags 3 e (eqb-false 3 1 refl) (eqb-false 3 2 refl), (last-of 3 e, (refl, tt)))) (empty-at 3 e)
 
-  of-idle : kind ≡ 4 → recordOf call.Idle ≡ r
+  of-idle : kind ≡ 4 → recordOf entry.Idle ≡ r
   unfolding tableOf
-  of-idle e = copied-of call.Idle 4 r tt (h .size) b
+  of-idle e = copied-of entry.Idle 4 r tt (h .size) b
       (sym e, (no-flags 4 e (eqb-false 4 1 refl) (eqb-false 4 2 refl), (last-of 4 e, tt))) (empty-at 4 e)
 
-  by-kind : (k : ℕ) → kind ≡ k → k ≤ 4 → recordOf (callOf r) ≡ r
+  by-kind : (k : ℕ) → kind ≡ k → k ≤ 4 → recordOf (entryOf r) ≡ r
   by-kind zero e l = ap recordOf (sym (kind-0 r e)) ∙ of-sent e
   by-kind (suc zero) e l = ap recordOf (sym (kind-1 r e)) ∙ of-accept e
   by-kind (suc (suc zero)) e l = ap recordOf (sym (kind-2 r e)) ∙ of-observe e
@@ -336,5 +335,5 @@ module _ (r : List ℕ) (b : Bytes r) (h : Rules r) where
       let four : suc (suc (suc (suc k))) ≡ 4 = omega arith in
       ap recordOf (sym (kind-other r 4 (sym (e ∙ four)) (eqb-false 4 0 refl) (eqb-false 4 1 refl) (eqb-false 4 2 refl) (eqb-false 4 3 refl))) ∙ of-idle (e ∙ four)
 
-  pub said : recordOf (callOf r) ≡ r
+  pub said : recordOf (entryOf r) ≡ r
   said = by-kind kind refl (h .known)

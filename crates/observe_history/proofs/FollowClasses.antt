@@ -16,12 +16,12 @@ use Rattle.correlation.specs.declared.Unique.{Unique}
 use Rattle.correlation.specs.declared.Unique.the-variants as unique
 use Rattle.correlation.specs.declared.follow.Class.{Class}
 use Rattle.correlation.specs.declared.follow.Class.the-variants as class
-use Rattle.correlation.specs.Class.{byRecord, first, foundBy, byTimes, classOf, delayOf}
+use Rattle.correlation.specs.Class.{byRecord, first, foundBy, byTimes, convertedBy, classOf, delayOf}
 use Rattle.follow_ups.specs.declared.FollowCounts.{FollowCounts as Counts}
 use Rattle.follow_ups.specs.Followed.{counted}
 use Rattle.history.specs.Counting.{tally, present}
 use Rattle.history.specs.Given.{timeOf}
-use Rattle.history.specs.FollowUps.{Slot as HistorySlot, free, taken, FollowClass, unavailable, ambiguous, unmatched, repeated, matched, sameFollow, bySlot, followClass, Measured, measuredIn}
+use Rattle.history.specs.FollowUps.{Slot as HistorySlot, free, taken, FollowClass, unavailable, ambiguous, unmatched, repeated, matched, sameFollow, bySlot, followClass, Measured, measuredBy, measuredIn}
 use Rattle.observe_history.specs.FollowUps.{pairOf, keptOf, slotFrom}
 
 -- the class in the history's words
@@ -40,9 +40,9 @@ measuredMore class.Unmatched offset ms = ms
 measuredMore class.Repeated offset ms = ms
 measuredMore (class.Matched m) offset ms = record { delay-ns = delayOf (m .t4) (m .t3) offset; quality = pairOf (m .quality) } ∷ ms
 
--- the class of a follow-up, of a slot
-abbrev pub classIn : FollowUpTelemetry → ℕ → Slot → Class
-classIn f own s = classOf (foundBy (f .unknown) (f .timestamp) (f .sequence) own s) (f .t3)
+-- the class of a follow-up, of a slot; own and offset are those of the observation that carries it
+abbrev pub classIn : FollowUpTelemetry → ℕ → ℤ → Slot → Class
+classIn f own offset s = classOf (foundBy (f .unknown) (f .timestamp) (f .sequence) own s) (f .timestamp) offset
 
 -- ---- by the times
 
@@ -56,57 +56,57 @@ by-times r (time.Nanoseconds a) (time.Nanoseconds b) = refl
 abbrev slotBy : Bool → ℕ → Unique → Bool → HistorySlot
 slotBy none? n u c = cond none? free (taken n (keptOf u) c)
 
-in-slot : (z o : Bool) (n : ℕ) (c : Bool) (u : Unique) (t3 : Time) → eqb n 1 ≡ o
-    → classFrom (classOf (first false false false z o (byRecord c u)) t3) ≡ bySlot (timeOf t3) (slotBy z n u c)
-in-slot true o n c u t3 e = refl
-in-slot false false n c unique.Absent t3 e = refl
-in-slot false false n c (unique.Record r) t3 e = rw e
-in-slot false true n c unique.Absent t3 e = refl
-in-slot false true n true (unique.Record r) t3 e = rw e
-in-slot false true n false (unique.Record r) t3 e = rw e (by-times r (r .t4) t3)
+in-slot : (z o : Bool) (n : ℕ) (c : Bool) (u : Unique) (w : ℕ) (offset : ℤ) → eqb n 1 ≡ o
+    → classFrom (classOf (first false false false z o (byRecord c u)) w offset) ≡ bySlot w offset (slotBy z n u c)
+in-slot true o n c u w offset e = refl
+in-slot false false n c unique.Absent w offset e = refl
+in-slot false false n c (unique.Record r) w offset e = rw e
+in-slot false true n c unique.Absent w offset e = refl
+in-slot false true n true (unique.Record r) w offset e = rw e
+in-slot false true n false (unique.Record r) w offset e = rw e (by-times r (r .t4) (convertedBy r w offset))
 
-pub class-same : (f : FollowUpTelemetry) (own : ℕ) (s : Slot) → classFrom (classIn f own s) ≡ followClass f own (slotFrom s)
+pub class-same : (f : FollowUpTelemetry) (own : ℕ) (offset : ℤ) (s : Slot) → classFrom (classIn f own offset s) ≡ followClass f own offset (slotFrom s)
 unfolding foundBy followClass
-class-same f own s = go (f .unknown) (eqb (f .timestamp) 0) (eqb (f .sequence) own)
+class-same f own offset s = go (f .unknown) (eqb (f .timestamp) 0) (eqb (f .sequence) own)
   where
-    go : (a b d : Bool) → classFrom (classOf (first a b d (eqb (s .count) 0) (eqb (s .count) 1) (byRecord (s .corrected) (s .unique))) (f .t3))
-        ≡ cond (a || b) unavailable (cond d ambiguous (bySlot (timeOf (f .t3)) (slotFrom s)))
+    go : (a b d : Bool) → classFrom (classOf (first a b d (eqb (s .count) 0) (eqb (s .count) 1) (byRecord (s .corrected) (s .unique))) (f .timestamp) offset)
+        ≡ cond (a || b) unavailable (cond d ambiguous (bySlot (f .timestamp) offset (slotFrom s)))
     go true b d = refl
     go false true d = refl
     go false false true = refl
-    go false false false = in-slot (eqb (s .count) 0) (eqb (s .count) 1) (s .count) (s .corrected) (s .unique) (f .t3) refl
+    go false false false = in-slot (eqb (s .count) 0) (eqb (s .count) 1) (s .count) (s .corrected) (s .unique) (f .timestamp) offset refl
 
 -- ---- what a matched one measures
 
-times-measured : (r : ReplyRecord) (t4 t3 : Time) (n : ℕ) (offset : ℤ) (ms : List Measured) → t4 ≡ r .t4
-    → cond (sameFollow matched (cond (present (timeOf t4) && present (timeOf t3)) matched unavailable)) (measuredIn (taken n (keptOf (unique.Record r)) false) (timeOf t3) offset ms) ms
+times-measured : (r : ReplyRecord) (t4 t3 : Time) (offset : ℤ) (ms : List Measured)
+    → cond (sameFollow matched (cond (present (timeOf t4) && present (timeOf t3)) matched unavailable)) (measuredBy (timeOf t4) (timeOf t3) offset (pairOf (r .quality)) ms) ms
     ≡ measuredMore (byTimes r t4 t3) offset ms
-times-measured r time.Absent t3 n offset ms e = refl
-times-measured r (time.Nanoseconds a) time.Absent n offset ms e = refl
-times-measured r (time.Nanoseconds a) (time.Nanoseconds b) n offset ms e = rw (← e)
+times-measured r time.Absent t3 offset ms = refl
+times-measured r (time.Nanoseconds a) time.Absent offset ms = refl
+times-measured r (time.Nanoseconds a) (time.Nanoseconds b) offset ms = refl
 
-slot-measured : (z o : Bool) (n : ℕ) (c : Bool) (u : Unique) (t3 : Time) (offset : ℤ) (ms : List Measured) → eqb n 1 ≡ o
-    → cond (sameFollow matched (bySlot (timeOf t3) (slotBy z n u c))) (measuredIn (slotBy z n u c) (timeOf t3) offset ms) ms
-    ≡ measuredMore (classOf (first false false false z o (byRecord c u)) t3) offset ms
-slot-measured true o n c u t3 offset ms e = refl
-slot-measured false false n c unique.Absent t3 offset ms e = refl
-slot-measured false false n c (unique.Record r) t3 offset ms e = rw e
-slot-measured false true n c unique.Absent t3 offset ms e = refl
-slot-measured false true n true (unique.Record r) t3 offset ms e = rw e
-slot-measured false true n false (unique.Record r) t3 offset ms e = rw e (times-measured r (r .t4) t3 n offset ms refl)
+slot-measured : (z o : Bool) (n : ℕ) (c : Bool) (u : Unique) (w : ℕ) (offset : ℤ) (ms : List Measured) → eqb n 1 ≡ o
+    → cond (sameFollow matched (bySlot w offset (slotBy z n u c))) (measuredIn (slotBy z n u c) w offset ms) ms
+    ≡ measuredMore (classOf (first false false false z o (byRecord c u)) w offset) offset ms
+slot-measured true o n c u w offset ms e = refl
+slot-measured false false n c unique.Absent w offset ms e = refl
+slot-measured false false n c (unique.Record r) w offset ms e = rw e
+slot-measured false true n c unique.Absent w offset ms e = refl
+slot-measured false true n true (unique.Record r) w offset ms e = rw e
+slot-measured false true n false (unique.Record r) w offset ms e = rw e (times-measured r (r .t4) (convertedBy r w offset) offset ms)
 
 pub measured-same : (f : FollowUpTelemetry) (own : ℕ) (s : Slot) (offset : ℤ) (ms : List Measured)
-    → cond (sameFollow matched (followClass f own (slotFrom s))) (measuredIn (slotFrom s) (timeOf (f .t3)) offset ms) ms ≡ measuredMore (classIn f own s) offset ms
+    → cond (sameFollow matched (followClass f own offset (slotFrom s))) (measuredIn (slotFrom s) (f .timestamp) offset ms) ms ≡ measuredMore (classIn f own offset s) offset ms
 unfolding foundBy followClass
 measured-same f own s offset ms = go (f .unknown) (eqb (f .timestamp) 0) (eqb (f .sequence) own)
   where
     go : (a b d : Bool)
-        → cond (sameFollow matched (cond (a || b) unavailable (cond d ambiguous (bySlot (timeOf (f .t3)) (slotFrom s))))) (measuredIn (slotFrom s) (timeOf (f .t3)) offset ms) ms
-        ≡ measuredMore (classOf (first a b d (eqb (s .count) 0) (eqb (s .count) 1) (byRecord (s .corrected) (s .unique))) (f .t3)) offset ms
+        → cond (sameFollow matched (cond (a || b) unavailable (cond d ambiguous (bySlot (f .timestamp) offset (slotFrom s))))) (measuredIn (slotFrom s) (f .timestamp) offset ms) ms
+        ≡ measuredMore (classOf (first a b d (eqb (s .count) 0) (eqb (s .count) 1) (byRecord (s .corrected) (s .unique))) (f .timestamp) offset) offset ms
     go true b d = refl
     go false true d = refl
     go false false true = refl
-    go false false false = slot-measured (eqb (s .count) 0) (eqb (s .count) 1) (s .count) (s .corrected) (s .unique) (f .t3) offset ms refl
+    go false false false = slot-measured (eqb (s .count) 0) (eqb (s .count) 1) (s .count) (s .corrected) (s .unique) (f .timestamp) offset ms refl
 
 -- ---- its count
 

@@ -18,7 +18,7 @@ use Rattle.correlation.specs.declared.follow.Class.the-variants as class
 use Rattle.correlation.specs.Class.{delayOf}
 use Rattle.follow_ups.specs.declared.FollowUps.{FollowUps}
 use Rattle.follow_ups.specs.Followed.{estimatesOf, counted, delayAfter, qualityAfter, followed}
-use Rattle.history.specs.Given.{followOf, timeOf}
+use Rattle.history.specs.Given.{followOf}
 use Rattle.history.specs.Ledger.{Event, observed, count, events}
 use Rattle.history.specs.FollowUps.{Slot as HistorySlot, FollowClass, matched, sameFollow, followClass, slotAt, classAt, Measured, measured, measuredOf, measuredIn, followCounts}
 use Rattle.history.specs.Figures.{delays, estimates, given, figuresOf, qualityOf}
@@ -68,30 +68,30 @@ module _ (N copies : ℕ) (h : List Call) (fs : FollowUps) (f : FiguresFollow N 
 
   -- with one, of the slot that the rooms hold for its sequence
   module _ (t : FollowUpTelemetry) (is : followOf (o .follow) ≡ some t) (s : Slot) (same : slotFrom s ≡ slotAt N copies es (t .sequence)) where
-    class-is : classFrom (classIn t own s) ≡ classAt N copies t own es
-    class-is = class-same t own s ∙ ap (followClass t own) same
+    class-is : classFrom (classIn t own (o .offset) s) ≡ classAt N copies t own (o .offset) es
+    class-is = class-same t own (o .offset) s ∙ ap (followClass t own (o .offset)) same
 
-    measured-is : measuredMore (classIn t own s) (o .offset) (measured N copies es) ≡ measured N copies (observed o ∷ es)
+    measured-is : measuredMore (classIn t own (o .offset) s) (o .offset) (measured N copies es) ≡ measured N copies (observed o ∷ es)
     unfolding measured
     measured-is =
         sym (measured-same t own s (o .offset) (measured N copies es))
-        ∙ ap (λ (x : HistorySlot). cond (sameFollow matched (followClass t own x)) (measuredIn x (timeOf (t .t3)) (o .offset) (measured N copies es)) (measured N copies es)) same
+        ∙ ap (λ (x : HistorySlot). cond (sameFollow matched (followClass t own (o .offset) x)) (measuredIn x (t .timestamp) (o .offset) (measured N copies es)) (measured N copies es)) same
         ∙ ap (λ (k : Option FollowUpTelemetry). measuredOf N copies k o es (measured N copies es)) (sym is)
 
-    counts-are : countsBy (classAt N copies t own es) (countsFrom (followCounts N copies h)) ≡ countsFrom (followCounts N copies (Observe o ∷ h))
+    counts-are : countsBy (classAt N copies t own (o .offset) es) (countsFrom (followCounts N copies h)) ≡ countsFrom (followCounts N copies (Observe o ∷ h))
     unfolding count
     counts-are = rw is
 
-    pub figures-with : FiguresFollow N copies (Observe o ∷ h) (followed fs (classIn t own s) (o .offset))
+    pub figures-with : FiguresFollow N copies (Observe o ∷ h) (followed fs (classIn t own (o .offset) s) (o .offset))
     unfolding followed events
     figures-with = record {
       counts =
-          ap (counted (classIn t own s)) (f .counts) ∙ counts-same (classIn t own s) (countsFrom (followCounts N copies h))
+          ap (counted (classIn t own (o .offset) s)) (f .counts) ∙ counts-same (classIn t own (o .offset) s) (countsFrom (followCounts N copies h))
           ∙ ap (λ (x : FollowClass). countsBy x (countsFrom (followCounts N copies h))) class-is ∙ counts-are;
       delay =
-          ap (delayAfter (classIn t own s) (o .offset)) (f .delay) ∙ delay-more (classIn t own s) (o .offset) (measured N copies es)
+          ap (delayAfter (classIn t own (o .offset) s) (o .offset)) (f .delay) ∙ delay-more (classIn t own (o .offset) s) (o .offset) (measured N copies es)
           ∙ ap (λ (ms : List Measured). delaysFrom (figuresOf (delays ms))) measured-is;
       quality =
-          ap (qualityAfter (classIn t own s)) (f .quality) ∙ quality-more (classIn t own s) (o .offset) (measured N copies es)
+          ap (qualityAfter (classIn t own (o .offset) s)) (f .quality) ∙ quality-more (classIn t own (o .offset) s) (o .offset) (measured N copies es)
           ∙ ap (λ (ms : List Measured). qualityOf (estimates ms)) measured-is;
     }

@@ -76,7 +76,7 @@ module _ (N : ℕ) (few : N < 65535) (byKey : ReplyKey → ℕ) (byNumber : ℕ 
   abbrev middle : List (List ℕ)
   middle = followIn N byKey byNumber (l .counts .follow) ring keys slots after o .slots
 
-  followed : Held N byKey byNumber (following (followOf (o .follow)) (o .key .reflector) slot) (tableOf keys middle after ring)
+  followed : Held N byKey byNumber (following (followOf (o .follow)) (o .key .reflector) (o .offset) slot) (tableOf keys middle after ring)
   unfolding followIn
   followed = held-followed N byKey byNumber slot t start (o .follow) (l .counts .follow) o
 
@@ -88,9 +88,9 @@ module _ (N : ℕ) (few : N < 65535) (byKey : ReplyKey → ℕ) (byNumber : ℕ 
       (observeIn N byKey byNumber l keys slots offsets links o .ledger .tables .awaits)
   unfolding observeIn ownIn events slotAt
   slots-follow = rw same-copies (record {
-    slots = slots-observed N byKey byNumber (following (followOf (o .follow)) (o .key .reflector) slot) (tableOf keys middle after ring) followed few copies o ranged fits own-key;
-    fit = fit-observed N byKey byNumber (following (followOf (o .follow)) (o .key .reflector) slot) (tableOf keys middle after ring) followed few copies o ranged fits own-key;
-    counted = counted-observed N byKey byNumber (following (followOf (o .follow)) (o .key .reflector) slot) (tableOf keys middle after ring) followed few copies o ranged fits own-key;
+    slots = slots-observed N byKey byNumber (following (followOf (o .follow)) (o .key .reflector) (o .offset) slot) (tableOf keys middle after ring) followed few copies o ranged fits own-key;
+    fit = fit-observed N byKey byNumber (following (followOf (o .follow)) (o .key .reflector) (o .offset) slot) (tableOf keys middle after ring) followed few copies o ranged fits own-key;
+    counted = counted-observed N byKey byNumber (following (followOf (o .follow)) (o .key .reflector) (o .offset) slot) (tableOf keys middle after ring) followed few copies o ranged fits own-key;
     unobserved = λ e. absurd (true-not-false e refl);
   })
 

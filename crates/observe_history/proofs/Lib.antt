@@ -19,5 +19,4 @@ pub mod FollowObserve
 pub mod FollowAccept
 pub mod FollowCalls
 pub mod Steps
-pub mod Lookups
 pub mod Served

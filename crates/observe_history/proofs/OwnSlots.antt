@@ -6,6 +6,7 @@ use mathlib.Core.Option.{Option, some}
 use Prim.Native.Nat.{ℕ, suc, _≤_, _<_}
 use native.Mathlib.Omega.{arith}
 use lib.Dec.{eqb, ltb}
+use lib.IntN.{ℤ}
 use lib.ListN.{length, getD, set}
 use Rattle.calls.specs.declared.ReplyKey.{ReplyKey}
 use Rattle.calls.specs.declared.FollowUp.{FollowUp}
@@ -49,15 +50,15 @@ module _ (N : ℕ) (byKey : ReplyKey → ℕ) (byNumber : ℕ → ℕ) (slot : �
 
   -- ---- the follow-up
 
-  module _ (f : FollowUpTelemetry) (own : ℕ) where
+  module _ (f : FollowUpTelemetry) (own : ℕ) (offset : ℤ) where
     abbrev found : Class
-    found = classIn f own (slotOf (wordsAt N (t .slots) (holder (f .sequence))))
+    found = classIn f own offset (slotOf (wordsAt N (t .slots) (holder (f .sequence))))
 
     -- its class is the history's
-    pub class-is : classFrom found ≡ followClass f own (slot (f .sequence))
+    pub class-is : classFrom found ≡ followClass f own offset (slot (f .sequence))
     class-is =
-        class-same f own (slotOf (wordsAt N (t .slots) (holder (f .sequence))))
-        ∙ ap (followClass f own) (slot-at N byKey byNumber slot t h (f .sequence))
+        class-same f own offset (slotOf (wordsAt N (t .slots) (holder (f .sequence))))
+        ∙ ap (followClass f own offset) (slot-at N byKey byNumber slot t h (f .sequence))
 
     abbrev HeldBy : FollowClass → Table → Type 0
     HeldBy x t′ = Held N byKey byNumber (λ r. cond (sameFollow matched x && eqb r (f .sequence)) (correct (slot r)) (slot r)) t′
@@ -77,15 +78,15 @@ module _ (N : ℕ) (byKey : ReplyKey → ℕ) (byNumber : ℕ → ℕ) (slot : �
     by-class class.Repeated e = h
     by-class (class.Matched m) e =
         subst (λ (slots : List (List ℕ)). HeldBy matched (with slots)) (sym (corrects (holder (f .sequence))))
-        (held-corrected N byKey byNumber slot t h (f .sequence) (matched-some f own (slotOf (wordsAt N (t .slots) (holder (f .sequence)))) m e))
+        (held-corrected N byKey byNumber slot t h (f .sequence) (matched-some f own offset (slotOf (wordsAt N (t .slots) (holder (f .sequence)))) m e))
 
-    followed-held : Held N byKey byNumber (following (some f) own slot) (with (correctedAt found N (t .slots) (holder (f .sequence))))
+    followed-held : Held N byKey byNumber (following (some f) own offset slot) (with (correctedAt found N (t .slots) (holder (f .sequence))))
     followed-held = subst (λ (x : FollowClass). HeldBy x (with (correctedAt found N (t .slots) (holder (f .sequence))))) class-is (by-class found refl)
 
   pub held-followed : (k : FollowUp) (fs : FollowUps) (o : ReplyObservation)
-      → Held N byKey byNumber (following (followOf k) (o .key .reflector) slot) (with (followBy N byKey byNumber k fs (t .ring) (t .keys) (t .slots) (t .links) o .slots))
+      → Held N byKey byNumber (following (followOf k) (o .key .reflector) (o .offset) slot) (with (followBy N byKey byNumber k fs (t .ring) (t .keys) (t .slots) (t .links) o .slots))
   held-followed follow.Absent fs o = h
-  held-followed (follow.Telemetry f) fs o = followed-held f (o .key .reflector)
+  held-followed (follow.Telemetry f) fs o = followed-held f (o .key .reflector) (o .offset)
 
   -- ---- the own slot
 

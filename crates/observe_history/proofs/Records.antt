@@ -16,7 +16,7 @@ use Rattle.calls.specs.declared.Time.{Time}
 use Rattle.calls.specs.declared.Time.the-variants as time
 use Rattle.calls.specs.declared.ReplyObservation.{ReplyObservation}
 use Rattle.chains.proofs.Tests.{true-not-false}
-use Rattle.ranges.specs.Ranges.{timeFits, referenceWithin, offsetWithin, scaleWithin, estimatesFit, followFits, inRange}
+use Rattle.ranges.specs.Ranges.{timeFits, referenceWithin, offsetWithin, scaleWithin, estimatesFit, inRange}
 use Rattle.correlation.specs.Slots.{withheld, recorded}
 use Rattle.correlation.proofs.Back.{TimeFits, WiresFit, RecordFits}
 use Rattle.correlation.proofs.Span.{under}
@@ -43,8 +43,7 @@ pub record Ranged (o : ReplyObservation) : Type 0 where
 pub in-range : (o : ReplyObservation) → inRange o ≡ true → Ranged o
 unfolding inRange
 in-range o e =
-    let a = both _ (followFits (o .follow)) e in
-    let b = both _ (estimatesFit (o .quality)) (a .0) in
+    let b = both _ (estimatesFit (o .quality)) e in
     let c = both _ (offsetWithin (o .offset)) (b .0) in
     let d = both (timeFits (o .t4)) (referenceWithin (o .reference)) (c .0) in
     record { t4 = d .0; reference = d .1; quality = b .1 }

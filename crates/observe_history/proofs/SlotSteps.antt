@@ -5,9 +5,9 @@ use mathlib.Core.List.{List, [], _∷_}
 use Prim.Native.Nat.{ℕ, _<_}
 use native.Mathlib.Omega.{arith}
 use lib.Dec.{eqb}
+use lib.IntN.{ℤ}
 use lib.ListN.{getD}
 use Rattle.calls.specs.declared.ReplyKey.{ReplyKey}
-use Rattle.calls.specs.declared.Time.{Time}
 use Rattle.calls.specs.declared.FollowUpTelemetry.{FollowUpTelemetry}
 use Rattle.chains.proofs.Tests.{Test, holds, fails, eq-test, true-not-false}
 use Rattle.correlation.specs.declared.Slot.{Slot}
@@ -44,17 +44,17 @@ fits-taken words f = go (eqb (countOf words) 0)
     go false = f
 
 -- what is matched has a count
-matched-counts : (a b d z o : Bool) (k : Found) (t3 : Time) (m : Match) → classOf (first a b d z o k) t3 ≡ class.Matched m → z ≡ false
-matched-counts true b d z o k t3 m e = cc
-matched-counts false true d z o k t3 m e = cc
-matched-counts false false true z o k t3 m e = cc
-matched-counts false false false true o k t3 m e = cc
-matched-counts false false false false o k t3 m e = refl
+matched-counts : (a b d z o : Bool) (k : Found) (w : ℕ) (offset : ℤ) (m : Match) → classOf (first a b d z o k) w offset ≡ class.Matched m → z ≡ false
+matched-counts true b d z o k w offset m e = cc
+matched-counts false true d z o k w offset m e = cc
+matched-counts false false true z o k w offset m e = cc
+matched-counts false false false true o k w offset m e = cc
+matched-counts false false false false o k w offset m e = refl
 
-pub matched-some : (f : FollowUpTelemetry) (own : ℕ) (s : Slot) (m : Match) → classIn f own s ≡ class.Matched m → eqb (s .count) 0 ≡ false
+pub matched-some : (f : FollowUpTelemetry) (own : ℕ) (offset : ℤ) (s : Slot) (m : Match) → classIn f own offset s ≡ class.Matched m → eqb (s .count) 0 ≡ false
 unfolding foundBy
-matched-some f own s m e =
-    matched-counts (f .unknown) (eqb (f .timestamp) 0) (eqb (f .sequence) own) (eqb (s .count) 0) (eqb (s .count) 1) (byRecord (s .corrected) (s .unique)) (f .t3) m e
+matched-some f own offset s m e =
+    matched-counts (f .unknown) (eqb (f .timestamp) 0) (eqb (f .sequence) own) (eqb (s .count) 0) (eqb (s .count) 1) (byRecord (s .corrected) (s .unique)) (f .timestamp) offset m e
 
 abbrev headWords : List Row → List ℕ
 headWords [] = []

@@ -16,8 +16,6 @@ use Rattle.correlation.specs.declared.Unique.{Unique}
 use Rattle.correlation.specs.declared.Unique.the-variants as recorded
 use Rattle.correlation.specs.declared.Wires.{Wires}
 use Rattle.correlation.specs.declared.Wires.the-variants as wires
-use Rattle.correlation.specs.declared.follow.Shown.{Shown}
-use Rattle.correlation.specs.declared.follow.Shown.the-variants as shown
 use Rattle.correlation.specs.Words.{slotOf}
 use Rattle.correlation.proofs.Back.{RecordFits}
 use Rattle.key_ring.specs.Rows.{isObserved, slotIn, Counted}
@@ -27,7 +25,7 @@ use Rattle.follow_ups.specs.declared.FollowUps.{FollowUps}
 use Rattle.history.specs.Given.{EstimatePair, timeOf}
 use Rattle.history.specs.Ledger.{unique, events}
 use Rattle.history.specs.FollowUps as history
-use Rattle.history.specs.FollowUps.{Kept, free, taken, slotAt, FollowCounts, followCounts, Lookup, nothing, shows}
+use Rattle.history.specs.FollowUps.{Kept, free, taken, slotAt, FollowCounts, followCounts}
 use Rattle.history.specs.Figures.{delayFigures, clockQuality}
 use Rattle.ledger_steps.specs.Rooms.{Stand}
 use Rattle.observe_history.specs.RoundTrips.{delaysFrom}
@@ -88,10 +86,3 @@ pub record FollowsFollow (N copies : ℕ) (h : List Call) (s : Stand) : Type 0 w
 abbrev pub QualityFits : Estimates → Type 0
 QualityFits estimates.Absent = Unit
 QualityFits (estimates.Pair s r) = (s .multiplier < 256) × (r .multiplier < 256)
-
--- ---- the lookup
-
--- what it shows, in the code's type
-abbrev pub lookupFrom : Lookup → Shown
-lookupFrom nothing = shown.Nothing
-lookupFrom (shows format reference) = shown.Slot format reference

@@ -1,6 +1,6 @@
 -- Each part of a call that fits is read back from its flag and its numbers, each number fits its field, and each flag is read back from the
 -- sum of them. Assumes nothing.
-use mathlib.Core.Path.{_≡_, refl, ap}
+use mathlib.Core.Path.{_≡_, refl, sym, ap}
 use mathlib.Core.Bool.{Bool, true, false}
 use Prim.Native.Nat.{ℕ, _+_, _*_, _/_, _%_, _≤_, _<_}
 use native.Mathlib.Omega.{arith}
@@ -31,7 +31,7 @@ use Rattle.record_parts.specs.Parts.{ordinalFlag, ordinalNumber, counter
 use Rattle.record_parts.specs.Parts.{followFlag, followSequence, followTimestamp, followTime, unknownFlag}
 use Rattle.record_parts.specs.Parts.{estimatesFlag, senderWire, reflectorWire, formatFlag}
 use Rattle.record_parts.specs.Parts.{pendingBy, timeBy, ordinalBy, countersBy, followBy, estimatesBy}
-use Rattle.record_parts.specs.Fits.{U16, U32, U64, PendingFits, TimeFits, OrdinalFits, CountersFit, FollowFits, EstimateFits, EstimatesFit}
+use Rattle.record_parts.specs.Fits.{U16, U32, U64, PendingFits, TimeFits, OrdinalFits, CountersFit, FollowFits, ConvertedFits, EstimateFits, EstimatesFit}
 
 -- ---- parts
 
@@ -55,16 +55,13 @@ is-bit : (b : Bool) → eqb (bit b) 1 ≡ b
 is-bit true = refl
 is-bit false = refl
 
-pub follow-back : (f : FollowUp) → FollowFits f
-    → followBy (eqb (followFlag f) 1) (followSequence f) (followTimestamp f) (eqb (unknownFlag f) 1)
-    (timeBy (eqb (timeFlag (followTime f)) 1) (timeWord (followTime f))) ≡ f
-follow-back follow.Absent h = refl
-follow-back (follow.Telemetry f) h = λ i. follow.Telemetry (record {
-  sequence = f .sequence;
-  timestamp = f .timestamp;
-  unknown = is-bit (f .unknown) i;
-  t3 = time-back (f .t3) (h .t3) i;
-})
+pub follow-back : (f : FollowUp) → followBy (eqb (followFlag f) 1) (followSequence f) (followTimestamp f) (eqb (unknownFlag f) 1) ≡ f
+follow-back follow.Absent = refl
+follow-back (follow.Telemetry f) = λ i. follow.Telemetry (record { sequence = f .sequence; timestamp = f .timestamp; unknown = is-bit (f .unknown) i })
+
+pub converted-back : (f : FollowUp) (t : Time) → ConvertedFits f t → timeBy (eqb (timeFlag (followTime f t)) 1) (timeWord (followTime f t)) ≡ t
+converted-back follow.Absent t h = sym h
+converted-back (follow.Telemetry f) t h = time-back t h
 
 pub estimates-back : (q : Estimates) → EstimatesFit q → estimatesBy (eqb (estimatesFlag q) 1) (senderWire q) (reflectorWire q) ≡ q
 estimates-back estimates.Absent h = refl
@@ -113,9 +110,9 @@ pub follow-timestamp-fits : (f : FollowUp) → FollowFits f → U64 (followTimes
 follow-timestamp-fits follow.Absent h = lit< tt
 follow-timestamp-fits (follow.Telemetry f) h = h .timestamp
 
-pub follow-time-fits : (f : FollowUp) → FollowFits f → TimeFits (followTime f)
-follow-time-fits follow.Absent h = tt
-follow-time-fits (follow.Telemetry f) h = h .t3
+pub follow-time-fits : (f : FollowUp) (t : Time) → ConvertedFits f t → TimeFits (followTime f t)
+follow-time-fits follow.Absent t h = tt
+follow-time-fits (follow.Telemetry f) t h = h
 
 bit-lt : (b : Bool) → bit b < 2
 bit-lt true = lit< tt
@@ -202,22 +199,22 @@ module _ (a b c d e f g h : ℕ) (ha : a < 2) (hb : b < 2) (hc : c < 2) (hd : d 
   at-128 = omega arith
 
 -- what the flags of an observe say
-pub record FlagsBack (o : ReplyObservation) : Type 0 where
-  pub fits : observeFlags o < 256
-  pub timed : flag 1 (observeFlags o) ≡ eqb (timeFlag (o .t4)) 1
-  pub numbered : flag 2 (observeFlags o) ≡ eqb (ordinalFlag (o .ordinal)) 1
-  pub counted : flag 4 (observeFlags o) ≡ eqb (countersFlag (o .counters)) 1
-  pub followed : flag 8 (observeFlags o) ≡ eqb (followFlag (o .follow)) 1
-  pub converted : flag 16 (observeFlags o) ≡ eqb (timeFlag (followTime (o .follow))) 1
-  pub estimated : flag 32 (observeFlags o) ≡ eqb (estimatesFlag (o .quality)) 1
-  pub ptp : flag 64 (observeFlags o) ≡ eqb (formatFlag (o .format)) 1
-  pub unknown : flag 128 (observeFlags o) ≡ eqb (unknownFlag (o .follow)) 1
+pub record FlagsBack (o : ReplyObservation) (t : Time) : Type 0 where
+  pub fits : observeFlags o t < 256
+  pub timed : flag 1 (observeFlags o t) ≡ eqb (timeFlag (o .t4)) 1
+  pub numbered : flag 2 (observeFlags o t) ≡ eqb (ordinalFlag (o .ordinal)) 1
+  pub counted : flag 4 (observeFlags o t) ≡ eqb (countersFlag (o .counters)) 1
+  pub followed : flag 8 (observeFlags o t) ≡ eqb (followFlag (o .follow)) 1
+  pub converted : flag 16 (observeFlags o t) ≡ eqb (timeFlag (followTime (o .follow) t)) 1
+  pub estimated : flag 32 (observeFlags o t) ≡ eqb (estimatesFlag (o .quality)) 1
+  pub ptp : flag 64 (observeFlags o t) ≡ eqb (formatFlag (o .format)) 1
+  pub unknown : flag 128 (observeFlags o t) ≡ eqb (unknownFlag (o .follow)) 1
 
-eight-back : (o : ReplyObservation) (a b c d e f g h : ℕ) → a < 2 → b < 2 → c < 2 → d < 2 → e < 2 → f < 2 → g < 2 → h < 2
-    → observeFlags o ≡ a + 2 * b + 4 * c + 8 * d + 16 * e + 32 * f + 64 * g + 128 * h
-    → (observeFlags o < 256) × (observeFlags o / 1 % 2 ≡ a) × (observeFlags o / 2 % 2 ≡ b) × (observeFlags o / 4 % 2 ≡ c) × (observeFlags o / 8 % 2 ≡ d)
-    × (observeFlags o / 16 % 2 ≡ e) × (observeFlags o / 32 % 2 ≡ f) × (observeFlags o / 64 % 2 ≡ g) × (observeFlags o / 128 % 2 ≡ h)
-eight-back o a b c d e f g h ha hb hc hd he hf hg hh q = rw q (
+eight-back : (o : ReplyObservation) (t : Time) (a b c d e f g h : ℕ) → a < 2 → b < 2 → c < 2 → d < 2 → e < 2 → f < 2 → g < 2 → h < 2
+    → observeFlags o t ≡ a + 2 * b + 4 * c + 8 * d + 16 * e + 32 * f + 64 * g + 128 * h
+    → (observeFlags o t < 256) × (observeFlags o t / 1 % 2 ≡ a) × (observeFlags o t / 2 % 2 ≡ b) × (observeFlags o t / 4 % 2 ≡ c) × (observeFlags o t / 8 % 2 ≡ d)
+    × (observeFlags o t / 16 % 2 ≡ e) × (observeFlags o t / 32 % 2 ≡ f) × (observeFlags o t / 64 % 2 ≡ g) × (observeFlags o t / 128 % 2 ≡ h)
+eight-back o t a b c d e f g h ha hb hc hd he hf hg hh q = rw q (
   byte-lt a b c d e f g h ha hb hc hd he hf hg hh,
   at-1 a b c d e f g h ha hb hc hd he hf hg hh,
   at-2 a b c d e f g h ha hb hc hd he hf hg hh,
@@ -232,17 +229,17 @@ eight-back o a b c d e f g h ha hb hc hd he hf hg hh q = rw q (
 is-one : {m n : ℕ} → m ≡ n → eqb m 1 ≡ eqb n 1
 is-one e = ap (λ (k : ℕ). eqb k 1) e
 
-flags-sum : (o : ReplyObservation)
-    → observeFlags o ≡ timeFlag (o .t4) + 2 * ordinalFlag (o .ordinal) + 4 * countersFlag (o .counters) + 8 * followFlag (o .follow)
-    + 16 * timeFlag (followTime (o .follow)) + 32 * estimatesFlag (o .quality) + 64 * formatFlag (o .format) + 128 * unknownFlag (o .follow)
+flags-sum : (o : ReplyObservation) (t : Time)
+    → observeFlags o t ≡ timeFlag (o .t4) + 2 * ordinalFlag (o .ordinal) + 4 * countersFlag (o .counters) + 8 * followFlag (o .follow)
+    + 16 * timeFlag (followTime (o .follow) t) + 32 * estimatesFlag (o .quality) + 64 * formatFlag (o .format) + 128 * unknownFlag (o .follow)
 unfolding observeFlags
-flags-sum o = refl
+flags-sum o t = refl
 
-pub flags-back : (o : ReplyObservation) → FlagsBack o
-flags-back o =
-    let all = eight-back o (timeFlag (o .t4)) (ordinalFlag (o .ordinal)) (countersFlag (o .counters)) (followFlag (o .follow)) (timeFlag (followTime (o .follow)))
+pub flags-back : (o : ReplyObservation) (t : Time) → FlagsBack o t
+flags-back o t =
+    let all = eight-back o t (timeFlag (o .t4)) (ordinalFlag (o .ordinal)) (countersFlag (o .counters)) (followFlag (o .follow)) (timeFlag (followTime (o .follow) t))
     (estimatesFlag (o .quality)) (formatFlag (o .format)) (unknownFlag (o .follow)) (time-flag-lt (o .t4)) (ordinal-flag-lt (o .ordinal)) (counters-flag-lt (o .counters))
-    (follow-flag-lt (o .follow)) (time-flag-lt (followTime (o .follow))) (estimates-flag-lt (o .quality)) (bit-lt (isPtp (o .format))) (unknown-flag-lt (o .follow)) (flags-sum o) in
+    (follow-flag-lt (o .follow)) (time-flag-lt (followTime (o .follow) t)) (estimates-flag-lt (o .quality)) (bit-lt (isPtp (o .format))) (unknown-flag-lt (o .follow)) (flags-sum o t) in
     record {
       fits = all .0;
       timed = is-one (all .1);

@@ -1,6 +1,8 @@
 -- The contract of each public function determines its answer. Assumes nothing.
 use mathlib.Core.Path.{sym, _∙_}
 use Rattle.floats.proofs.Determined.{OneAnswer}
+use Rattle.record_parts.proofs.call_of.Kinds as call-of
+use Rattle.record_parts.proofs.call_of.Reads as call-of'
 use Rattle.record_parts.proofs.flag_set.Kinds as flag-set
 use Rattle.record_parts.proofs.flag_set.Reads as flag-set'
 use Rattle.record_parts.proofs.pending_flag.Kinds as pending-flag
@@ -45,6 +47,9 @@ use Rattle.record_parts.proofs.estimates_by.Kinds as estimates-by
 use Rattle.record_parts.proofs.estimates_by.Reads as estimates-by'
 use Rattle.record_parts.proofs.format_by.Kinds as format-by
 use Rattle.record_parts.proofs.format_by.Reads as format-by'
+
+pub call-of-unique : OneAnswer call-of.ps call-of.r call-of'.Post
+call-of-unique κs a r₁ r₂ s₁ s₂ p q = p ∙ sym q
 
 pub flag-set-unique : OneAnswer flag-set.ps flag-set.r flag-set'.Post
 flag-set-unique κs a x y s t p q = p ∙ sym q

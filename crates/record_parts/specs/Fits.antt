@@ -1,4 +1,6 @@
--- What the declared types of a call hold, and that an estimate's scale has six bits: such a call loses nothing in a record. Assumes nothing.
+-- What the declared types of a call and of a record hold, and that an estimate's scale has six bits: such a record loses nothing in its bytes.
+-- Assumes nothing.
+use mathlib.Core.Path.{_≡_}
 use Prim.Native.Nat.{ℕ, _^_, _≤_, _<_}
 use mir.Syntax.{w32, w64}
 use mir.Val.{SFits}
@@ -22,8 +24,8 @@ use Rattle.calls.specs.declared.ReplyKey.{ReplyKey}
 use Rattle.calls.specs.declared.Reply.{Reply}
 use Rattle.calls.specs.declared.SentProbe.{SentProbe}
 use Rattle.calls.specs.declared.ReplyObservation.{ReplyObservation}
-use Rattle.calls.specs.declared.Call.{Call}
-use Rattle.calls.specs.declared.Call.the-variants as call
+use Rattle.record_parts.specs.declared.Entry.{Entry}
+use Rattle.record_parts.specs.declared.Entry.the-variants as entry
 
 -- a number of 2 bytes: wires of estimates, and a log's copies and threshold
 abbrev pub U16 : ℕ → Type 0
@@ -74,11 +76,10 @@ abbrev pub CountersFit : Counters → Type 0
 CountersFit counters.Absent = Unit
 CountersFit (counters.Point p) = PointFits p
 
--- a follow-up's sequence of 4 bytes, its timestamp of 8, and its converted T3 if there
+-- a follow-up's sequence of 4 bytes and its timestamp of 8
 pub record TelemetryFits (f : FollowUpTelemetry) : Type 0 where
   pub sequence : U32 (f .sequence)
   pub timestamp : U64 (f .timestamp)
-  pub t3 : TimeFits (f .t3)
 
 -- the same of an observation's follow-up; nothing is asked where it has none
 abbrev pub FollowFits : FollowUp → Type 0
@@ -118,10 +119,15 @@ pub record ObservationFits (o : ReplyObservation) : Type 0 where
   pub follow : FollowFits (o .follow)
   pub quality : EstimatesFit (o .quality)
 
--- the same of a call of any kind: advance has its now, idle has no field
-abbrev pub CallFits : Call → Type 0
-CallFits (call.Sent p) = SentFits p
-CallFits (call.Accept r) = ReplyFits r
-CallFits (call.Observe o) = ObservationFits o
-CallFits (call.Advance n) = U64 n
-CallFits call.Idle = Unit
+-- a record's converted T3: a signed number of 64 bits beside a follow-up, and absent where there is none
+abbrev pub ConvertedFits : FollowUp → Time → Type 0
+ConvertedFits follow.Absent t = t ≡ time.Absent
+ConvertedFits (follow.Telemetry f) t = TimeFits t
+
+-- the same of a record of any kind: an advance has its now, an idle has no field
+abbrev pub EntryFits : Entry → Type 0
+EntryFits (entry.Sent p) = SentFits p
+EntryFits (entry.Accept r) = ReplyFits r
+EntryFits (entry.Observe o t) = ObservationFits o × ConvertedFits (o .follow) t
+EntryFits (entry.Advance n) = U64 n
+EntryFits entry.Idle = Unit

@@ -1,4 +1,4 @@
--- The parts of a call as numbers of a log record, and back (document 01, 'Log and program'): "absent fields and flags 0", "signed as two's
+-- What a record of a log says, and its parts as numbers of the record, and back (document 01, 'Log and program'): "absent fields and flags 0", "signed as two's
 -- complement" (`ofZ` and `toZ` are the logic's own). Assumes nothing.
 use mathlib.Core.Bool.{Bool, true, false}
 use Prim.Native.Nat.{ℕ, _+_, _*_, _/_, _%_}
@@ -21,6 +21,18 @@ use Rattle.calls.specs.declared.Counters.the-variants as counters
 use Rattle.calls.specs.declared.FollowUp.{FollowUp}
 use Rattle.calls.specs.declared.FollowUp.the-variants as follow
 use Rattle.calls.specs.declared.ReplyObservation.{ReplyObservation}
+use Rattle.calls.specs.declared.Call.{Call}
+use Rattle.calls.specs.declared.Call.the-variants as call
+use Rattle.record_parts.specs.declared.Entry.{Entry}
+use Rattle.record_parts.specs.declared.Entry.the-variants as entry
+
+-- the call that a record makes: "Log flag 16 with its field is still read; the field no longer matters" (document 02, Q-9)
+abbrev pub callOf : Entry → Call
+callOf (entry.Sent p) = call.Sent p
+callOf (entry.Accept r) = call.Accept r
+callOf (entry.Observe o t) = call.Observe o
+callOf (entry.Advance n) = call.Advance n
+callOf entry.Idle = call.Idle
 
 -- the flag of a record's flags that document 01 calls 1, 2, 4, .. or 128
 abbrev pub flag : ℕ → ℕ → Bool
@@ -98,10 +110,10 @@ abbrev pub followTimestamp : FollowUp → ℕ
 followTimestamp follow.Absent = 0
 followTimestamp (follow.Telemetry f) = f .timestamp
 
--- the converted T3 of a follow-up, which is absent where the follow-up is
-abbrev pub followTime : FollowUp → Time
-followTime follow.Absent = time.Absent
-followTime (follow.Telemetry f) = f .t3
+-- the converted T3 that a record has beside a follow-up, which is absent where the follow-up is
+abbrev pub followTime : FollowUp → Time → Time
+followTime follow.Absent t = time.Absent
+followTime (follow.Telemetry f) t = t
 
 -- 1 where there is a follow-up and its mode is unknown
 abbrev pub unknownFlag : FollowUp → ℕ
@@ -128,10 +140,10 @@ abbrev pub formatFlag : ClockFormat → ℕ
 formatFlag f = bit (isPtp f)
 
 -- the flags of an observe: 1 T4, 2 ordinal, 4 counters, 8 follow-up, 16 converted T3, 32 estimates, 64 PTP, 128 unknown mode
-unfoldable pub observeFlags : ReplyObservation → ℕ
-observeFlags o =
+unfoldable pub observeFlags : ReplyObservation → Time → ℕ
+observeFlags o t =
     timeFlag (o .t4) + 2 * ordinalFlag (o .ordinal) + 4 * countersFlag (o .counters) + 8 * followFlag (o .follow)
-    + 16 * timeFlag (followTime (o .follow)) + 32 * estimatesFlag (o .quality) + 64 * formatFlag (o .format) + 128 * unknownFlag (o .follow)
+    + 16 * timeFlag (followTime (o .follow) t) + 32 * estimatesFlag (o .quality) + 64 * formatFlag (o .format) + 128 * unknownFlag (o .follow)
 
 -- ---- and back: what a flag and its numbers say
 
@@ -155,10 +167,10 @@ abbrev pub countersBy : Bool → ℕ → ℕ → ℕ → Counters
 countersBy true s r t = counters.Point (record { sender = record { 0 = s }; received = record { 0 = r }; transmitted = record { 0 = t } })
 countersBy false s r t = counters.Absent
 
--- of the flag, sequence, timestamp, unknown mode and converted T3: no follow-up without the flag
-abbrev pub followBy : Bool → ℕ → ℕ → Bool → Time → FollowUp
-followBy true s t u z = follow.Telemetry (record { sequence = s; timestamp = t; unknown = u; t3 = z })
-followBy false s t u z = follow.Absent
+-- of the flag, sequence, timestamp and unknown mode: no follow-up without the flag
+abbrev pub followBy : Bool → ℕ → ℕ → Bool → FollowUp
+followBy true s t u = follow.Telemetry (record { sequence = s; timestamp = t; unknown = u })
+followBy false s t u = follow.Absent
 
 -- of the flag, the sender's 16 bits and the reflector's: absent without the flag
 abbrev pub estimatesBy : Bool → ℕ → ℕ → Estimates

@@ -1,13 +1,14 @@
-// The parts of a call as numbers of a log record, and back (document 01, 'Log and program'): one small function a part.
+// What a record of a log says, and its parts as numbers of the record, and back (document 01, 'Log and program'): one small function a part.
 ghost use mathlib.Core.Path.{_≡_};
 ghost use Prim.Native.Nat.{_<_};
-ghost use Rattle.record_parts.specs.Parts.{flag, observeFlags, pendingFlag, pendingTime, pendingTag, timeFlag, timeWord};
+ghost use Rattle.record_parts.specs.Parts.{callOf, flag, observeFlags, pendingFlag, pendingTime, pendingTag, timeFlag, timeWord};
 ghost use Rattle.record_parts.specs.Parts.{ordinalFlag, ordinalNumber, countersFlag, senderCount, receivedCount, transmittedCount};
 ghost use Rattle.record_parts.specs.Parts.{followFlag, followSequence, followTimestamp, followTime, unknownFlag};
 ghost use Rattle.record_parts.specs.Parts.{estimatesFlag, senderWire, reflectorWire, formatFlag};
 ghost use Rattle.record_parts.specs.Parts.{pendingBy, timeBy, ordinalBy, countersBy, followBy, estimatesBy};
 ghost use Rattle.estimate.specs.Make.{formatOf};
 ghost use Rattle.estimate.specs.Wire.{bit};
+use calls::Call;
 use calls::CounterPoint;
 use calls::Counters;
 use calls::FollowUp;
@@ -17,12 +18,37 @@ use calls::Pending;
 use calls::PendingPacket;
 use calls::ReflectorRx;
 use calls::ReflectorTx;
+use calls::Reply;
 use calls::ReplyObservation;
 use calls::SenderTx;
+use calls::SentProbe;
 use calls::Time;
 use estimate::ClockFormat;
 use estimate::ErrorEstimate;
 use estimate::Estimates;
+
+// What a record of a log says: a call, and with an observe the time of its flag 16, to which an earlier host converted the follow-up's
+// timestamp. No call is told that time (document 02, Q-9), so that a record and the call that it makes are two types.
+pub enum Entry {
+    Sent(SentProbe),
+    Accept(Reply),
+    Observe(ReplyObservation, Time),
+    Advance(u64),
+    Idle,
+}
+
+// The call that a record makes.
+pub fn call_of(entry: Entry) -> Call
+    ensures { λ r. ⌜ r ≡ callOf entry ⌝ }
+{
+    match entry {
+        Entry::Sent(probe) => Call::Sent(probe),
+        Entry::Accept(reply) => Call::Accept(reply),
+        Entry::Observe(observation, _) => Call::Observe(observation),
+        Entry::Advance(time) => Call::Advance(time),
+        Entry::Idle => Call::Idle,
+    }
+}
 
 // Whether the flag that document 01 calls 1, 2, 4, .. or 128 is set.
 pub fn flag_set(flags: u8, k: u8) -> bool
@@ -174,16 +200,13 @@ pub fn follow_timestamp(follow: FollowUp) -> u64
     }
 }
 
-// The converted T3 of a follow-up, which is absent where the follow-up is.
-pub fn follow_time(follow: FollowUp) -> Time
-    ensures { λ r. ⌜ r ≡ followTime follow ⌝ }
+// The converted T3 that a record has beside a follow-up, absent where the follow-up is.
+pub fn follow_time(follow: FollowUp, converted: Time) -> Time
+    ensures { λ r. ⌜ r ≡ followTime follow converted ⌝ }
 {
     match follow {
         FollowUp::Absent => Time::Absent,
-        FollowUp::Telemetry(telemetry) => {
-            let t3 = telemetry.t3;
-            t3
-        }
+        FollowUp::Telemetry(_) => converted,
     }
 }
 
@@ -232,8 +255,8 @@ fn format_flag(format: ClockFormat) -> u8
     }
 }
 
-pub fn observe_flags(o: ReplyObservation) -> u8
-    ensures { λ r. ⌜ r ≡ observeFlags o ⌝ }
+pub fn observe_flags(o: ReplyObservation, converted: Time) -> u8
+    ensures { λ r. ⌜ r ≡ observeFlags o converted ⌝ }
 {
     let t4 = o.t4;
     let ordinal = o.ordinal;
@@ -241,7 +264,7 @@ pub fn observe_flags(o: ReplyObservation) -> u8
     let follow = o.follow;
     let quality = o.quality;
     let format = o.format;
-    let t3 = follow_time(follow);
+    let t3 = follow_time(follow, converted);
     time_flag(t4)
         + 2 * ordinal_flag(ordinal)
         + 4 * counters_flag(counters)
@@ -292,15 +315,14 @@ pub fn counters_by(there: bool, sender: u32, received: u32, transmitted: u32) ->
     Counters::Absent
 }
 
-pub fn follow_by(there: bool, sequence: u32, timestamp: u64, unknown: bool, t3: Time) -> FollowUp
-    ensures { λ r. ⌜ r ≡ followBy there sequence timestamp unknown t3 ⌝ }
+pub fn follow_by(there: bool, sequence: u32, timestamp: u64, unknown: bool) -> FollowUp
+    ensures { λ r. ⌜ r ≡ followBy there sequence timestamp unknown ⌝ }
 {
     if there {
         return FollowUp::Telemetry(FollowUpTelemetry {
             sequence,
             timestamp,
             unknown,
-            t3,
         });
     }
     FollowUp::Absent

@@ -43,7 +43,7 @@ module _ (N : ℕ) (byKey : ReplyKey → ℕ) (byNumber : ℕ → ℕ) (keys slo
   by-sound : (x : FollowUp) (fs : FollowUps) (o : ReplyObservation) → Sound N byKey byNumber (tableOf keys (followBy N byKey byNumber x fs ring keys slots links o .slots) links ring)
   by-sound follow.Absent fs o = s
   by-sound (follow.Telemetry f) fs o =
-      corrected-sound (classAt N slots (holderOf N byKey byNumber ring keys slots links (f .sequence)) (o .key .reflector) f) (holderOf N byKey byNumber ring keys slots links (f .sequence))
+      corrected-sound (classAt N slots (holderOf N byKey byNumber ring keys slots links (f .sequence)) (o .key .reflector) (o .offset) f) (holderOf N byKey byNumber ring keys slots links (f .sequence))
 
   -- a follow-up corrects at most one slot
   pub follow-sound : (fs : FollowUps) (o : ReplyObservation) → Sound N byKey byNumber (tableOf keys (followIn N byKey byNumber fs ring keys slots links o .slots) links ring)

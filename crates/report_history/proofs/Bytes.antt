@@ -11,9 +11,10 @@ use Rattle.calls.specs.declared.Call.{Call}
 use Rattle.calls.specs.declared.Call.the-variants as call
 use Rattle.reply_history.specs.Fits.{KeyFits, OrdinalFits, CountersFit, FollowFits}
 use Rattle.observe_history.specs.FollowUps.{QualityFits}
-use Rattle.calls.specs.declared.Time.{Time}
-use Rattle.record_parts.specs.Parts.{flag, timeBy, ordinalBy, countersBy, followBy, estimatesBy}
-use Rattle.log_record.specs.Records.{keyAt, sentAt, acceptAt, observeAt, callOf, answer, badRecord, readNumber, readOf}
+use Rattle.record_parts.specs.declared.Entry.{Entry}
+use Rattle.record_parts.specs.declared.Entry.the-variants as entry
+use Rattle.record_parts.specs.Parts.{callOf, flag, ordinalBy, countersBy, followBy, estimatesBy}
+use Rattle.log_record.specs.Records.{keyAt, sentAt, acceptAt, observeAt, convertedAt, entryOf, answer, badRecord, readNumber, readOf}
 use Rattle.link_log.specs.declared.Settings.{Settings}
 use Rattle.link_log.specs.declared.Log.{Log}
 use Rattle.link_log.specs.declared.Log.the-variants as log'
@@ -68,9 +69,9 @@ counters-fit : (b : Bool) (s r t : ℕ) → s < 2 ^ 32 → r < 2 ^ 32 → t < 2 
 counters-fit true s r t ls lr lt = record { sender-in = ls; received-in = lr; transmitted-in = lt }
 counters-fit false s r t ls lr lt = tt
 
-follow-fits : (b : Bool) (s t : ℕ) (u : Bool) (z : Time) → s < 2 ^ 32 → t < 2 ^ 64 → FollowFits (followBy b s t u z)
-follow-fits true s t u z ls lt = record { sequence-in = ls; timestamp-in = lt }
-follow-fits false s t u z ls lt = tt
+follow-fits : (b : Bool) (s t : ℕ) (u : Bool) → s < 2 ^ 32 → t < 2 ^ 64 → FollowFits (followBy b s t u)
+follow-fits true s t u ls lt = record { sequence-in = ls; timestamp-in = lt }
+follow-fits false s t u ls lt = tt
 
 quality-fits : (b : Bool) (s r : ℕ) → QualityFits (estimatesBy b s r)
 quality-fits true s r = (omega arith, omega arith)
@@ -90,20 +91,20 @@ module _ (r : List ℕ) (h : BytesIn r) where
       rtt-in = eight-bytes r h 20;
       ordinal-fits = ordinal-fits (flag 2 flags) (numberAt 2 r 48) (four-bytes r h 48);
       counters-fit = counters-fit (flag 4 flags) (numberAt 2 r 52) (numberAt 2 r 56) (numberAt 2 r 60) (four-bytes r h 52) (four-bytes r h 56) (four-bytes r h 60);
-      follow-fits = follow-fits (flag 8 flags) (numberAt 2 r 64) (numberAt 3 r 68) (flag 128 flags) (timeBy (flag 16 flags) (numberAt 3 r 76)) (four-bytes r h 64) (eight-bytes r h 68);
+      follow-fits = follow-fits (flag 8 flags) (numberAt 2 r 64) (numberAt 3 r 68) (flag 128 flags) (four-bytes r h 64) (eight-bytes r h 68);
     },
     quality-fits (flag 32 flags) (numberAt 1 r 84) (numberAt 1 r 86),
   )
 
-  by-kind : (flags : ℕ) (a b c d : Bool) → Fits (cond a (call.Sent (sentAt r)) (cond b (call.Accept (acceptAt flags r)) (cond c (call.Observe (observeAt flags r)) (cond d (call.Advance (numberAt 3 r 4)) call.Idle))))
+  by-kind : (flags : ℕ) (a b c d : Bool) → Fits (callOf (cond a (entry.Sent (sentAt r)) (cond b (entry.Accept (acceptAt flags r)) (cond c (entry.Observe (observeAt flags r) (convertedAt flags r)) (cond d (entry.Advance (numberAt 3 r 4)) entry.Idle)))))
   by-kind flags true b c d = sent-fits
   by-kind flags false true c d = (key-fits, tt)
   by-kind flags false false true d = observe-fits flags
   by-kind flags false false false true = (eight-bytes r h 4, tt)
   by-kind flags false false false false = (tt, tt)
 
-  pub call-fits : Fits (callOf r)
-  unfolding callOf
+  pub call-fits : Fits (callOf (entryOf r))
+  unfolding entryOf
   call-fits = by-kind (numberAt 0 r 1) (eqb (numberAt 0 r 0) 0) (eqb (numberAt 0 r 0) 1) (eqb (numberAt 0 r 0) 2) (eqb (numberAt 0 r 0) 3)
 
 -- ---- the calls of a log
@@ -112,13 +113,13 @@ abbrev PlayedFits : Played → Type 0
 PlayedFits read.Nothing = Unit
 PlayedFits (read.Call c) = Fits c
 
-answer-fits : (n : ℕ) (c : Call) → Fits c → PlayedFits (playedBy (answer n c))
-answer-fits zero c f = f
-answer-fits (suc n) c f = tt
+answer-fits : (n : ℕ) (e : Entry) → Fits (callOf e) → PlayedFits (playedBy (answer n e))
+answer-fits zero e f = f
+answer-fits (suc n) e f = tt
 
 read-fits : (r : List ℕ) → BytesIn r → PlayedFits (playedBy (readOf r))
 unfolding readOf
-read-fits r h = answer-fits (readNumber r) (callOf r) (call-fits r h)
+read-fits r h = answer-fits (readNumber r) (entryOf r) (call-fits r h)
 
 picked-fits : (a b c : Bool) (p : Played) → PlayedFits p → PlayedFits (cond a read.Nothing (cond b (cond c p read.Nothing) read.Nothing))
 picked-fits true b c p f = tt

@@ -11,12 +11,6 @@ time-word-requires c κs = search needs
 reference-word-requires : tie.Need-reference-word-requires
 reference-word-requires c κs = search needs
 
-follow-time-requires : tie.Need-follow-time-requires
-follow-time-requires c κs = search needs
-
-time-word-requires-2 : tie.Need-time-word-requires-2
-time-word-requires-2 c κs = search needs
-
 follow-timestamp-requires : tie.Need-follow-timestamp-requires
 follow-timestamp-requires c κs = search needs
 
@@ -35,13 +29,10 @@ put-long-requires-4 c κs = search needs
 put-long-requires-5 : tie.Need-put-long-requires-5
 put-long-requires-5 c κs = search needs
 
-put-long-requires-6 : tie.Need-put-long-requires-6
-put-long-requires-6 c κs = search needs
-
 returns : tie.Need-returns
 returns c =
-    let a = c .before .before .before .before .before .before .before .before .before .before .before .before .before .before .before .before .before .before .args in
-    times-stored (a .o) (now (a .words)) _ _ _ _ _ _ _ _ _ _ _ (c .before .before .before .before .before .before .before .before .before .before .before .before .before .before .before .before .time-word .ensures) (c .before .before .before .before .before .before .before .before .before .before .before .before .before .before .before .reference-word .ensures) (c .before .before .before .before .before .before .before .before .before .before .before .before .before .before .follow-time .ensures) (c .before .before .before .before .before .before .before .before .before .before .before .before .before .time-word2 .ensures) (c .before .before .before .before .before .before .before .before .before .before .before .before .follow-timestamp .ensures) (c .before .before .before .before .before .before .before .before .before .before .put-long .ensures) (c .before .before .before .before .before .before .before .before .put-long2 .ensures) (c .before .before .before .before .before .before .put-long3 .ensures) (c .before .before .before .before .put-long4 .ensures) (c .before .before .put-long5 .ensures) (c .put-long6 .ensures)
+    let a = c .before .before .before .before .before .before .before .before .before .before .before .before .before .before .args in
+    times-stored (a .o) (now (a .words)) _ _ _ _ _ _ _ _ (c .before .before .before .before .before .before .before .before .before .before .before .before .time-word .ensures) (c .before .before .before .before .before .before .before .before .before .before .before .reference-word .ensures) (c .before .before .before .before .before .before .before .before .before .before .follow-timestamp .ensures) (c .before .before .before .before .before .before .before .before .put-long .ensures) (c .before .before .before .before .before .before .put-long2 .ensures) (c .before .before .before .before .put-long3 .ensures) (c .before .before .put-long4 .ensures) (c .put-long5 .ensures)
 
 pub put-times-spec : {M : Type 1} → statement M
 put-times-spec =
@@ -49,13 +40,10 @@ put-times-spec =
     (tie.spec
     time-word-requires
     reference-word-requires
-    follow-time-requires
-    time-word-requires-2
     follow-timestamp-requires
     put-long-requires
     put-long-requires-2
     put-long-requires-3
     put-long-requires-4
     put-long-requires-5
-    put-long-requires-6
     returns)

@@ -2,7 +2,7 @@
 use mathlib.Core.Path.{ap, _∙_}
 use denote.Ref.{now}
 use Rattle.calls.specs.declared.Pending.{Pending}
-use Rattle.calls.specs.declared.Call.the-variants as call
+use Rattle.record_parts.specs.declared.Entry.the-variants as entry
 use Rattle.log_record.specs.Records.{writtenTo}
 use borrow.Author.Needs.{needs}
 use Rattle.host_log_write.proofs.ambrulicciu_log_write_accept.Statement.{statement}
@@ -22,7 +22,7 @@ returns : tie.Need-returns
 returns c =
     let a = c .before .before .before .before .before .before .args in
     c .before .before .write .ensures
-    ∙ ap (λ (p : Pending). writtenTo (now (a .bytes)) (call.Accept (record { key = record { sender = a .sender; reflector = a .reflector; t3 = a .t3 }; pending = p })))
+    ∙ ap (λ (p : Pending). writtenTo (now (a .bytes)) (entry.Accept (record { key = record { sender = a .sender; reflector = a .reflector; t3 = a .t3 }; pending = p })))
     (c .before .before .before .before .pending-by .ensures)
 
 pub ambrulicciu-log-write-accept-spec : {M : Type 1} → statement M

@@ -2,7 +2,8 @@
 use mathlib.Core.Path.{ap, _∙_}
 use denote.Ref.{now}
 use Rattle.calls.specs.declared.ReplyObservation.{ReplyObservation}
-use Rattle.calls.specs.declared.Call.the-variants as call
+use Rattle.calls.specs.declared.Time.the-variants.{Absent}
+use Rattle.record_parts.specs.declared.Entry.the-variants as entry
 use Rattle.log_record.specs.Records.{writtenTo}
 use borrow.Author.Needs.{needs}
 use Rattle.host_log_write.proofs.ambrulicciu_log_write_observe.Statement.{statement}
@@ -22,7 +23,7 @@ returns : tie.Need-returns
 returns c =
     let a = c .before .before .before .before .before .before .args in
     c .before .before .write .ensures
-    ∙ ap (λ (o : ReplyObservation). writtenTo (now (a .bytes)) (call.Observe o)) (c .before .before .before .before .observation-of .ensures)
+    ∙ ap (λ (o : ReplyObservation). writtenTo (now (a .bytes)) (entry.Observe o Absent)) (c .before .before .before .before .observation-of .ensures)
 
 pub ambrulicciu-log-write-observe-spec : {M : Type 1} → statement M
 ambrulicciu-log-write-observe-spec = tie.close (tie.spec observation-of-requires write-requires same-length returns)

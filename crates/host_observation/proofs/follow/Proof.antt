@@ -15,26 +15,11 @@ element-copy-out-both-2 c = search needs
 both-requires : tie.Need-both-requires
 both-requires c κs = search needs
 
-element-copy-out-both-3 : tie.Need-element-copy-out-both-3
-element-copy-out-both-3 c = search needs
-
-element-copy-out-both-4 : tie.Need-element-copy-out-both-4
-element-copy-out-both-4 c = search needs
-
-both-requires-2 : tie.Need-both-requires-2
-both-requires-2 c κs = search needs
-
 flag-set-requires : tie.Need-flag-set-requires
 flag-set-requires c κs = search needs
 
 flag-set-requires-2 : tie.Need-flag-set-requires-2
 flag-set-requires-2 c κs = search needs
-
-time-by-requires : tie.Need-time-by-requires
-time-by-requires c κs = search needs
-
-flag-set-requires-3 : tie.Need-flag-set-requires-3
-flag-set-requires-3 c κs = search needs
 
 element-copy-out-follow-by : tie.Need-element-copy-out-follow-by
 element-copy-out-follow-by c = search needs
@@ -43,7 +28,7 @@ follow-by-requires : tie.Need-follow-by-requires
 follow-by-requires c κs = search needs
 
 returns : tie.Need-returns
-returns c = rw (c .follow-by .ensures, c .before .before .flag-set3 .ensures, c .before .before .before .time-by .ensures, c .before .before .before .before .flag-set2 .ensures, c .before .before .before .before .before .flag-set .ensures, c .before .before .before .before .before .before .both2 .ensures .0, c .before .before .before .before .before .before .before .before .before .both .ensures .0, c .before .before .before .before .before .before .before .before .before .before .before .before .flags .ensures)
+returns c = rw (c .follow-by .ensures, c .before .before .flag-set2 .ensures, c .before .before .before .flag-set .ensures, c .before .before .before .before .both .ensures .0, c .before .before .before .before .before .before .before .flags .ensures)
 
 pub follow-spec : {M : Type 1} → statement M
 follow-spec =
@@ -53,13 +38,8 @@ follow-spec =
     element-copy-out-both
     element-copy-out-both-2
     both-requires
-    element-copy-out-both-3
-    element-copy-out-both-4
-    both-requires-2
     flag-set-requires
     flag-set-requires-2
-    time-by-requires
-    flag-set-requires-3
     element-copy-out-follow-by
     follow-by-requires
     returns)

@@ -6,7 +6,7 @@ use denote.Ref.{now}
 use Rattle.chains.specs.Hash.{numberHash}
 use Rattle.correlation.specs.Class.{offsetInRange}
 use Rattle.key_ring.specs.Table.{hashOf}
-use Rattle.ledger_follow.proofs.Steps.{telemetry-fits, found-ranged}
+use Rattle.ledger_follow.proofs.Steps.{found-ranged}
 use Rattle.host_observe.proofs.Stored.{follow-untold, follow-told}
 use borrow.Author.Needs.{needs}
 use Rattle.host_observe.proofs.count_follow_up.Statement.{statement}
@@ -23,11 +23,12 @@ class-of-follow-up-requires c κs = search needs
 
 count-class-requires : tie.Need-count-class-requires
 count-class-requires c κs =
-    let s = c .before .before .before .before .before .before .before .before .before in (
+    let told = c .before .before .before .before in
+    let s = told .before .before .before .before .before in (
       s .pre .4,
-      found-ranged _ (hashOf (s .args .secret)) (numberHash (s .args .secret)) (s .args .ring) (now (s .args .keys)) (now (s .args .slots)) _ (now (s .args .links)) _ _ _
-          (c .before .before .before .class-of-follow-up .ensures) (telemetry-fits _ _ (c .before .before .before .before .before .before .follow-up .given .1) (s .pre .5)),
-      subst offsetInRange (sym (toZ-ofZ w32 (s .args .told .offset) (record { sfits = c .struct-told .given .1 .1 .1 .1 .1 .0 .1 }))) (s .pre .6),
+      found-ranged _ (hashOf (s .args .secret)) (numberHash (s .args .secret)) (s .args .ring) (now (s .args .keys)) (now (s .args .slots)) _ (now (s .args .links)) _ _ _ _
+          (c .before .before .class-of-follow-up .ensures),
+      subst offsetInRange (sym (toZ-ofZ w32 (s .args .told .offset) (record { sfits = told .struct-told .given .1 .1 .1 .1 .1 .0 .1 }))) (s .pre .5),
     )
 
 returns : tie.Need-returns
@@ -40,10 +41,11 @@ same-length c = search needs
 
 returns-2 : tie.Need-returns-2
 returns-2 c =
-    let s = c .before .before .before .before .before .before .before .before .before .before in
+    let told = c .before .before .before .before .before in
+    let s = told .before .before .before .before .before in
     follow-told _ (hashOf (s .args .secret)) (numberHash (s .args .secret)) (now (s .args .ledger)) (s .args .ring) (now (s .args .keys)) (now (s .args .slots)) (now (s .args .links)) (s .args .told) _ _ _ _ _
-    (c .before .before .before .before .before .before .before .follow-up .given .1) (c .before .before .before .before .class-of-follow-up .ensures)
-    (toZ-ofZ w32 (s .args .told .offset) (record { sfits = c .before .struct-told .given .1 .1 .1 .1 .1 .0 .1 })) (c .count-class .ensures)
+    (told .before .before .follow-up .given .1) (c .before .before .before .class-of-follow-up .ensures)
+    (toZ-ofZ w32 (s .args .told .offset) (record { sfits = told .struct-told .given .1 .1 .1 .1 .1 .0 .1 })) (c .count-class .ensures)
 
 pub count-follow-up-spec : {M : Type 1} → statement M
 count-follow-up-spec =

@@ -47,14 +47,13 @@ count-direct-requires c κs =
 count-follow-up-requires : tie.Need-count-follow-up-requires
 count-follow-up-requires c κs =
     let s = c .before .before .before .before .before .before .before .before .before .before .before .before .before .before .before .before .before .before .before in
-    let ranged = follow-ranged (s .args .told) (s .pre .ranged) in (
+    (
       s .pre .keys-size,
       s .pre .slots-size,
       c .before .before .before .before .before .before .count-direct .kept .1 .1 .0 ∙ s .pre .links-size,
       subst (RingFits capacity) (sym (c .before .before .before .before .before .before .before .before .before .before .before .before .before .before .keys-ring .ensures)) (s .pre .rings .keys-ring),
       follow-bounded (now (c .before .before .before .before .before .before .before .before .before .before .before .before .before .before .before .before .before .before .before .args .ledger)) (now (c .before .before .before .before .before .before .before .before .before .before .before .before .before .before .before .before .before .before .before .args .keys)) _ _ _ (c .before .before .before .before .before .before .before .before .before .before .before .before .before .before .before .before .before .before .before .args .told) (c .before .before .before .before .before .before .before .before .before .before .before .before .before .before .before .before .before .before .before .pre) (numberHash (c .before .before .before .before .before .before .before .before .before .before .before .before .before .before .before .before .secret-words .result)) _ _ _ _ _ _ (c .before .before .before .before .before .before .before .before .before .before .count-round-trip .ensures) (c .before .before .before .before .before .before .count-direct .ensures),
-      ranged .0,
-      ranged .1,
+      follow-ranged (s .args .told) (s .pre .ranged),
     )
 
 raise-own-requires : tie.Need-raise-own-requires

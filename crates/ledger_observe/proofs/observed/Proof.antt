@@ -16,8 +16,7 @@ count-direct-requires c κs = search needs
 count-follow-up-requires : tie.Need-count-follow-up-requires
 count-follow-up-requires c κs =
     let s = c .before .before .before .before .before .before .before .before .before .before .before .before .before .before .before .before in
-    let r = follow-ranged (s .args .observation) (s .pre .ranged) in
-    (s .pre .keys-size, s .pre .slots-size, c .before .before .before .before .before .count-direct .kept .1 .1 .0 ∙ s .pre .links-size, s .pre .rings .keys-ring, s .pre .counts .follow-in, r .0, r .1)
+    (s .pre .keys-size, s .pre .slots-size, c .before .before .before .before .before .count-direct .kept .1 .1 .0 ∙ s .pre .links-size, s .pre .rings .keys-ring, s .pre .counts .follow-in, follow-ranged (s .args .observation) (s .pre .ranged))
 
 raise-own-requires : tie.Need-raise-own-requires
 raise-own-requires c κs =

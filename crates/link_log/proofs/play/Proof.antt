@@ -1,5 +1,6 @@
 -- `link_log::play` meets its contract. Assumes nothing.
-use mathlib.Core.Path.{sym, ap}
+use mathlib.Core.Path.{sym, ap, _∙_}
+use Rattle.link_log.specs.declared.Played.the-variants as played
 use Rattle.link_log.specs.Logs.{playedBy}
 use borrow.Author.Needs.{needs}
 use Rattle.link_log.proofs.play.Statement.{statement}
@@ -11,11 +12,14 @@ enum-known-answer c = search needs
 enum-told : tie.Need-enum-told
 enum-told c = search needs
 
+call-of-requires : tie.Need-call-of-requires
+call-of-requires c κs = search needs
+
 returns : tie.Need-returns
-returns c = sym (ap playedBy (c .before .answer .given .1))
+returns c = ap played.Call (c .call-of .ensures) ∙ sym (ap playedBy (c .before .before .answer .given .1))
 
 returns-2 : tie.Need-returns-2
 returns-2 c = search needs
 
 pub play-spec : {M : Type 1} → statement M
-play-spec = tie.close (tie.spec enum-known-answer enum-told returns returns-2)
+play-spec = tie.close (tie.spec enum-known-answer call-of-requires enum-told returns returns-2)

@@ -6,11 +6,11 @@ use borrow.Author.Needs.{needs}
 use Rattle.log_record.proofs.is_record.Statement.{statement}
 use Rattle.log_record.proofs.is_record.Tie as tie
 
-slice-aggregate-put-call : tie.Need-slice-aggregate-put-call
-slice-aggregate-put-call c = search needs
+slice-aggregate-put-entry : tie.Need-slice-aggregate-put-entry
+slice-aggregate-put-entry c = search needs
 
-put-call-requires : tie.Need-put-call-requires
-put-call-requires c κs = search needs
+put-entry-requires : tie.Need-put-entry-requires
+put-entry-requires c κs = search needs
 
 slice-aggregate-same : tie.Need-slice-aggregate-same
 slice-aggregate-same c = search needs
@@ -19,14 +19,14 @@ same-requires : tie.Need-same-requires
 same-requires c κs = search needs
 
 returns : tie.Need-returns
-returns c = c .same .ensures ∙ ap (sameBytes (c .before .before .before .before .before .before .args .bytes .now)) (c .before .before .before .put-call .ensures ∙ over-zeros (c .before .before .before .before .before .before .args .call))
+returns c = c .same .ensures ∙ ap (sameBytes (c .before .before .before .before .before .before .args .bytes .now)) (c .before .before .before .put-entry .ensures ∙ over-zeros (c .before .before .before .before .before .before .args .said))
 
 pub is-record-spec : {M : Type 1} → statement M
 is-record-spec =
     tie.close
     (tie.spec
-    slice-aggregate-put-call
-    put-call-requires
+    slice-aggregate-put-entry
+    put-entry-requires
     slice-aggregate-same
     same-requires
     returns)

@@ -11,8 +11,8 @@ enum-told c = search needs
 enum-told-2 : tie.Need-enum-told-2
 enum-told-2 c = search needs
 
-enum-known-call : tie.Need-enum-known-call
-enum-known-call c = search needs
+enum-known-said : tie.Need-enum-known-said
+enum-known-said c = search needs
 
 estimates-fit-requires : tie.Need-estimates-fit-requires
 estimates-fit-requires c κs = search needs
@@ -30,7 +30,7 @@ returns-2 : tie.Need-returns-2
 returns-2 c = search needs
 
 returns-3 : tie.Need-returns-3
-returns-3 c = c .estimates-fit .ensures ∙ sym (ap scalesFit (c .before .before .call .given .1))
+returns-3 c = c .estimates-fit .ensures ∙ sym (ap scalesFit (c .before .before .said .given .1))
 
 returns-4 : tie.Need-returns-4
 returns-4 c = search needs
@@ -44,7 +44,7 @@ scales-fit-spec =
     (tie.spec
     enum-told
     enum-told-2
-    enum-known-call
+    enum-known-said
     estimates-fit-requires
     enum-told-3
     enum-told-4

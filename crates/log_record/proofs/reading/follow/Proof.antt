@@ -15,17 +15,11 @@ flag-set-requires c κs = search needs
 flag-set-requires-2 : tie.Need-flag-set-requires-2
 flag-set-requires-2 c κs = search needs
 
-time-requires : tie.Need-time-requires
-time-requires c κs = search needs
-
-flag-set-requires-3 : tie.Need-flag-set-requires-3
-flag-set-requires-3 c κs = search needs
-
 follow-by-requires : tie.Need-follow-by-requires
 follow-by-requires c κs = search needs
 
 returns : tie.Need-returns
-returns c = rw (c .follow-by .ensures, c .before .flag-set3 .ensures, c .before .before .time .ensures, c .before .before .before .flag-set2 .ensures, c .before .before .before .before .flag-set .ensures, c .before .before .before .before .before .u64-at .ensures, c .before .before .before .before .before .before .u32-at .ensures)
+returns c = rw (c .follow-by .ensures, c .before .flag-set2 .ensures, c .before .before .flag-set .ensures, c .before .before .before .u64-at .ensures, c .before .before .before .before .u32-at .ensures)
 
 pub follow-spec : {M : Type 1} → statement M
 follow-spec =
@@ -35,7 +29,5 @@ follow-spec =
     u64-at-requires
     flag-set-requires
     flag-set-requires-2
-    time-requires
-    flag-set-requires-3
     follow-by-requires
     returns)
