@@ -2,7 +2,7 @@
 // 500 probes. The stream is an ordinary one: each probe has one reply, each reply is observed, with counters and a follow-up for the reply
 // before. Both sides must show the same figures in the end.
 use crate::{
-    sender::measurements::{Ledger, Timed},
+    sender::measurements::Timed,
     stopwatch::Stopwatch,
     table::Table,
 };
@@ -19,12 +19,11 @@ const FULL: u64 = 5000;
 struct Ours {
     link: Link,
     answer: [u64; 5],
-    found: [u64; 3],
 }
 
 impl Ours {
     fn new() -> Ours {
-        Ours { link: Link::new(1, &SECRET), answer: [0; 5], found: [0; 3] }
+        Ours { link: Link::new(1, &SECRET), answer: [0; 5] }
     }
 
     fn watched() -> Ours {
@@ -57,34 +56,13 @@ impl Ours {
         self.answer[0] == 2
     }
 
-    fn lookup(&mut self, told: &Observation) {
-        let r = &self.link.rooms;
-        let (own, sequence, timestamp) = (told.reflector, told.follow_up_sequence, told.follow_up_timestamp);
-        let number = calls::lookup(&self.link.ledger, &r.keys, &r.slots, &r.links, own, sequence, timestamp, 0, &mut self.found);
-        assert_eq!(number, 0);
-    }
-
-    // What a host does between the lookup and the observe; the original does it inside its own call.
-    fn convert(&self, told: &mut Observation) {
-        if self.found[0] == 1 {
-            let converted = Ledger::converted(told.follow_up_timestamp, self.found[1] == 1, self.found[2] as i64, 0);
-            told.converted_t3 = converted.expect("a time") as i64;
-            told.flags |= calls::CONVERTED_T3;
-        }
-    }
-
     fn hand_over(&mut self, told: &Observation) {
         let Link { ledger, rooms: r, .. } = &mut self.link;
         assert_eq!(calls::observe(ledger, &r.keys, &mut r.slots, &mut r.offsets, &mut r.links, told), 0);
     }
 
     fn observe(&mut self, words: &[u64; 12]) {
-        let mut told = told_of(words);
-        if told.flags & calls::FOLLOW_UP != 0 {
-            self.lookup(&told);
-            self.convert(&mut told);
-        }
-        self.hand_over(black_box(&told));
+        self.hand_over(black_box(&told_of(words)));
     }
 
     fn answered(&self, sequence: u32) -> bool {
@@ -189,7 +167,7 @@ fn fresh(table: &mut Table) {
 
 // Each call of an ordinary turn between stamps.
 fn alone(table: &mut Table, few: bool) {
-    for (which, name) in ["`sent`", "`accept`, unique", "`lookup`", "`observe`, all that it can be told", "`observe`, a round trip"].iter().enumerate() {
+    for (which, name) in ["`sent`", "`accept`, unique", "`observe`, all that it can be told", "`observe`, a round trip"].iter().enumerate() {
         let (mut ours, mut original) = (Ours::new(), Timed::new(1));
         let (mut i, mut j) = (0u64, 0u64);
         let mut ours_turn = |watch: &mut Stopwatch| {
@@ -198,14 +176,10 @@ fn alone(table: &mut Table, few: bool) {
                 calls::ledger_fresh(&mut ours.link.ledger, 1, &SECRET);
             }
             let (n, i) = (i as u32, i);
-            let mut told = told_of(&words(n, i, which == 4));
+            let told = told_of(&words(n, i, which == 3));
             timed(watch, which == 0, || ours.sent(black_box(n), n, i));
             assert!(timed(watch, which == 1, || ours.accept(black_box(n), n, i)));
-            if which < 4 {
-                timed(watch, which == 2, || ours.lookup(black_box(&told)));
-                ours.convert(&mut told);
-            }
-            timed(watch, which > 2, || ours.hand_over(black_box(&told)));
+            timed(watch, which > 1, || ours.hand_over(black_box(&told)));
         };
         let mut original_turn = |watch: &mut Stopwatch| {
             j += 1;
@@ -213,10 +187,10 @@ fn alone(table: &mut Table, few: bool) {
                 original.fresh(1);
             }
             let (n, j) = (j as u32, j);
-            let told = words(n, j, which == 4);
+            let told = words(n, j, which == 3);
             timed(watch, which == 0, || original.sent(black_box(n), n, j));
             assert!(timed(watch, which == 1, || original.accept(black_box(n), n, j)));
-            timed(watch, which > 2, || original.observe(black_box(&told)));
+            timed(watch, which > 1, || original.observe(black_box(&told)));
         };
         let mut idle = Stopwatch::new();
         for _ in 0..if few { 1 } else { FULL } {
@@ -224,7 +198,7 @@ fn alone(table: &mut Table, few: bool) {
             original_turn(&mut idle);
         }
         let name = format!("{name}; {}", if few { "few entries" } else { "full tables" });
-        table.stamped(&name, 10_000, ours_turn, if which == 2 { None } else { Some(&mut original_turn) });
+        table.stamped(&name, 10_000, ours_turn, Some(&mut original_turn));
     }
 }
 
@@ -246,7 +220,7 @@ fn full(table: &mut Table) {
         ("`accept`, unique, none observed", Stream::Unique, 20_000),
         ("`accept`, duplicate", Stream::Duplicate, 20_000),
         ("`accept`, unknown", Stream::Unknown, 20_000),
-        ("`accept`, `lookup`, the conversion, `observe`", Stream::Observed, 20_000),
+        ("`accept`, `observe`", Stream::Observed, 20_000),
         ("`sent` and these", Stream::Three, 20_000),
     ];
     for (name, stream, times) in streams {
@@ -300,7 +274,7 @@ fn watched(table: &mut Table) {
         ours_turn();
         original_turn();
     }
-    table.row("`watched_sent`, `watched_accept`, `lookup`, the conversion, `observe`, in a row; full tables", 20_000, 1, ours_turn, original_turn);
+    table.row("`watched_sent`, `watched_accept`, `observe`, in a row; full tables", 20_000, 1, ours_turn, original_turn);
     same(&ours, &original);
 }
 

@@ -59,8 +59,8 @@ extern "C" {
 #define AMBRULICCIU_SERVED 0
 #define AMBRULICCIU_WRONG_ROOM 5      /* scope::WRONG_ROOM: a lent room of the wrong size, or a state whose bounds do not hold: those that the
                                          sections below name, and no others */
-#define AMBRULICCIU_OUT_OF_RANGE 1    /* scope::OUT_OF_RANGE: a scale above 63; T4 or converted T3 outside +-4*10^18 ns; reference outside
-                                         +-4*10^9 s; offset outside +-86,400 s */
+#define AMBRULICCIU_OUT_OF_RANGE 1    /* scope::OUT_OF_RANGE: a scale above 63; T4 outside +-4*10^18 ns; reference outside +-4*10^9 s;
+                                         offset outside +-86,400 s */
 #define AMBRULICCIU_DEADLINE_PASSES 6 /* scope::DEADLINE_PASSES: send time plus timeout above 2^64-1 */
 #define AMBRULICCIU_COUNTS_FULL 4     /* scope::COUNTS_FULL: 4,294,967,295 calls of sent, accept and observe were served; or a count of
                                          the state at 2^63, a sum's magnitude at 2^126, or beyond */
@@ -132,23 +132,12 @@ typedef struct {
     uint64_t ordinal;
 } ambrulicciu_accepted;
 
-/* What the lookup shows of the reply that a follow-up is about: how its timestamp is to be converted (converted() of host/c/convert.h
- * does it). Of all eras of 2^32 s the timestamp is in the one whose second lies from r - 2^31 up to but not including r + 2^31, with r the
- * reference shown plus the offset of the observation that the follow-up came with. A PTP timestamp whose ns field is 10^9 or more has no
- * time: then there is nothing to convert either. */
-typedef struct {
-    uint64_t shown;    /* 0: nothing to convert */
-    uint64_t ptp;      /* 1: PTP format, 0: NTP */
-    int64_t reference; /* seconds since 1970 */
-} ambrulicciu_found;
-
-/* Which fields of an observation are there, added up. AMBRULICCIU_CONVERTED_T3 and AMBRULICCIU_UNKNOWN_MODE count only with
- * AMBRULICCIU_FOLLOW_UP; bits above 255 are ignored. A field that is not there is not looked at. */
+/* Which fields of an observation are there, added up. AMBRULICCIU_UNKNOWN_MODE counts only with AMBRULICCIU_FOLLOW_UP; bit 16 and bits
+ * above 255 are ignored. A field that is not there is not looked at. */
 #define AMBRULICCIU_T4 1
 #define AMBRULICCIU_ORDINAL 2
 #define AMBRULICCIU_COUNTERS 4
 #define AMBRULICCIU_FOLLOW_UP 8
-#define AMBRULICCIU_CONVERTED_T3 16
 #define AMBRULICCIU_ESTIMATES 32
 #define AMBRULICCIU_PTP 64           /* timestamps of this reply are PTP; otherwise NTP */
 #define AMBRULICCIU_UNKNOWN_MODE 128 /* the mode of the follow-up's timestamp is not known */
@@ -159,8 +148,8 @@ typedef struct {
     uint64_t round_trip;          /* ns */
     int64_t t4;                   /* arrival, ns since 1970 */
     int64_t reference;            /* seconds since 1970; always looked at */
-    int64_t converted_t3;         /* the follow-up's timestamp in ns since 1970, converted by the host: see ambrulicciu_lookup */
-    uint64_t follow_up_timestamp; /* the same, raw */
+    uint32_t reserved[2];         /* not looked at */
+    uint64_t follow_up_timestamp; /* raw, as it came: observe converts it */
     uint32_t sender;              /* the key, as accepted: the sender's number */
     uint32_t reflector;           /* the key, as accepted: the reflector's number */
     uint32_t ordinal;             /* of the probe, as ambrulicciu_accept answers it */
@@ -323,14 +312,11 @@ uint8_t ambrulicciu_accept(ambrulicciu_ledger *ledger, ambrulicciu_key *keys, si
                            size_t links_length, uint32_t sender, uint32_t reflector, uint64_t t3, uint32_t pending, uint64_t time,
                            uint64_t tag, ambrulicciu_accepted *answer);
 
-/* Before the observe of a reply that has a follow-up: what its timestamp is converted with. `own`: the reflector number of the reply
- * itself; `sequence`, `timestamp`: the follow-up's; `unknown`: its mode is not known. If a slot is shown, the host converts the
- * timestamp and hands it to observe as converted_t3; otherwise there is nothing to convert. Changes only the answer. Refuses 5. */
-uint8_t ambrulicciu_lookup(const ambrulicciu_ledger *ledger, const ambrulicciu_key *keys, size_t keys_length,
-                           const ambrulicciu_slot *slots, size_t slots_length, const ambrulicciu_chain *links, size_t links_length,
-                           uint32_t own, uint32_t sequence, uint64_t timestamp, uint32_t unknown, ambrulicciu_found *answer);
-
-/* What the unique reply that was accepted last brought: round trip, counters, follow-up, estimates. Once for each. Refuses 5, 1, 4, 2. */
+/* What the unique reply that was accepted last brought: round trip, counters, follow-up, estimates. Once for each. Refuses 5, 1, 4, 2.
+ * A follow-up's timestamp is converted by the format of the reply that it is about. Of all eras of 2^32 s it is in the one whose second
+ * lies from r - 2^31 up to but not including r + 2^31, with r the reference of that reply plus the offset of this observation. A PTP
+ * timestamp whose ns field is 10^9 or more, and a time outside +-4*10^18 ns, make the follow-up unavailable: that reply can still be
+ * corrected by a later one. */
 uint8_t ambrulicciu_observe(ambrulicciu_ledger *ledger, const ambrulicciu_key *keys, size_t keys_length, ambrulicciu_slot *slots,
                             size_t slots_length, uint32_t *offsets, size_t offsets_length, ambrulicciu_chain *links,
                             size_t links_length, const ambrulicciu_observation *observation);
@@ -526,7 +512,7 @@ uint8_t ambrulicciu_bit_summary_show(const ambrulicciu_bit_summary *summary, amb
  * fresh and prints the link's report. At most 682 records. */
 
 /* Each writes one record of AMBRULICCIU_RECORD bytes, with what the call of the same name was told, be it served or refused. Refuses 5:
- * another number of bytes. */
+ * another number of bytes. An observe's has no converted T3: flag 16 is read in a log, and never written. */
 uint8_t ambrulicciu_log_write_sent(uint8_t *bytes, size_t bytes_length, uint32_t sequence, uint32_t ordinal, uint64_t time,
                                    uint64_t tag);
 uint8_t ambrulicciu_log_write_accept(uint8_t *bytes, size_t bytes_length, uint32_t sender, uint32_t reflector, uint64_t t3,
@@ -580,7 +566,7 @@ typedef struct {
     uint32_t unused;
     ambrulicciu_told_sent sent;
     ambrulicciu_told_accept accept;
-    ambrulicciu_observation observation; /* as observe was told; fields that are not there are 0 */
+    ambrulicciu_observation observation; /* as observe is told; fields that are not there are 0 */
     uint64_t now;                        /* the time of an advance */
 } ambrulicciu_call;
 
@@ -656,14 +642,6 @@ static inline uint8_t ambrulicciu_link_accept(ambrulicciu_link *link, uint32_t s
                                       link->probes, AMBRULICCIU_ROWS, link->links, AMBRULICCIU_ROWS, link->queue, AMBRULICCIU_ROWS,
                                       sender, reflector, t3, packet ? 1 : 0, packet ? packet->time : 0, packet ? packet->tag : 0,
                                       answer);
-}
-
-/* The lookup for an observation with a follow-up. */
-static inline uint8_t ambrulicciu_link_lookup(const ambrulicciu_link *link, const ambrulicciu_observation *observation,
-                                              ambrulicciu_found *answer) {
-    return ambrulicciu_lookup(&link->ledger, link->keys, AMBRULICCIU_ROWS, link->slots, AMBRULICCIU_ROWS, link->links,
-                              AMBRULICCIU_ROWS, observation->reflector, observation->follow_up_sequence,
-                              observation->follow_up_timestamp, observation->flags & AMBRULICCIU_UNKNOWN_MODE, answer);
 }
 
 static inline uint8_t ambrulicciu_link_observe(ambrulicciu_link *link, const ambrulicciu_observation *observation) {

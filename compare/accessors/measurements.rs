@@ -147,17 +147,13 @@ impl Ledger {
     }
     /// The format and the reference that this follow-up's time is converted by, where the original comes so far as to
     /// convert it.
-    pub fn lookup(&self, key: (u32, u32, u64), follow: Follow) -> Option<(bool, i64)> {
+    pub fn open(&self, key: (u32, u32, u64), follow: Follow) -> Option<(bool, i64)> {
         if follow.unknown || follow.timestamp == 0 || follow.sequence == key.1 {
             return None;
         }
         let slot = self.inner.correlations.get(&follow.sequence)?;
         let previous = slot.unique.filter(|_| slot.count == 1 && !slot.corrected)?;
         Some((previous.format == ClockFormat::PTP, previous.reference))
-    }
-    /// The conversion of time.rs.
-    pub fn converted(timestamp: u64, ptp: bool, reference: i64, offset: i32) -> Option<i128> {
-        timestamp_to_unix_nanos(timestamp, format_of(ptp), reference + i64::from(offset))
     }
     /// Document 01: the accepted key awaits one observe. The original leaves that to its caller.
     pub fn awaits(&self, (sender, reflector, t3): (u32, u32, u64)) -> bool {

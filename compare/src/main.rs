@@ -92,16 +92,18 @@ fn main() {
                 exit(1);
             }
         }
+        #[cfg(feature = "host")]
         Some("conversions") if args.len() == 4 => {
             let number = |i: usize| args[i].parse().expect(USAGE);
-            let list = parts::logs::conversions(&mut Random::new(number(2)), number(3));
-            print!("{list}");
+            if !parts::ledger::conversions::play(number(2), number(3)) {
+                exit(1);
+            }
         }
         Some(asked @ ("report" | "list" | "host" | "yard")) => {
             let mut log = Vec::new();
             io::stdin().read_to_end(&mut log).expect("a log");
             let text = match asked {
-                "report" => parts::logs::example(&log),
+                "report" => Some(parts::logs::example(&log)),
                 "list" => parts::logs::list(&log),
                 "host" => parts::logs::host(&log),
                 _ => parts::logs::yard(&log),

@@ -272,15 +272,6 @@ static void try_accept(void) {
                                       (uint32_t)number(), number(), (uint32_t)number(), number(), number(), answer), "54");
 }
 
-static void try_lookup(void) {
-    ambrulicciu_ledger *l = ledger(1);
-    rooms r = lend_rooms(0);
-    ambrulicciu_found *answer = lend(sizeof *answer, 0);
-    ready();
-    done("lookup", ambrulicciu_lookup(l, r.keys, r.key_rows, r.slots, r.slot_rows, r.links, r.link_rows, (uint32_t)number(), (uint32_t)number(), number(),
-                                      (uint32_t)number(), answer), "5");
-}
-
 /* Half of the time the reply is the one that awaits. */
 static void try_observe(void) {
     ambrulicciu_ledger *l = ledger(0);
@@ -289,7 +280,7 @@ static void try_observe(void) {
     ambrulicciu_accepted answer;
     if (drawn() % 2 && !ambrulicciu_accept(l, r.keys, r.key_rows, r.slots, r.slot_rows, r.probes, r.probe_rows, r.links, r.link_rows, o->sender,
                                            o->reflector, o->t3, 1, 0, 0, &answer) && drawn() % 4) {
-        o->t4 = o->converted_t3 = 1790000000000000000;
+        o->t4 = 1790000000000000000;
         o->reference = o->t4 / 1000000000;
         o->offset = (int32_t)(drawn() % 86402);
     }
@@ -653,7 +644,7 @@ static void try_reports(void) {
 }
 
 int main(int argc, char **argv) {
-    static void (*const tries[])(void) = {try_version, try_fresh, try_sent, try_accept, try_lookup, try_observe, try_answered, try_reads, try_watched_sent,
+    static void (*const tries[])(void) = {try_version, try_fresh, try_sent, try_accept, try_observe, try_answered, try_reads, try_watched_sent,
                                           try_watched_accept, try_monitor, try_estimates, try_quality, try_quantiles, try_bits, try_writers, try_logs, try_again, try_reports};
     long rounds = argc > 1 ? atol(argv[1]) : 500;
     seed = argc > 2 ? strtoull(argv[2], NULL, 10) : 1;

@@ -7,7 +7,6 @@
  * and linkreport prints the same of the log: host/c/run compares them. Nothing is checked before a call: the library refuses what it
  * cannot serve, and the host only counts that.
  */
-#include "convert.h"
 #include "network.h"
 #include <ambrulicciu.h>
 #include <stdio.h>
@@ -90,7 +89,6 @@ static void accepted(host *h, const packet *reply, ambrulicciu_accepted *answer)
 
 static void observed(host *h, const packet *reply, const ambrulicciu_accepted *answer, int ptp) {
     ambrulicciu_observation told;
-    ambrulicciu_found found;
     memset(&told, 0, sizeof told);
     told.t3 = reply->t3;
     told.sender = reply->sender;
@@ -110,9 +108,6 @@ static void observed(host *h, const packet *reply, const ambrulicciu_accepted *a
         told.ordinal = (uint32_t)answer->ordinal;
         told.flags |= AMBRULICCIU_ORDINAL;
     }
-    if (ambrulicciu_link_lookup(&h->link, &told, &found) == AMBRULICCIU_SERVED && found.shown &&
-        converted(told.follow_up_timestamp, found.ptp != 0, found.reference, told.offset, &told.converted_t3))
-        told.flags |= AMBRULICCIU_CONVERTED_T3;
     ambrulicciu_log_write_observe(next_record(h), AMBRULICCIU_RECORD, &told);
     uint8_t refused = ambrulicciu_link_observe(&h->link, &told);
     uint64_t recorded;

@@ -31,11 +31,11 @@ static uint64_t below(uint64_t bound) {
 
 /* ---- what was reached */
 
-static const char *const lines[] = {"watched",     "not watched", "sent served", "sent refused", "unknown",      "duplicate",
-                                    "unique",      "ordinal",     "no ordinal",  "pending",      "not pending",  "shown ptp",
-                                    "shown ntp",   "not shown",   "observed",    "out of range", "not awaiting", "answered",
-                                    "unanswered",  "burst wait",  "no wait",     "deadline",     "no deadline",  "idle",
-                                    "active",      "failed",      "no session",  "report",       "matched"};
+static const char *const lines[] = {"watched",     "not watched", "sent served",  "sent refused", "unknown",     "duplicate",
+                                    "unique",      "ordinal",     "no ordinal",   "pending",      "not pending", "observed",
+                                    "out of range", "not awaiting", "answered",   "unanswered",   "burst wait",  "no wait",
+                                    "deadline",    "no deadline", "idle",         "active",       "failed",      "no session",
+                                    "report",      "matched"};
 #define LINES (sizeof lines / sizeof *lines)
 static uint64_t reached[LINES];
 
@@ -162,14 +162,12 @@ static void send(void) {
 
 static void observe(void) {
     static const uint32_t all = AMBRULICCIU_T4 | AMBRULICCIU_ORDINAL | AMBRULICCIU_COUNTERS | AMBRULICCIU_FOLLOW_UP |
-                                AMBRULICCIU_CONVERTED_T3 | AMBRULICCIU_ESTIMATES;
+                                AMBRULICCIU_ESTIMATES;
     ambrulicciu_observation o;
-    ambrulicciu_found found, too;
     memset(&o, 0, sizeof o);
     o.t3 = t3;
     o.round_trip = below(1000);
-    o.t4 = (int64_t)(5000000000 + below(1000));
-    o.converted_t3 = below(20) ? o.t4 - 300 : 5000000000000000000;
+    o.t4 = below(20) ? (int64_t)(5000000000 + below(1000)) : 5000000000000000000;
     o.reference = (int64_t)below(9) - 4;
     o.follow_up_timestamp = below(6) ? drawn() | 1 : 0;
     o.sender = sequence;
@@ -185,16 +183,8 @@ static void observe(void) {
         o.flags |= AMBRULICCIU_PTP;
     if (below(4) == 0)
         o.flags |= AMBRULICCIU_UNKNOWN_MODE;
-    unlike(&found, &too, sizeof found);
-    uint8_t one = ambrulicciu_link_lookup(&forms, &o, &found);
-    uint8_t other = ambrulicciu_lookup(&direct.ledger, direct.keys, ROWS, direct.slots, ROWS, direct.links, ROWS, o.reflector,
-                                       o.follow_up_sequence, o.follow_up_timestamp, (o.flags & AMBRULICCIU_UNKNOWN_MODE) != 0, &too);
-    reach(!found.shown ? "not shown" : found.ptp ? "shown ptp" : "shown ntp");
-    same("lookup", one, other, &found, &too, sizeof found);
-    absent("lookup", found.shown, found.ptp | (uint64_t)found.reference);
-    absent("lookup", found.ptp, 0);
-    one = ambrulicciu_link_observe(&forms, &o);
-    other = ambrulicciu_observe(&direct.ledger, direct.keys, ROWS, direct.slots, ROWS, direct.offsets, ROWS, direct.links, ROWS, &o);
+    uint8_t one = ambrulicciu_link_observe(&forms, &o);
+    uint8_t other = ambrulicciu_observe(&direct.ledger, direct.keys, ROWS, direct.slots, ROWS, direct.offsets, ROWS, direct.links, ROWS, &o);
     reach(one == AMBRULICCIU_OUT_OF_RANGE ? "out of range" : one == AMBRULICCIU_NOT_AWAITING ? "not awaiting" : "observed");
     same("observe", one, other, "", "", 0);
 }

@@ -70,7 +70,6 @@ static void accept(played *p, uint32_t call) {
 static void observe(played *p) {
     uint64_t r = drawn(&p->seed), recorded;
     ambrulicciu_observation o;
-    ambrulicciu_found found;
     memset(&o, 0, sizeof o);
     o.t3 = p->t3;
     o.sender = p->sender;
@@ -86,10 +85,6 @@ static void observe(played *p) {
     o.sender_estimate = (uint16_t)(r >> 32);
     o.reflector_estimate = (uint16_t)(r >> 48);
     o.flags = (uint32_t)(r >> 40) % 256 | AMBRULICCIU_T4;
-    if (ambrulicciu_link_lookup(&p->link, &o, &found) == 0 && found.shown) {
-        o.converted_t3 = o.t4 - (int64_t)(r % 1000);
-        o.flags |= AMBRULICCIU_CONVERTED_T3;
-    }
     told(p, ambrulicciu_link_observe(&p->link, &o));
     told(p, ambrulicciu_quantiles_record(&p->quantiles, p->room, AMBRULICCIU_QUANTILES_ROOM, o.round_trip, &recorded));
 }

@@ -1,6 +1,6 @@
 //! The parts of the port that have calls of their own.
 mod delays;
-mod ledger;
+pub mod ledger;
 pub mod logs;
 mod monitor;
 mod numbers;

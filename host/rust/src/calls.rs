@@ -17,7 +17,6 @@ pub const T4: u32 = 1;
 pub const ORDINAL: u32 = 2;
 pub const COUNTERS: u32 = 4;
 pub const FOLLOW_UP: u32 = 8;
-pub const CONVERTED_T3: u32 = 16;
 pub const ESTIMATES: u32 = 32;
 pub const PTP: u32 = 64;
 pub const UNKNOWN_MODE: u32 = 128;
@@ -30,7 +29,7 @@ pub struct Observation {
     pub round_trip: u64,
     pub t4: i64,
     pub reference: i64,
-    pub converted_t3: i64,
+    pub reserved: [u32; 2],
     pub follow_up_timestamp: u64,
     pub sender: u32,
     pub reflector: u32,
@@ -150,20 +149,6 @@ extern "C" {
         time: u64,
         tag: u64,
         answer: &mut [u64; 5],
-    ) -> u8;
-    fn ambrulicciu_lookup(
-        ledger: &[u64; LEDGER_WORDS],
-        keys: *const [u64; 2],
-        keys_length: usize,
-        slots: *const [u64; 3],
-        slots_length: usize,
-        links: *const [u16; 8],
-        links_length: usize,
-        own: u32,
-        sequence: u32,
-        timestamp: u64,
-        unknown: u32,
-        answer: &mut [u64; 3],
     ) -> u8;
     fn ambrulicciu_observe(
         ledger: &mut [u64; LEDGER_WORDS],
@@ -389,36 +374,6 @@ pub fn accept(
             pending,
             time,
             tag,
-            answer,
-        )
-    }
-}
-
-/// Answer: 1 if a slot is shown, 1 if it is PTP, its reference (two's complement).
-pub fn lookup(
-    ledger: &[u64; LEDGER_WORDS],
-    keys: &[[u64; 2]],
-    slots: &[[u64; 3]],
-    links: &[[u16; 8]],
-    own: u32,
-    sequence: u32,
-    timestamp: u64,
-    unknown: u32,
-    answer: &mut [u64; 3],
-) -> u8 {
-    unsafe {
-        ambrulicciu_lookup(
-            ledger,
-            keys.as_ptr(),
-            keys.len(),
-            slots.as_ptr(),
-            slots.len(),
-            links.as_ptr(),
-            links.len(),
-            own,
-            sequence,
-            timestamp,
-            unknown,
             answer,
         )
     }

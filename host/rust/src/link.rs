@@ -1,7 +1,7 @@
 //! A link: the ledger with its rooms, and its monitor if it is watched.
 use crate::{
     calls::{self, Queued, LEDGER_WORDS},
-    observation::{Format, Observation},
+    observation::Observation,
     refusal::{served, Refusal},
     shown::Figures,
     ROWS,
@@ -28,13 +28,6 @@ pub enum Accepted {
     Unknown,
     Duplicate,
     Unique(Packet, Option<u32>),
-}
-
-/// How a follow-up's timestamp is to be converted.
-#[derive(Clone, Copy, Debug, PartialEq, Eq)]
-pub struct Found {
-    pub format: Format,
-    pub reference: i64,
 }
 
 /// The ledger's rooms.
@@ -173,30 +166,6 @@ impl Link {
             1 => Accepted::Duplicate,
             _ => Accepted::Unique(Packet { time, tag }, (known != 0).then_some(ordinal as u32)),
         })
-    }
-
-    /// How the timestamp of an observation's follow-up is to be converted, where it is.
-    pub fn lookup(&self, observation: &Observation) -> Result<Option<Found>, Refusal> {
-        let Some(follow) = observation.follow_up else {
-            return Ok(None);
-        };
-        let Rooms { keys, slots, links, .. } = &self.rooms;
-        let own = observation.key.reflector;
-        let mut answer = [0; 3];
-        served(calls::lookup(
-            &self.ledger,
-            keys,
-            slots,
-            links,
-            own,
-            follow.sequence,
-            follow.timestamp,
-            follow.unknown_mode.into(),
-            &mut answer,
-        ))?;
-        let [shown, ptp, reference] = answer;
-        let format = if ptp != 0 { Format::Ptp } else { Format::Ntp };
-        Ok((shown != 0).then_some(Found { format, reference: reference as i64 }))
     }
 
     /// What the unique reply that was accepted last brought.

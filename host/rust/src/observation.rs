@@ -16,13 +16,12 @@ pub struct Counters {
     pub transmitted: u32,
 }
 
-/// The Follow-Up Telemetry TLV. `converted_t3` is what the host makes of the timestamp where [`crate::Link::lookup`] shows how.
+/// The Follow-Up Telemetry TLV, its timestamp as it came: `observe` converts it.
 #[derive(Clone, Copy, Debug, PartialEq, Eq)]
 pub struct FollowUp {
     pub sequence: u32,
     pub timestamp: u64,
     pub unknown_mode: bool,
-    pub converted_t3: Option<i64>,
 }
 
 /// What one observe is told.
@@ -102,10 +101,6 @@ impl FollowUp {
         told.flags |= calls::FOLLOW_UP;
         if self.unknown_mode {
             told.flags |= calls::UNKNOWN_MODE;
-        }
-        if let Some(t3) = self.converted_t3 {
-            told.converted_t3 = t3;
-            told.flags |= calls::CONVERTED_T3;
         }
     }
 }

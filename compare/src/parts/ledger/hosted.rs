@@ -3,7 +3,7 @@
 //! What a call answers, every figure and the session come from the library's own calls; what else can be seen of the state is read off its
 //! words and rooms (crates/host_ledger, specs/Words.antt; crates host_monitor_words, probe_ring, key_ring and correlation for the rows).
 use super::{
-    super::CAPACITY, flagged, halves, key, told, wire, ACCEPT, ADVANCE, CONVERTED, DIGEST, FOLLOW,
+    super::CAPACITY, flagged, halves, key, told, wire, ACCEPT, ADVANCE, ANYWAY, DIGEST, FOLLOW,
     FRESH, IDLE, KEYS, LINKS, LOAD, OBSERVE, OFFSETS, PART, PROBES, QUALITY, QUEUE, ROOM, SENT,
     SLOTS, SPOIL,
 };
@@ -12,8 +12,8 @@ use crate::{
     part::{Answer, Call, Part},
 };
 use ambrulicciu::{
-    calls::{Queued, LEDGER_WORDS},
-    Accepted, Counters, Delays, Figures, FollowUp, Format, Found, Key, LastEstimate, Link, Maybe,
+    calls::{self, Queued, LEDGER_WORDS},
+    Accepted, Counters, Delays, Figures, FollowUp, Format, Key, LastEstimate, Link, Maybe,
     Observation, Packet, Point, Refusal, State, Watch,
 };
 use std::collections::{HashMap, HashSet};
@@ -88,8 +88,6 @@ fn play(given: &[u8]) -> Vec<u8> {
 struct Reply {
     refusal: u64,
     accepted: Option<Accepted>,
-    lookup: u64,
-    found: Option<Found>,
     answered: u64,
 }
 
@@ -129,11 +127,16 @@ fn made(link: &mut Link, call: &Call) -> Reply {
             reply.accepted = accepted.ok();
         }
         OBSERVE => {
-            let observation = observation(call);
-            let found = link.lookup(&observation);
-            reply.lookup = number(&found);
-            reply.found = found.ok().flatten();
-            reply.refusal = number(&link.observe(&observation));
+            let mut told = observation(call).told();
+            if call[0] >> 8 & ANYWAY != 0 {
+                told.flags |= 16;
+                told.reserved = [call[13] as u32, (call[13] >> 32) as u32];
+            }
+            let rooms = &mut link.rooms;
+            let (keys, slots) = (&rooms.keys, &mut rooms.slots);
+            let (offsets, links) = (&mut rooms.offsets, &mut rooms.links);
+            let number = calls::observe(&mut link.ledger, keys, slots, offsets, links, &told);
+            reply.refusal = u64::from(number);
         }
         ADVANCE => reply.refusal = number(&link.advance(call[1])),
         IDLE => reply.refusal = number(&link.idle()),
@@ -180,7 +183,6 @@ fn observation(call: &Call) -> Observation {
             sequence: (call[8] >> 32) as u32,
             timestamp: call[9],
             unknown_mode: t.follow.is_some_and(|f| f.unknown),
-            converted_t3: has(CONVERTED).then_some(call[10] as i64),
         }),
         estimates: has(QUALITY).then_some((wire(call[11] as u32), wire((call[11] >> 32) as u32))),
     }
@@ -286,16 +288,9 @@ fn shown_answer(link: &Link, reply: &Reply, words: &mut Vec<u64>) {
         flagged(ordinal),
         reply.answered,
     ]);
-    words.extend([link.ledger[COPIES], link.ledger[CALLS], reply.lookup]);
-    words.extend(reply.found.map_or([0; 3], |f| {
-        [1, u64::from(f.format == Format::Ptp), f.reference as u64]
-    }));
-    words.extend([
-        link.ledger[AWAITS],
-        u64::from(link.needs_burst_wait()),
-        0,
-        0,
-    ]);
+    words.extend([link.ledger[COPIES], link.ledger[CALLS]]);
+    words.extend([link.ledger[AWAITS], u64::from(link.needs_burst_wait())]);
+    words.extend([0; 6]);
 }
 
 fn number_of(value: Maybe<u64>) -> u64 {

@@ -1,5 +1,7 @@
 //! The ledger (`Measurements` of measurements.rs), with its monitor.
 #[cfg(feature = "host")]
+pub mod conversions;
+#[cfg(feature = "host")]
 pub mod hosted;
 mod reached;
 mod scripts;
@@ -14,6 +16,7 @@ use crate::{
     error_estimate::ErrorEstimate,
     part::{Answer, Call, Original, Part},
     sender::measurements::{Follow, Ledger, Told},
+    time,
 };
 use reached::{reached_by_loss, reached_by_step, LINES};
 use shown::{flagged, WORDS};
@@ -24,7 +27,7 @@ pub const FRESH: u64 = 0;
 pub const SENT: u64 = 1;
 /// Sender and reflector, T3, 0 or 1 for a pending packet, its time, its tag.
 pub const ACCEPT: u64 = 2;
-/// See `told`. The lookup is asked first, and the time that it gives is converted by time.rs.
+/// See `told`.
 pub const OBSERVE: u64 = 3;
 /// Now.
 pub const ADVANCE: u64 = 4;
@@ -44,11 +47,10 @@ pub const T4: u64 = 1;
 pub const ORDINAL: u64 = 2;
 pub const COUNTERS: u64 = 4;
 pub const FOLLOW: u64 = 8;
-pub const CONVERTED: u64 = 16;
 pub const QUALITY: u64 = 32;
 pub const PTP: u64 = 64;
 pub const UNKNOWN_MODE: u64 = 128;
-/// Where the lookup shows nothing, word 13 goes to the port as a converted T3 all the same. It must not matter.
+/// Word 13 goes to the port in the reserved words of the observation, with bit 16 of its flags. It must not matter.
 pub const ANYWAY: u64 = 256;
 
 /// The rooms, by their numbers.
@@ -89,14 +91,6 @@ struct Reply {
     time: u64,
     tag: u64,
     ordinal: u64,
-    looked: Looked,
-}
-
-/// What the lookup answers: a refusal, or a slot's format and reference.
-#[derive(Default)]
-struct Looked {
-    refusal: u64,
-    shown: Option<(bool, i64)>,
 }
 
 fn refused(refusal: u64) -> Reply {
@@ -357,21 +351,17 @@ impl Booked {
 
     fn observe(&mut self, call: &mut Call, cover: &mut Cover) -> Answer {
         let told = told(call);
-        let looked = self.look_up(&told, call, cover);
-        let shown = looked.shown;
-        let converted = self.convert(&told, shown, call);
-        let refusal = self.observe_refusal(&told, converted, call, cover);
-        let reply = Reply {
-            refusal,
-            looked,
-            ..Reply::default()
-        };
+        let refusal = self.observe_refusal(&told, call, cover);
+        let reply = refused(refusal);
         if refusal != 0 {
             return self.shown(reply, call);
         }
         self.reached_by_direct(&told, cover);
         let before = self.ledger.snapshot();
-        let lookup_only = self.follow_line(&told, shown.is_some());
+        let open = told
+            .follow
+            .and_then(|f| self.ledger.open(told.key, f).map(|o| (f, o)));
+        let closed = self.follow_line(&told, open.is_some());
         let slot = self.ledger.slot(told.key.1);
         let before_sum = self.ledger.sums()[1].1;
         let corrected = told.follow.and_then(|f| self.ledger.slot(f.sequence));
@@ -388,20 +378,20 @@ impl Booked {
         }
         self.ends.held_against(self.invalid());
         self.reached_by_direct_after(&told, &before, &after, cover);
-        if let Some(line) = lookup_only {
+        if let Some(line) = closed {
             cover.reached(line);
         }
-        if shown.is_some() {
+        if let Some((follow, (ptp, reference))) = open {
             let matched = after.follow_up.matched > before.follow_up.matched;
             let delay = self.ledger.sums()[1].1 - before_sum;
             cover.reached_if(matched, "follow-up: matched");
             cover.reached_if(matched && delay < 0, "follow-up: matched, negative delay");
-            let absent = converted.is_none();
-            cover.reached_if(
-                !matched && absent,
-                "follow-up: unavailable, T3 not converted",
-            );
-            cover.reached_if(!matched && !absent, "follow-up: unavailable, T4 absent");
+            let [within, own] = time::converted(follow.timestamp, ptp, reference, told.offset);
+            cover.reached_if(own.is_none(), "follow-up: unavailable, T3 not converted");
+            let beyond = own.is_some() && within.is_none();
+            cover.reached_if(beyond, "follow-up: unavailable, T3 out of range");
+            let absent = !matched && within.is_some();
+            cover.reached_if(absent, "follow-up: unavailable, T4 absent");
         }
         let made = self.ledger.slot(told.key.1);
         let record = made.is_some_and(|m| m.2.is_some());
@@ -415,43 +405,7 @@ impl Booked {
         self.shown(reply, call)
     }
 
-    /// The host asks before it converts.
-    fn look_up(&self, told: &Told, call: &Call, cover: &mut Cover) -> Looked {
-        let Some(follow) = told.follow else {
-            return Looked::default();
-        };
-        let refusal = self.refused_reading(call, &[KEYS, SLOTS, LINKS]);
-        cover.reached_if(refusal != 0, "lookup: refused 5");
-        let shown = (refusal == 0)
-            .then(|| self.ledger.lookup(told.key, follow))
-            .flatten();
-        Looked { refusal, shown }
-    }
-
-    /// The host's work between lookup and observe: the time that time.rs gives is filled into the call.
-    fn convert(&self, told: &Told, shown: Option<(bool, i64)>, call: &mut Call) -> Option<i64> {
-        let follow = told.follow?;
-        let time = match shown {
-            Some((ptp, reference)) => {
-                Ledger::converted(follow.timestamp, ptp, reference, told.offset)
-                    .map(|t| i64::try_from(t).expect("a converted time fits a word"))
-            }
-            None => (call[0] >> 8 & ANYWAY != 0).then_some(call[13] as i64),
-        };
-        if let Some(time) = time {
-            call[0] |= CONVERTED << 8;
-            call[10] = time as u64;
-        }
-        time
-    }
-
-    fn observe_refusal(
-        &self,
-        told: &Told,
-        converted: Option<i64>,
-        call: &Call,
-        cover: &mut Cover,
-    ) -> u64 {
+    fn observe_refusal(&self, told: &Told, call: &Call, cover: &mut Cover) -> u64 {
         if self.wrong_room(call, &[KEYS, SLOTS, OFFSETS, LINKS]) {
             cover.reached("observe: refused 5");
             return WRONG_ROOM;
@@ -459,7 +413,6 @@ impl Booked {
         let beyond = |t: i64| t.unsigned_abs() > TIME_LIMIT.unsigned_abs();
         let range = [
             (told.t4.is_some_and(beyond), "observe: refused 1 for T4"),
-            (converted.is_some_and(beyond), "observe: refused 1 for T3"),
             (
                 told.reference.unsigned_abs() > REFERENCE_LIMIT.unsigned_abs(),
                 "observe: refused 1 for the reference",

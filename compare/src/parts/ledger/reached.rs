@@ -6,7 +6,7 @@ use crate::{
     sender::measurements::{MeasurementSummary, Told},
 };
 
-pub const LINES: [&str; 82] = [
+pub const LINES: [&str; 81] = [
     "fresh: copies 0 counts as 1",
     "fresh: copies above 1",
     "fresh: with a monitor",
@@ -44,10 +44,8 @@ pub const LINES: [&str; 82] = [
     "accept: no ordinal",
     "accept: refused 5",
     "accept: refused 4",
-    "lookup: refused 5",
     "observe: refused 5",
     "observe: refused 1 for T4",
-    "observe: refused 1 for T3",
     "observe: refused 1 for the reference",
     "observe: refused 1 for the offset",
     "observe: refused 4",
@@ -77,6 +75,7 @@ pub const LINES: [&str; 82] = [
     "follow-up: repeated",
     "follow-up: unavailable, T4 absent",
     "follow-up: unavailable, T3 not converted",
+    "follow-up: unavailable, T3 out of range",
     "follow-up: matched",
     "follow-up: matched, negative delay",
     "slot: made with a record",
@@ -114,9 +113,9 @@ impl Booked {
         );
     }
 
-    /// The class of a follow-up for which the lookup shows nothing.
-    pub fn follow_line(&self, told: &Told, shown: bool) -> Option<&'static str> {
-        let follow = told.follow.filter(|_| !shown)?;
+    /// The class of a follow-up whose timestamp is not come to.
+    pub fn follow_line(&self, told: &Told, open: bool) -> Option<&'static str> {
+        let follow = told.follow.filter(|_| !open)?;
         if follow.unknown {
             return Some("follow-up: unavailable, unknown mode");
         }

@@ -23,12 +23,12 @@ pub const WORDS: [&str; 120] = [
     "answered",
     "copies",
     "calls served",
-    "lookup: refusal",
-    "lookup: 1 if it shows a slot",
-    "lookup: 1 for PTP",
-    "lookup: reference",
     "awaiting",
     "needs_burst_wait",
+    "",
+    "",
+    "",
+    "",
     "",
     "",
     "requested",
@@ -174,13 +174,9 @@ impl Booked {
             number => 256 + number,
         };
         words.add(&[answered, u64::from(self.ledger.copies()), self.calls]);
-        let l = &r.looked;
-        let shown = l.shown.unwrap_or((false, 0));
-        let shows = u64::from(l.shown.is_some());
-        words.add(&[l.refusal, shows, u64::from(shown.0), shown.1 as u64]);
         words.add(&[u64::from(self.ledger.awaiting().is_some())]);
         words.add(&[u64::from(self.ledger.needs_burst_wait())]);
-        words.add(&[0, 0]);
+        words.add(&[0; 6]);
         words.at(16);
     }
 

@@ -1,12 +1,11 @@
-//! What the example hosts print of a link, worked out by the original from the log that the host kept; and conversions of timestamps.
+//! What the example hosts print of a link, worked out by the original from the log that the host kept.
 use super::{
-    original::{Conversion, Link},
+    original::Link,
     record::{self, ESTIMATES, OBSERVE},
 };
 use crate::{
     error_estimate::ErrorEstimate,
-    random::Random,
-    sender::measurements::{Ledger, MeasurementSummary},
+    sender::measurements::MeasurementSummary,
     stats::{quantiles::Series, ClockQuality},
 };
 use std::fmt::Write;
@@ -27,7 +26,7 @@ impl Shown {
             clocks: ClockQuality::default(),
         };
         for r in &records {
-            if shown.link.play(r, Conversion::Own) != 0 || r.kind() != OBSERVE {
+            if shown.link.play(r) != 0 || r.kind() != OBSERVE {
                 continue;
             }
             shown.round_trips.record(r.number(20, 8));
@@ -49,7 +48,9 @@ impl Shown {
 fn loss(s: &MeasurementSummary) -> String {
     (1000 * s.unobserved_requested_replies)
         .checked_div(s.requested_replies)
-        .map_or("- (nothing was requested)".into(), |n| format!("{n} of 1,000"))
+        .map_or("- (nothing was requested)".into(), |n| {
+            format!("{n} of 1,000")
+        })
 }
 
 /// The line of host/c.
@@ -101,42 +102,4 @@ pub fn yard(log: &[u8]) -> Option<String> {
         lines += &format!("both clocks together within {error:.6} ms by their own account\n");
     }
     Some(lines)
-}
-
-/// A list of conversions, for host/c/conversions.c: references and offsets that `observe` serves, and edges of the window and of both fields.
-pub fn conversions(random: &mut Random, count: u64) -> String {
-    let mut list = String::new();
-    for _ in 0..count {
-        let ptp = random.chance(500);
-        let reference = match random.below(4) {
-            0 => random.below(8_000_000_001) as i64 - 4_000_000_000,
-            1 => random.of(&[0, 1, -1, 4_000_000_000, -4_000_000_000, 1_790_000_000]),
-            2 => random.sized() as i64 % 4_000_000_001,
-            _ => 1_790_000_000 + random.below(1_000_000) as i64,
-        };
-        let any = random.below(172_801) as i32 - 86_400;
-        let offset = random.of(&[0, 37, -37, 86_400, -86_400, any]);
-        let r = reference + i64::from(offset);
-        let second = match random.below(3) {
-            0 => random.word() as u32,
-            1 => (r + random.below(9) as i64 - 4) as u32,
-            _ => (r + (1 << 31) + random.below(9) as i64 - 4) as u32,
-        };
-        let second = if ptp || random.chance(300) {
-            second
-        } else {
-            second.wrapping_add(2_208_988_800u32)
-        };
-        let rest = match random.below(4) {
-            0 => random.word() as u32,
-            1 => random.of(&[0, 1, 999_999_999, 1_000_000_000, 1_000_000_001, u32::MAX]),
-            _ => random.below(1_000_000_000) as u32,
-        };
-        let timestamp = u64::from(second) << 32 | u64::from(rest);
-        let time = Ledger::converted(timestamp, ptp, reference, offset)
-            .map_or("-".into(), |t| t.to_string());
-        let ptp = u8::from(ptp);
-        list += &format!("{timestamp} {ptp} {reference} {offset} {time}\n");
-    }
-    list
 }

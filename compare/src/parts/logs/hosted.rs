@@ -4,7 +4,9 @@ use super::{
     kinds,
     kinds::Made,
     original,
-    record::{self, Record, Refused, Settings, ACCEPT, ADVANCE, OBSERVE, PENDING, RECORD, SENT},
+    record::{
+        self, Record, Refused, Settings, ACCEPT, ADVANCE, CONVERTED, OBSERVE, PENDING, RECORD, SENT,
+    },
 };
 use crate::{cover::Cover, random::Random};
 use ambrulicciu::{
@@ -79,12 +81,17 @@ fn number(refused: Refused) -> u8 {
 }
 
 impl Held {
-    fn hold(&mut self, made: &Made, rooms: &mut Rooms, queue: &mut [calls::Queued]) -> Result<(), String> {
+    fn hold(
+        &mut self,
+        made: &Made,
+        rooms: &mut Rooms,
+        queue: &mut [calls::Queued],
+    ) -> Result<(), String> {
         let bytes = &made.bytes[..];
         let read = record::read(bytes);
         checked(bytes, &read)?;
         self.each_record(bytes)?;
-        let text = original::report(bytes, made.conversion, &mut Cover::nothing());
+        let text = original::report(bytes, &mut Cover::nothing());
         // The number of a log that is refused; the program prints it as the text.
         let expected = match &read {
             Ok(_) => Ok(text.clone()),
@@ -94,7 +101,7 @@ impl Held {
         same("report_log", expected, shown.map_err(|r| r as u8))?;
         if let Ok((settings, records)) = read {
             written(settings, &records)?;
-            played(settings, &records, made, &text)?;
+            played(settings, &records, &text)?;
             self.played += 1;
         }
         self.logs += 1;
@@ -208,7 +215,7 @@ fn junk() -> calls::Call {
             round_trip: UNSET,
             t4: UNSET as i64,
             reference: UNSET as i64,
-            converted_t3: UNSET as i64,
+            reserved: [UNSET as u32; 2],
             follow_up_timestamp: UNSET,
             sender: half,
             reflector: half,
@@ -260,7 +267,7 @@ fn call_of(r: &Record) -> calls::Call {
                 round_trip: r.number(20, 8),
                 t4: r.number(28, 8) as i64,
                 reference: r.number(36, 8) as i64,
-                converted_t3: r.number(76, 8) as i64,
+                reserved: [0; 2],
                 follow_up_timestamp: r.number(68, 8),
                 sender: n(4),
                 reflector: n(8),
@@ -272,7 +279,7 @@ fn call_of(r: &Record) -> calls::Call {
                 offset: n(44) as i32,
                 sender_estimate: r.number(84, 2) as u16,
                 reflector_estimate: r.number(86, 2) as u16,
-                flags: r.0[1].into(),
+                flags: (r.0[1] & !CONVERTED).into(),
                 unused: [0; 2],
             }
         }
@@ -307,24 +314,35 @@ fn written(settings: Settings, records: &[Record]) -> Result<(), String> {
             ADVANCE => calls::log_write_advance(&mut bytes, call.now),
             _ => calls::log_write_idle(&mut bytes),
         };
-        same("a record written", (0, r.0), (answer, bytes))?;
+        same("a record written", (0, rewritten(r).0), (answer, bytes))?;
         tell(&mut log, &call);
     }
+    let records: Vec<Record> = records.iter().map(rewritten).collect();
     same("Log::records", records.len() as u32, log.records())?;
     same(
         "Log::bytes",
-        Ok(record::log(&[], records, settings)),
+        Ok(record::log(&[], &records, settings)),
         log.bytes(),
     )
 }
 
-/// A field that is not there is not looked at, nor are the flags above 255.
+/// What is written of the call that a record makes: the record, without the field of flag 16.
+fn rewritten(r: &Record) -> Record {
+    let mut bytes = r.0;
+    if r.kind() == OBSERVE && r.has(CONVERTED) {
+        bytes[1] &= !CONVERTED;
+        bytes[76..84].fill(0);
+    }
+    Record(bytes)
+}
+
+/// A field that is not there is not looked at, nor are bit 16 of the flags and those above 255.
 fn with_junk(mut o: calls::Observation) -> calls::Observation {
     let (all, half) = (o, UNSET as u32);
     o = junk().observation;
     (o.t3, o.sender, o.reflector) = (all.t3, all.sender, all.reflector);
     (o.round_trip, o.reference, o.offset) = (all.round_trip, all.reference, all.offset);
-    o.flags = all.flags | half & !255;
+    o.flags = all.flags | half & !255 | half & 16;
     let has = |flag: u32| all.flags & flag != 0;
     if has(calls::T4) {
         o.t4 = all.t4;
@@ -338,9 +356,6 @@ fn with_junk(mut o: calls::Observation) -> calls::Observation {
     if has(calls::FOLLOW_UP) {
         o.follow_up_sequence = all.follow_up_sequence;
         o.follow_up_timestamp = all.follow_up_timestamp;
-    }
-    if has(calls::CONVERTED_T3) {
-        o.converted_t3 = all.converted_t3;
     }
     if has(calls::ESTIMATES) {
         o.sender_estimate = all.sender_estimate;
@@ -380,7 +395,6 @@ fn observation(o: &calls::Observation) -> Observation {
             sequence: o.follow_up_sequence,
             timestamp: o.follow_up_timestamp,
             unknown_mode: has(calls::UNKNOWN_MODE),
-            converted_t3: has(calls::CONVERTED_T3).then_some(o.converted_t3),
         }),
         estimates: has(calls::ESTIMATES).then_some((o.sender_estimate, o.reflector_estimate)),
     }
@@ -404,7 +418,7 @@ fn tell(log: &mut Log, call: &calls::Call) {
 }
 
 /// A log's calls, made on a link of the wrapper's: each refusal, and the report of the link.
-fn played(settings: Settings, records: &[Record], made: &Made, text: &str) -> Result<(), String> {
+fn played(settings: Settings, records: &[Record], text: &str) -> Result<(), String> {
     let Settings {
         copies,
         threshold,
@@ -430,11 +444,7 @@ fn played(settings: Settings, records: &[Record], made: &Made, text: &str) -> Re
             _ => link.idle(),
         };
         let refusal = answer.err().map_or(0, |r| r as u64);
-        same(
-            &format!("the call of record {at}"),
-            theirs.play(r, made.conversion),
-            refusal,
-        )?;
+        same(&format!("the call of record {at}"), theirs.play(r), refusal)?;
         turned_away += u64::from(refusal != 0);
     }
     let records = records.len() as u64;

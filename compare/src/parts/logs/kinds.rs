@@ -1,7 +1,7 @@
 //! The logs of a round, kind by kind.
 use super::{
     super::ledger::{OFFSET_LIMIT, REFERENCE_LIMIT, TIME_LIMIT},
-    original::{Conversion, Link},
+    original::Link,
     record::{
         log, trailer, Record, Settings, ACCEPT, ADVANCE, CONVERTED, COUNTERS, ESTIMATES, FOLLOW,
         IDLE, MOST_BYTES, MOST_RECORDS, OBSERVE, ORDINAL, PENDING, PTP, RECORD, SENT, T4, TRAILER,
@@ -11,25 +11,14 @@ use super::{
 use crate::random::Random;
 use std::ops::Range;
 
-/// A log and whose conversion the original uses when it plays it.
+/// A log.
 #[derive(Clone)]
 pub struct Made {
     pub bytes: Vec<u8>,
-    pub conversion: Conversion,
 }
 
-impl Made {
-    /// A log on which the original uses the times that it brings.
-    pub fn brought(bytes: Vec<u8>) -> Self {
-        Self {
-            bytes,
-            conversion: Conversion::Brought,
-        }
-    }
-}
-
-fn brought(bytes: Vec<u8>) -> Made {
-    Made::brought(bytes)
+fn of(bytes: Vec<u8>) -> Made {
+    Made { bytes }
 }
 
 /// How many logs of a drawn kind stand in one round.
@@ -101,9 +90,9 @@ pub fn sample(random: &mut Random) -> Vec<Made> {
         .iter()
         .flat_map(|draw| (0..8).map(|_| draw(random)).collect::<Vec<Made>>())
         .collect();
-    all.push(brought(small_log(random)));
+    all.push(of(small_log(random)));
     all.extend(trailers(random).into_iter().step_by(5));
-    all.push(brought(vec![0; MOST_BYTES + 1]));
+    all.push(of(vec![0; MOST_BYTES + 1]));
     all
 }
 
@@ -186,7 +175,7 @@ impl<'a> Draw<'a> {
         }
     }
     fn push(&mut self, record: Record) {
-        self.link.play(&record, Conversion::Brought);
+        self.link.play(&record);
         self.records.push(record);
     }
     fn sent(&mut self, sequence: u32, ordinal: u32) {
@@ -199,19 +188,17 @@ impl<'a> Draw<'a> {
         let flags = if pending { PENDING } else { 0 };
         self.push(Record::new(ACCEPT, flags, &values));
     }
-    /// The time that time.rs gives is brought, as a host does it.
+    /// The field of flag 16 is some time or none: it does not matter.
     fn observe(&mut self, mut o: Observe) {
-        o.converted = self.link.converted(&o.record());
+        let time = self.random.sized() as i64;
+        o.converted = self.random.chance(500).then_some(time);
         self.push(o.record());
     }
     fn last(&self) -> (u32, u32, u64) {
         self.keys.last().copied().unwrap_or_default()
     }
-    fn made(self, conversion: Conversion) -> Made {
-        Made {
-            bytes: log(&[], &self.records, self.settings),
-            conversion,
-        }
+    fn made(self) -> Made {
+        of(log(&[], &self.records, self.settings))
     }
 }
 
@@ -235,7 +222,7 @@ fn estimates(random: &mut Random) -> Option<(u16, u16)> {
 /// A believable link: a probe each 100 ms, some loss, some reordering, counters and follow-ups.
 fn typical(random: &mut Random) -> Made {
     let turns = random.of(&[3, 10, 30]);
-    typical_turns(random, turns).made(Conversion::Own)
+    typical_turns(random, turns).made()
 }
 
 fn typical_turns(random: &mut Random, turns: u32) -> Draw<'_> {
@@ -313,7 +300,7 @@ fn typical_turns(random: &mut Random, turns: u32) -> Draw<'_> {
 /// Tiny ranges, so that everything collides.
 fn dense(random: &mut Random) -> Made {
     let calls = random.of(&[4, 20, 60, 150]);
-    dense_calls(random, calls).made(Conversion::Own)
+    dense_calls(random, calls).made()
 }
 
 fn dense_calls(random: &mut Random, calls: usize) -> Draw<'_> {
@@ -406,7 +393,7 @@ fn small_observe(draw: &mut Draw, many: u64) -> Observe {
     }
 }
 
-/// Every value on its bound, one short of it and one past it. What is brought is as any host might bring it.
+/// Every value on its bound, one short of it and one past it. The field of flag 16 is any.
 fn limits(random: &mut Random) -> Made {
     let settings = Settings {
         copies: random.of(&[0, 1, 2, 65_535]),
@@ -441,7 +428,7 @@ fn limits(random: &mut Random) -> Made {
             draw.push(Record::new(IDLE, 0, &[]));
         }
     }
-    draw.made(Conversion::Brought)
+    draw.made()
 }
 
 fn edge_observe(draw: &mut Draw, i: u32, ordinal: u32) -> Observe {
@@ -506,7 +493,7 @@ fn longest(random: &mut Random) -> Made {
         dense_calls(random, 700)
     };
     draw.records.truncate(MOST_RECORDS);
-    draw.made(Conversion::Own)
+    draw.made()
 }
 
 // ---- whole logs, changed
@@ -538,7 +525,7 @@ fn small_log(random: &mut Random) -> Vec<u8> {
     draw.push(observe.record());
     draw.push(Record::new(ADVANCE, 0, &[2_000]));
     draw.push(Record::new(IDLE, 0, &[]));
-    draw.made(Conversion::Brought).bytes
+    draw.made().bytes
 }
 
 fn bits(small: &[u8], step: usize) -> Vec<Made> {
@@ -547,7 +534,7 @@ fn bits(small: &[u8], step: usize) -> Vec<Made> {
         .map(|at| {
             let mut bytes = small.to_vec();
             bytes[at / 8] ^= 1 << (at % 8);
-            brought(bytes)
+            of(bytes)
         })
         .collect()
 }
@@ -559,7 +546,7 @@ pub fn changes(log: &[u8], places: Range<usize>, values: &[u8]) -> Vec<Made> {
         .map(|(at, value)| {
             let mut bytes = log.to_vec();
             bytes[at] ^= value;
-            brought(bytes)
+            of(bytes)
         })
         .collect()
 }
@@ -579,13 +566,13 @@ fn any_before(random: &mut Random) -> Made {
         let length = random.of(&[1, 23, 24, 95, 96, 97, 500]);
         any(random, length)
     };
-    brought(log(&before, &records, settings))
+    of(log(&before, &records, settings))
 }
 
 /// A good log in which one byte or bit of one record, or of the trailer, is another.
 fn damaged(random: &mut Random) -> Made {
     let calls = random.of(&[1, 4, 20]);
-    let mut bytes = dense_calls(random, calls).made(Conversion::Brought).bytes;
+    let mut bytes = dense_calls(random, calls).made().bytes;
     let at = random.below(bytes.len() as u64) as usize;
     let marked = at - at % RECORD + random.of(&[0, 1, 2, 3, 94, 95]);
     let at = if random.chance(500) && marked < bytes.len() {
@@ -598,7 +585,7 @@ fn damaged(random: &mut Random) -> Made {
     } else {
         bytes[at] ^ 1 << random.below(8)
     };
-    brought(bytes)
+    of(bytes)
 }
 
 fn any_bytes(random: &mut Random) -> Made {
@@ -607,7 +594,7 @@ fn any_bytes(random: &mut Random) -> Made {
     if random.chance(500) {
         bytes.extend_from_slice(b"STLG");
     }
-    brought(bytes)
+    of(bytes)
 }
 
 /// Records of any bytes, or good in all but their fields and flags, in a good frame.
@@ -639,7 +626,7 @@ fn any_records(random: &mut Random) -> Made {
         threshold: random.edge() as u16,
         timeout: random.edge(),
     };
-    brought(log(&[], &records, settings))
+    of(log(&[], &records, settings))
 }
 
 /// Distances and counts around what is right, and where 24+96·count passes 32 bits.
@@ -676,13 +663,13 @@ fn trailers(random: &mut Random) -> Vec<Made> {
             let distance = right.wrapping_add(off);
             let mut whole = bytes.clone();
             whole.extend(trailer(distance, count, settings, b"STLG"));
-            all.push(brought(whole));
+            all.push(of(whole));
         }
     }
     for mark in [b"STLF", b"sTLG", b"GLTS", b"\0\0\0\0", b"STL\0", b"TLGS"] {
         let mut whole = bytes.clone();
         whole.extend(trailer(312, 3, settings, mark));
-        all.push(brought(whole));
+        all.push(of(whole));
     }
     all
 }
@@ -696,16 +683,16 @@ fn lengths(random: &mut Random, long: bool) -> Vec<Made> {
     let mut all = Vec::new();
     for k in (0..=MOST_RECORDS).filter(|k| long || ends(*k) || k % 97 == 0) {
         let good = log(&[], &records[..k], settings);
-        all.push(brought(good[1..].to_vec()));
+        all.push(of(good[1..].to_vec()));
         if ends(k) || k % 40 == 0 {
-            all.push(brought(log(b"S", &records[..k], settings)));
-            all.push(brought(good));
+            all.push(of(log(b"S", &records[..k], settings)));
+            all.push(of(good));
         }
         if k > 0 {
             let mut spoiled = records[..k].to_vec();
             spoiled[k - 1].0[95] ^= 1;
-            all.push(brought(log(b"S", &spoiled, settings)));
-            all.push(brought(log(&[], &spoiled, settings)));
+            all.push(of(log(b"S", &spoiled, settings)));
+            all.push(of(log(&[], &spoiled, settings)));
         }
     }
     let whole = log(&any(random, 600), &records, settings);
@@ -718,10 +705,10 @@ fn lengths(random: &mut Random, long: bool) -> Vec<Made> {
         if size >= TRAILER {
             let count = ((size - TRAILER) / RECORD).min(MOST_RECORDS);
             let before = vec![0x53; size - TRAILER - RECORD * count];
-            all.push(brought(log(&before, &records[..count], settings)));
+            all.push(of(log(&before, &records[..count], settings)));
         }
-        all.push(brought(whole[whole.len() - size..].to_vec()));
-        all.push(brought(whole[..size].to_vec()));
+        all.push(of(whole[whole.len() - size..].to_vec()));
+        all.push(of(whole[..size].to_vec()));
     }
     all
 }

@@ -20,9 +20,9 @@ use std::{
 };
 
 use crate::{cover::Cover, random::Random};
-pub use figures::{conversions, host, yard};
+pub use figures::{host, yard};
 use kinds::Made;
-use original::{Conversion, LINES};
+use original::LINES;
 pub use shipped::{files, play as shipped};
 
 /// Logs in, reports out: each log's length in eight bytes, lowest first, and its bytes; each report ends in a 0 byte.
@@ -60,7 +60,7 @@ pub fn reach(seed: u64) {
     let mut cover = Cover::new(&LINES);
     kinds::round(&mut Random::new(seed), false, &mut |kind, logs| {
         for made in &logs {
-            original::report(&made.bytes, made.conversion, &mut cover);
+            original::report(&made.bytes, &mut cover);
         }
         println!("  {:>10}  logs: kind '{kind}'", logs.len());
     });
@@ -114,7 +114,7 @@ impl<'a> Played<'a> {
     fn batch(&mut self, kind: &'static str, logs: &[Made], every: usize) -> Vec<String> {
         let expected: Vec<String> = logs
             .iter()
-            .map(|made| original::report(&made.bytes, made.conversion, &mut self.cover))
+            .map(|made| original::report(&made.bytes, &mut self.cover))
             .collect();
         let reports = play_all(self.start, logs);
         *self.kinds.entry(kind).or_default() += logs.len() as u64;
@@ -230,20 +230,18 @@ fn play_all(start: &str, logs: &[Made]) -> Vec<Vec<u8>> {
 
 /// Whether `linkreport` prints another text than the original's, and both texts.
 fn differ(start: &str, made: &Made) -> Option<(String, Vec<u8>)> {
-    let text = original::report(&made.bytes, made.conversion, &mut Cover::nothing());
+    let text = original::report(&made.bytes, &mut Cover::nothing());
     let printed = play_one(start, &made.bytes);
     (printed != text.as_bytes()).then_some((text, printed))
 }
 
-/// Cuts a failing log down: ever smaller runs of records are taken out as long as the two sides still differ. With other
-/// records gone, a follow-up's own conversion may be another, so the original is played with what the log brings.
+/// Cuts a failing log down: ever smaller runs of records are taken out as long as the two sides still differ.
 fn smallest(start: &str, made: Made) -> Made {
     let Ok((settings, mut records)) = record::read(&made.bytes) else {
         return made;
     };
     let whole = |records: &[record::Record]| Made {
         bytes: record::log(&[], records, settings),
-        conversion: Conversion::Brought,
     };
     if differ(start, &whole(&records)).is_none() {
         return made;
@@ -293,12 +291,9 @@ pub fn list(bytes: &[u8]) -> Option<String> {
     record::list(bytes)
 }
 
-/// The original's report of a log that was given on standard input, for the examples. None where the time that the log
-/// brings for a follow-up makes another report than the original's own conversion does.
-pub fn example(bytes: &[u8]) -> Option<String> {
-    let own = original::report(bytes, Conversion::Own, &mut Cover::nothing());
-    let brought = original::report(bytes, Conversion::Brought, &mut Cover::nothing());
-    (own == brought).then_some(own)
+/// The original's report of a log that was given on standard input, for the examples.
+pub fn example(bytes: &[u8]) -> String {
+    original::report(bytes, &mut Cover::nothing())
 }
 
 /// Writes the fixed list that the player replays, and what the original answers.
@@ -306,7 +301,7 @@ pub fn keep(random: &mut Random, crates: &str) {
     let logs = kinds::sample(random);
     let mut expected = Vec::new();
     for made in &logs {
-        let text = original::report(&made.bytes, made.conversion, &mut Cover::nothing());
+        let text = original::report(&made.bytes, &mut Cover::nothing());
         expected.extend_from_slice(text.as_bytes());
         expected.push(0);
     }

@@ -5,8 +5,8 @@ use super::{
         CAPACITY, DEADLINE_PASSES, NOT_AWAITING, OUT_OF_RANGE, QUEUE_FULL,
     },
     record::{
-        read, Record, Refused, Settings, ACCEPT, ADVANCE, CONVERTED, COUNTERS, ESTIMATES, FOLLOW,
-        IDLE, OBSERVE, ORDINAL, PENDING, PTP, SENT, T4, UNKNOWN_MODE,
+        read, Record, Refused, Settings, ACCEPT, ADVANCE, COUNTERS, ESTIMATES, FOLLOW, IDLE,
+        OBSERVE, ORDINAL, PENDING, PTP, SENT, T4, UNKNOWN_MODE,
     },
 };
 use crate::{
@@ -15,17 +15,7 @@ use crate::{
         measurements::{Follow, Ledger, MeasurementSummary, Told},
         session_state::State,
     },
-    time,
 };
-
-/// Whose conversion of a follow-up's timestamp the original uses.
-#[derive(Clone, Copy, PartialEq)]
-pub enum Conversion {
-    /// What the log brings, as document 01's host has it.
-    Brought,
-    /// The original's own, by time.rs.
-    Own,
-}
 
 pub struct Link {
     ledger: Ledger,
@@ -46,11 +36,11 @@ impl Link {
     }
 
     /// Plays a record, or leaves the original alone where document 01 refuses the call. Answers the refusal, or 0.
-    pub fn play(&mut self, r: &Record, conversion: Conversion) -> u64 {
+    pub fn play(&mut self, r: &Record) -> u64 {
         let refusal = match r.kind() {
             SENT => self.sent(r),
             ACCEPT => self.accept(r),
-            OBSERVE => self.observe(r, conversion),
+            OBSERVE => self.observe(r),
             ADVANCE => {
                 self.ledger.advance(r.number(4, 8));
                 0
@@ -86,12 +76,11 @@ impl Link {
         0
     }
 
-    fn observe(&mut self, r: &Record, conversion: Conversion) -> u64 {
+    /// The field of flag 16 is not looked at.
+    fn observe(&mut self, r: &Record) -> u64 {
         let told = told(r);
-        let converted = r.has(CONVERTED).then_some(r.number(76, 8) as i64);
         let beyond = |t: i64| t.unsigned_abs() > TIME_LIMIT.unsigned_abs();
         let outside = told.t4.is_some_and(beyond)
-            || converted.is_some_and(beyond)
             || told.reference.unsigned_abs() > REFERENCE_LIMIT.unsigned_abs()
             || told.offset.unsigned_abs() > OFFSET_LIMIT.unsigned_abs();
         if outside {
@@ -100,22 +89,8 @@ impl Link {
         if !self.ledger.awaits(told.key) {
             return NOT_AWAITING;
         }
-        match conversion {
-            Conversion::Own => self.ledger.observe(told),
-            Conversion::Brought => {
-                time::brought(converted.map(i128::from), || self.ledger.observe(told))
-            }
-        }
+        self.ledger.observe(told);
         0
-    }
-
-    /// What time.rs gives for the follow-up of an observe, where the original comes so far as to convert it.
-    pub fn converted(&self, r: &Record) -> Option<i64> {
-        let told = told(r);
-        let follow = told.follow?;
-        let (ptp, reference) = self.ledger.lookup(told.key, follow)?;
-        let time = Ledger::converted(follow.timestamp, ptp, reference, told.offset)?;
-        Some(i64::try_from(time).expect("a converted time fits a word"))
     }
 
     pub fn snapshot(&self) -> MeasurementSummary {
@@ -192,7 +167,7 @@ fn key(r: &Record) -> (u32, u32, u64) {
     )
 }
 
-/// What an observe is told, without the conversion.
+/// What an observe is told.
 fn told(r: &Record) -> Told {
     let n = |at: usize| r.number(at, 4) as u32;
     Told {
@@ -216,7 +191,7 @@ fn told(r: &Record) -> Told {
 }
 
 /// What `linkreport` has to print for these bytes.
-pub fn report(bytes: &[u8], conversion: Conversion, cover: &mut Cover) -> String {
+pub fn report(bytes: &[u8], cover: &mut Cover) -> String {
     match read(bytes) {
         Err(refused) => {
             cover.reached(match refused {
@@ -234,7 +209,7 @@ pub fn report(bytes: &[u8], conversion: Conversion, cover: &mut Cover) -> String
         Ok((settings, records)) => {
             let mut link = Link::fresh(settings);
             for record in &records {
-                reached_by(record, link.play(record, conversion), settings, cover);
+                reached_by(record, link.play(record), settings, cover);
             }
             reached_at_end(&link, &records, settings, cover);
             link.report()

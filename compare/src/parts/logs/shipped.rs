@@ -81,7 +81,9 @@ pub fn files(start: &str, folder: &str) -> bool {
     paths.sort();
     let mut ends = Ends::default();
     for part in paths.chunks(500) {
-        let made = |path: &PathBuf| Made::brought(fs::read(path).expect("a file"));
+        let made = |path: &PathBuf| Made {
+            bytes: fs::read(path).expect("a file"),
+        };
         let logs: Vec<Made> = part.iter().map(made).collect();
         let texts = played.batch("a file", &logs, 500);
         if played.failed {

@@ -23,12 +23,11 @@ class-of-follow-up-requires c κs = search needs
 
 count-class-requires : tie.Need-count-class-requires
 count-class-requires c κs =
-    let told = c .before .before .before .before in
-    let s = told .before .before .before .before .before in (
+    let s = c .before .before .before .before .before .before .before .before .before .before in (
       s .pre .4,
       found-ranged _ (hashOf (s .args .secret)) (numberHash (s .args .secret)) (s .args .ring) (now (s .args .keys)) (now (s .args .slots)) _ (now (s .args .links)) _ _ _ _
-          (c .before .before .class-of-follow-up .ensures),
-      subst offsetInRange (sym (toZ-ofZ w32 (s .args .told .offset) (record { sfits = told .struct-told .given .1 .1 .1 .1 .1 .0 .1 }))) (s .pre .5),
+          (c .before .before .before .class-of-follow-up .ensures),
+      subst offsetInRange (sym (toZ-ofZ w32 (s .args .told .offset) (record { sfits = c .struct-told2 .given .1 .1 .1 .1 .1 .0 .1 }))) (s .pre .5),
     )
 
 returns : tie.Need-returns
@@ -41,11 +40,10 @@ same-length c = search needs
 
 returns-2 : tie.Need-returns-2
 returns-2 c =
-    let told = c .before .before .before .before .before in
-    let s = told .before .before .before .before .before in
+    let s = c .before .before .before .before .before .before .before .before .before .before .before in
     follow-told _ (hashOf (s .args .secret)) (numberHash (s .args .secret)) (now (s .args .ledger)) (s .args .ring) (now (s .args .keys)) (now (s .args .slots)) (now (s .args .links)) (s .args .told) _ _ _ _ _
-    (told .before .before .follow-up .given .1) (c .before .before .before .class-of-follow-up .ensures)
-    (toZ-ofZ w32 (s .args .told .offset) (record { sfits = told .struct-told .given .1 .1 .1 .1 .1 .0 .1 })) (c .count-class .ensures)
+    (c .before .before .before .before .before .before .before .before .follow-up .given .1) (c .before .before .before .before .class-of-follow-up .ensures)
+    (toZ-ofZ w32 (s .args .told .offset) (record { sfits = c .before .struct-told2 .given .1 .1 .1 .1 .1 .0 .1 })) (c .count-class .ensures)
 
 pub count-follow-up-spec : {M : Type 1} → statement M
 count-follow-up-spec =

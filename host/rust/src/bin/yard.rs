@@ -124,21 +124,16 @@ impl Host {
 
     fn observed(&mut self, reply: Reply, packet: Packet, ordinal: Option<u32>) {
         let (sequence, timestamp) = reply.before;
-        let mut observation = Observation {
+        let observation = Observation {
             t4: Some(START * 1_000_000_000 + reply.arrives as i64),
             format: Format::Ptp,
             reference: START + (reply.arrives / 1_000_000_000) as i64,
             ordinal,
             counters: Some(reply.counters),
-            follow_up: Some(FollowUp { sequence, timestamp, unknown_mode: false, converted_t3: None }),
+            follow_up: Some(FollowUp { sequence, timestamp, unknown_mode: false }),
             estimates: Some((self.estimate.0, self.estimate.0)),
             ..Observation::of(reply.key, reply.arrives - packet.time)
         };
-        if let (Ok(Some(_)), Some(follow_up)) = (self.link.lookup(&observation), &mut observation.follow_up) {
-            // Both clocks of this link are PTP of one era; a real host unfolds the timestamp around what the lookup shows.
-            let (seconds, rest) = (timestamp >> 32, timestamp & 0xffff_ffff);
-            follow_up.converted_t3 = Some((seconds * 1_000_000_000 + rest) as i64);
-        }
         self.log.observe(&observation);
         let result = self.link.observe(&observation);
         self.count(result);
