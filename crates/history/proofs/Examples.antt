@@ -14,8 +14,7 @@ use Rattle.calls.specs.declared.Ordinal.the-variants.{Absent as NoOrdinal, Numb
 use Rattle.calls.specs.declared.CounterPoint.{CounterPoint}
 use Rattle.calls.specs.declared.Counters.{Counters}
 use Rattle.calls.specs.declared.Counters.the-variants.{Absent as NoCounters, Point}
-use Rattle.calls.specs.declared.Time.{Time}
-use Rattle.calls.specs.declared.Time.the-variants.{Absent as NoTime, Nanoseconds}
+use Rattle.calls.specs.declared.Time.the-variants.{Nanoseconds}
 use Rattle.calls.specs.declared.FollowUpTelemetry.{FollowUpTelemetry}
 use Rattle.calls.specs.declared.FollowUp.{FollowUp}
 use Rattle.calls.specs.declared.FollowUp.the-variants.{Absent as NoFollowUp, Telemetry}
@@ -202,6 +201,11 @@ is-ambiguous-own = refl
 is-unmatched : classAfter (followUp 99 1) one ≡ unmatched
 unfolding converted secondNear followClass slotAt events replyClass lastAccepted held ready afterReply accepted rememberings distinct without hasKey has
 is-unmatched = refl
+
+-- an unavailable one leaves its slot uncorrected, for a later one to match
+stays-open : classAfter (followUp 11 800) (observe (key 1 12 6) NoCounters (Telemetry (followUp 11 1000000000)) ∷ accept (key 1 12 6) NoPacket ∷ one) ≡ matched
+unfolding converted secondNear followClass slotAt events replyClass lastAccepted held ready afterReply accepted rememberings distinct without hasKey has
+stays-open = refl
 
 -- matched once, its slot is corrected
 abbrev pub corrected : List Call
