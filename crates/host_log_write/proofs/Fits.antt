@@ -71,18 +71,21 @@ module _ (ws : List ℕ) (h : (i : ℕ) → U32 (word ws i)) where
 
   pub observe-fits : EntryFits (observeTold ws)
   unfolding observationAt
-  observe-fits = (record {
-    key = record { sender = h 12; reflector = h 13; t3 = double-fits 0 };
-    rtt = double-fits 2;
-    t4 = time-fits (flag 1 (flagsAt ws)) (double ws 4) (double-fits 4);
-    reference = toZ-fits w64 (double ws 6) (record { fits = double-fits 6 });
-    offset = toZ-fits w32 (word ws 19) (record { fits = h 19 });
-    ordinal = ordinal-fits (flag 2 (flagsAt ws)) (word ws 14) (h 14);
-    counters = counters-fit (flag 4 (flagsAt ws)) (word ws 15) (word ws 16) (word ws 17) (h 15) (h 16) (h 17);
-    follow = follow-fits (flag 8 (flagsAt ws)) (flag 128 (flagsAt ws)) (word ws 18) (double ws 10) (h 18)
-        (double-fits 10);
-    quality = estimates-fit (flag 32 (flagsAt ws)) (word ws 20 % 65536) (word ws 20 / 65536);
-  }, converted-fits (observationAt ws .follow))
+  observe-fits = (
+    record {
+      key = record { sender = h 12; reflector = h 13; t3 = double-fits 0 };
+      rtt = double-fits 2;
+      t4 = time-fits (flag 1 (flagsAt ws)) (double ws 4) (double-fits 4);
+      reference = toZ-fits w64 (double ws 6) (record { fits = double-fits 6 });
+      offset = toZ-fits w32 (word ws 19) (record { fits = h 19 });
+      ordinal = ordinal-fits (flag 2 (flagsAt ws)) (word ws 14) (h 14);
+      counters = counters-fit (flag 4 (flagsAt ws)) (word ws 15) (word ws 16) (word ws 17) (h 15) (h 16) (h 17);
+      follow = follow-fits (flag 8 (flagsAt ws)) (flag 128 (flagsAt ws)) (word ws 18) (double ws 10) (h 18)
+          (double-fits 10);
+      quality = estimates-fit (flag 32 (flagsAt ws)) (word ws 20 % 65536) (word ws 20 / 65536);
+    },
+    converted-fits (observationAt ws .follow),
+  )
 
 pub advance-fits : (time : ℕ) → U64 time → EntryFits (advanceTold time)
 advance-fits time h = h

@@ -7,6 +7,10 @@ use ambrulicciu::{FollowUp, Format, Key, Link, Observation, Packet};
 
 /// Words of the ledger: the delays of follow-ups.
 const FOLLOW_DELAYS: usize = 50;
+/// Words of the hash: equal ones would put many keys into one chain.
+const SECRET: [u32; 8] = [
+    2654435761, 2246822519, 3266489917, 668265263, 374761393, 2166136261, 16777619, 2747636419,
+];
 const ERA: i64 = 1 << 32;
 const HALF: i64 = 1 << 31;
 const BILLION: i128 = 1_000_000_000;
@@ -117,7 +121,7 @@ fn edges(reference: i64, offset: i32) -> impl Iterator<Item = (bool, u64)> {
 /// Every edge with every edge, then `count` random ones. A timestamp of 0 is no timestamp: the class comes before the conversion.
 pub fn play(seed: u64, count: u64) -> bool {
     let mut port = Port {
-        link: Link::new(1, &[7; 8]),
+        link: Link::new(1, &SECRET),
         number: 0,
     };
     let mut counted = Counted::default();
@@ -128,7 +132,7 @@ pub fn play(seed: u64, count: u64) -> bool {
             all += 1;
             // A link serves 2^32 - 1 calls.
             if all % 500_000_000 == 0 {
-                port.link = Link::new(1, &[7; 8]);
+                port.link = Link::new(1, &SECRET);
             }
         }
     };

@@ -46,8 +46,7 @@ count-direct-requires c κs =
 
 count-follow-up-requires : tie.Need-count-follow-up-requires
 count-follow-up-requires c κs =
-    let s = c .before .before .before .before .before .before .before .before .before .before .before .before .before .before .before .before .before .before .before in
-    (
+    let s = c .before .before .before .before .before .before .before .before .before .before .before .before .before .before .before .before .before .before .before in (
       s .pre .keys-size,
       s .pre .slots-size,
       c .before .before .before .before .before .before .count-direct .kept .1 .1 .0 ∙ s .pre .links-size,

@@ -45,8 +45,8 @@ returns-3 c =
     let bytes = c .before .before .before .before .before .before .before .before .before .args .bytes .now in
     let flags = c .before .before .before .before .before .before .u8-at2 .ensures in
     (λ i. entry.Observe
-        ((c .observe .ensures ∙ ap (λ (f : ℕ). observeAt f bytes) flags) i)
-        ((c .before .time .ensures ∙ ap (λ (b : Bool). timeBy b (numberAt 3 bytes 76)) (c .before .before .flag-set .ensures) ∙ ap (λ (f : ℕ). convertedAt f bytes) flags) i))
+    ((c .observe .ensures ∙ ap (λ (f : ℕ). observeAt f bytes) flags) i)
+    ((c .before .time .ensures ∙ ap (λ (b : Bool). timeBy b (numberAt 3 bytes 76)) (c .before .before .flag-set .ensures) ∙ ap (λ (f : ℕ). convertedAt f bytes) flags) i))
     ∙ kind-2 bytes (sym (c .before .before .before .before .before .before .before .u8-at .ensures) ∙ c .before .before .before .if3 .taken)
 
 u64-at-requires : tie.Need-u64-at-requires
