@@ -82,10 +82,11 @@ pub struct ReplyObservation {
     pub quality: Estimates,
 }
 
-// What `sent` is told.
+// What `sent` is told. Train 0 is none.
 pub struct SentProbe {
     pub sequence: u32,
     pub ordinal: u32,
+    pub train: u32,
     pub packet: PendingPacket,
 }
 

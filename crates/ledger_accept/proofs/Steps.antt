@@ -34,18 +34,18 @@ use Rattle.ledger_accept.specs.Served.{servedAs}
 -- ---- the probe
 
 module _ (N : ℕ) (byKey : ReplyKey → ℕ) (byNumber : ℕ → ℕ) (r : Rooms) (slot : ℕ) (a : Reply) where
-  pub ready-held : slot < N → outcome (r .rows) (r .links) (record { ring = r .ring; slot = slot; evicted = false }) ≡ readied N byKey byNumber r slot (a .key) (a .pending)
+  pub ready-held : slot < N → outcome (r .rows) (r .links) (record { ring = r .ring; slot = slot; evicted = false; lost = false }) ≡ readied N byKey byNumber r slot (a .key) (a .pending)
   unfolding readied
   ready-held h = rw (lt-ltb slot N h)
 
-  new-ready : N ≤ slot → pushed N byNumber r (unanswered (a .key .sender) (packetAfter (a .pending) noPacket) ordinal.Absent) ≡ readied N byKey byNumber r slot (a .key) (a .pending)
+  new-ready : N ≤ slot → pushed N byNumber r (unanswered (a .key .sender) (packetAfter (a .pending) noPacket) ordinal.Absent 0) ≡ readied N byKey byNumber r slot (a .key) (a .pending)
   unfolding readied
   new-ready h = rw (le-ltb slot N h)
 
   pub ready-new : (packet : PendingPacket) (probe : Probe) (o : Outcome) → N ≤ slot → packet ≡ packetAfter (a .pending) noPacket
-      → probe ≡ unanswered (a .key .sender) packet ordinal.Absent → o ≡ pushed N byNumber r probe → o ≡ readied N byKey byNumber r slot (a .key) (a .pending)
+      → probe ≡ unanswered (a .key .sender) packet ordinal.Absent 0 → o ≡ pushed N byNumber r probe → o ≡ readied N byKey byNumber r slot (a .key) (a .pending)
   ready-new packet probe o h e f g =
-      g ∙ ap (pushed N byNumber r) (f ∙ ap (λ (x : PendingPacket). unanswered (a .key .sender) x ordinal.Absent) e) ∙ new-ready h
+      g ∙ ap (pushed N byNumber r) (f ∙ ap (λ (x : PendingPacket). unanswered (a .key .sender) x ordinal.Absent 0) e) ∙ new-ready h
 
 -- what one reply more leaves, and what it answers
 module _ (rows : List (List ℕ)) (slot : ℕ) (p : Pending) (probe after : Probe) (e : probe ≡ probeOf (getD rows slot [])) (f : after ≡ afterReply p probe) where
@@ -71,14 +71,14 @@ module _ (N : ℕ) (l : Ledger) (secret : List ℕ) (same : secret ≡ hashWords
       → before ≡ probeAt (o .rows) (o .answer .slot) .replies
       → context ≡ contextOf (afterReply (a .pending) (probeAt (o .rows) (o .answer .slot)))
       → rows ≡ repliedRows (o .rows) (o .answer .slot) (a .pending)
-      → counts ≡ afterUnique before (l .copies) (isPending (a .pending)) (a .key .sender) (a .key .reflector) (o .answer .evicted) (leb N (l .tables .keys .len)) (l .counts .replies)
+      → counts ≡ afterUnique before (l .copies) (isPending (a .pending)) (a .key .sender) (a .key .reflector) (o .answer .evicted) (o .answer .lost) (leb N (l .tables .keys .len)) (l .counts .replies)
       → t ≡ acceptedKey N (hashOf secret) (numberHash secret) (tableOf keys slots (o .links) (l .tables .keys)) (a .key)
       → next ≡ ledgerUnique l (t .ring) (o .answer .ring) counts
       → acceptResult (accepts.Served next context) (t .keys) (t .slots) rows (t .links) ≡ servedAs (uniqueIn N byKey byNumber l keys slots o a)
   unfolding uniqueIn
   unique-is o before context rows counts t next b c d e f g =
       let table = f ∙ ap (λ (s : List ℕ). acceptedKey N (hashOf s) (numberHash s) (tableOf keys slots (o .links) (l .tables .keys)) (a .key)) same in
-      let sums = e ∙ ap (λ (n : ℕ). afterUnique n (l .copies) (isPending (a .pending)) (a .key .sender) (a .key .reflector) (o .answer .evicted) (leb N (l .tables .keys .len)) (l .counts .replies)) b in
+      let sums = e ∙ ap (λ (n : ℕ). afterUnique n (l .copies) (isPending (a .pending)) (a .key .sender) (a .key .reflector) (o .answer .evicted) (o .answer .lost) (leb N (l .tables .keys .len)) (l .counts .replies)) b in
       let state = g ∙ (λ i. ledgerUnique l (table i .ring) (o .answer .ring) (sums i)) in
       λ i. acceptResult (accepts.Served (state i) (c i)) (table i .keys) (table i .slots) (d i) (table i .links)
 

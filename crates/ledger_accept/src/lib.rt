@@ -116,11 +116,12 @@ fn ready_probe(
             ring,
             slot,
             evicted: false,
+            lost: false,
         };
     }
     let pending = reply.pending;
     let packet = packet_of(pending);
-    let probe = Probe::unanswered(reply.key.sender, packet, Ordinal::Absent);
+    let probe = Probe::unanswered(reply.key.sender, packet, Ordinal::Absent, 0);
     probe_ring::push(probes, links, ring, secret, probe)
 }
 
@@ -142,14 +143,14 @@ fn reply_to(probes: &mut [[u64; 4]], slot: usize, pending: Pending) -> Replied
     let ordinal = after.ordinal;
     Replied {
         before: probe.replies,
-        context: Accepted::Unique(packet, ordinal),
+        context: Accepted::Unique(packet, ordinal, after.train),
     }
 }
 
 // The counts of a unique reply.
-fn unique_counts(ledger: Ledger, before: u16, evicted: bool, reply: Reply) -> Replies
+fn unique_counts(ledger: Ledger, before: u16, evicted: bool, lost: bool, reply: Reply) -> Replies
     requires { ⌜ InBounds (ledger .counts .replies) ⌝ }
-    ensures { λ r. ⌜ r ≡ afterUnique before (ledger .copies) (isPending (reply .pending)) (reply .key .sender) (reply .key .reflector) evicted (leb capacity (ledger .tables .keys .len)) (ledger .counts .replies) ⌝ }
+    ensures { λ r. ⌜ r ≡ afterUnique before (ledger .copies) (isPending (reply .pending)) (reply .key .sender) (reply .key .reflector) evicted lost (leb capacity (ledger .tables .keys .len)) (ledger .counts .replies) ⌝ }
 {
     let counts = ledger.counts;
     let replies = counts.replies;
@@ -164,6 +165,7 @@ fn unique_counts(ledger: Ledger, before: u16, evicted: bool, reply: Reply) -> Re
         key.sender,
         key.reflector,
         evicted,
+        lost,
         CAPACITY <= keys.len,
     )
 }
@@ -218,7 +220,7 @@ fn unique_ready(
     let held = ready.ring;
     let replied = reply_to(probes, ready.slot, pending);
     let context = replied.context;
-    let counts = unique_counts(ledger, replied.before, ready.evicted, reply);
+    let counts = unique_counts(ledger, replied.before, ready.evicted, ready.lost, reply);
     let next = key_ring::accept_key(keys, slots, links, ring, secret, key);
     AcceptAnswer::Served(unique_ledger(ledger, next, held, counts), context)
 }

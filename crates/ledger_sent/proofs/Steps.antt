@@ -44,8 +44,8 @@ module _ (l : Ledger) (probes links : List (List ℕ)) (s : SentProbe) where
   pub remembered-is :
       (words : List ℕ) (kept : Remembered) (probes′ links′ : List (List ℕ)) (replies : Replies) →
       words ≡ wordsOf (l .secret) →
-      outcome probes′ links′ kept ≡ remembered capacity (numberHash words) (rooms probes links (l .tables .probes)) (unanswered (s .sequence) (s .packet) (ordinal.Number (s .ordinal))) →
-      replies ≡ afterSent (l .copies) (kept .evicted) (l .counts .replies) →
+      outcome probes′ links′ kept ≡ remembered capacity (numberHash words) (rooms probes links (l .tables .probes)) (unanswered (s .sequence) (s .packet) (ordinal.Number (s .ordinal)) (s .train)) →
+      replies ≡ afterSent (l .copies) (kept .evicted) (kept .lost) (l .counts .replies) →
       left (next l kept replies) probes′ links′ ≡ sentOn l probes links s
   unfolding sentIn
   remembered-is words kept probes′ links′ replies w e r =

@@ -42,13 +42,22 @@ fn served(
     let ring = tables.probes;
     let packet = probe.packet;
     let ordinal = Ordinal::Number(probe.ordinal);
-    let kept = probe_ring::remember(probes, links, ring, secret, probe.sequence, packet, ordinal);
+    let kept = probe_ring::remember(
+        probes,
+        links,
+        ring,
+        secret,
+        probe.sequence,
+        packet,
+        ordinal,
+        probe.train,
+    );
     let next = kept.ring;
     let before = counts.replies;
     let rtt = counts.rtt;
     let direct = counts.direct;
     let follow = counts.follow;
-    let replies = before.sent(ledger.copies, kept.evicted);
+    let replies = before.sent(ledger.copies, kept.evicted, kept.lost);
     Ledger {
         copies: ledger.copies,
         secret: hash,

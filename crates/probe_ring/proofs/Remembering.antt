@@ -1,26 +1,28 @@
 -- What `remember` and `put` leave, over the held probes as a list; and from an empty ring on, whatever its rooms held.
 -- Assumes nothing.
 use mathlib.Core.Path.{_≡_, refl, sym, ap, _∙_}
-use mathlib.Core.Bool.{true, false, not}
+use mathlib.Core.Bool.{Bool, true, false, not, _&&_}
 use mathlib.Core.Logic.{_≢_}
 use mathlib.Core.List.{List, [], _∷_}
-use Prim.Native.Nat.{ℕ, suc, _+_, _-_, _<_}
+use Prim.Native.Nat.{ℕ, zero, suc, _+_, _-_, _≤_, _<_}
+use native.Mathlib.Nat.{add-zero}
 use native.Mathlib.Omega.{arith}
 use borrow.Author.Tests.{lt-leb}
 use lib.Dec.{eqb, ltb, leb}
 use lib.ListN.{length, getD, take}
 use Rattle.scope.specs.Limits.{capacity}
-use Rattle.chains.specs.Rings.{wrap}
+use Rattle.chains.specs.Rings.{wrap, contents, pushSlot}
 use Rattle.chains.specs.Links.{wordOf, older, Rows}
 use Rattle.chains.specs.Hash.{numberHash}
 use Rattle.chains.proofs.Tests.{Test, holds, fails, lt-test}
 use Rattle.chains.proofs.Walks.{Walked, found, nothing, walked}
+use Rattle.chains.proofs.Places.{wrap-low, slot-full}
 use Rattle.chains.proofs.Contents.{length-contents}
 use Rattle.chains.proofs.Hashes.{number-hash-below}
 use Rattle.probe_ring.specs.declared.Probe.{Probe}
-use Rattle.probe_ring.specs.Row.{sequenceOf, probeOf, ProbeFits}
+use Rattle.probe_ring.specs.Row.{sequenceOf, repliesOf, probeOf, ProbeFits}
 use Rattle.probe_ring.specs.Held as list
-use Rattle.probe_ring.specs.Held.{others, remembering, rememberingAll, once, evicts}
+use Rattle.probe_ring.specs.Held.{others, remembering, rememberingAll, once, evicts, oldest, loses}
 use Rattle.probe_ring.specs.Rooms.{Rooms, rooms, lane, Outcome, roomsAfter, takenOut, closedUp, slotOf, pushed, rememberedAt, remembered, held}
 use Rattle.probe_ring.proofs.Lists.{others-gone, remembering-new, held-are}
 use Rattle.probe_ring.proofs.Laws.{Sound, empty-sound, empty-held, found-sequence, find-is, pushed-held, pushed-sound, pushed-elsewhere, pushed-found}
@@ -33,6 +35,17 @@ taken-len N r slot = refl
 pushed-evicts : (N : ℕ) (hash : ℕ → ℕ) (r : Rooms) (p : Probe) → pushed N hash r p .answer .evicted ≡ leb N (r .ring .len)
 unfolding pushed
 pushed-evicts N hash r p = refl
+
+pushed-loses : (N : ℕ) (hash : ℕ → ℕ) (r : Rooms) (p : Probe)
+    → pushed N hash r p .answer .lost ≡ (leb N (r .ring .len) && eqb (repliesOf (getD (r .rows) (pushSlot N (r .ring)) [])) 0)
+unfolding pushed
+pushed-loses N hash r p = refl
+
+-- the oldest entry stands at the head
+oldest-contents : (N : ℕ) (at : ℕ → Probe) (head n : ℕ) (p : Probe) → oldest p (contents N at head (suc n)) ≡ at (wrap N (head + 0))
+unfolding oldest contents
+oldest-contents N at head zero p = refl
+oldest-contents N at head (suc n) p = oldest-contents N at head n (at (wrap N (head + suc n)))
 
 -- the place of a slot that is found
 pub record Place (N head len slot : ℕ) : Type 0 where
@@ -54,6 +67,25 @@ module _ (N : ℕ) (hash : ℕ → ℕ) (r : Rooms) (sound : Sound N hash r) whe
   held-length : length (held N r) ≡ r .ring .len
   unfolding held
   held-length = length-contents N (λ slot. probeOf (getD (r .rows) slot [])) (r .ring .head) (r .ring .len)
+
+  -- where N are held, the push goes over the oldest
+  oldest-is : (p : Probe) → N ≤ r .ring .len → repliesOf (getD (r .rows) (pushSlot N (r .ring)) []) ≡ oldest p (held N r) .replies
+  unfolding held probeOf
+  oldest-is p l = go (r .ring .len) (omega (arith, sound .ring-fits .head-in, l))
+    where
+      go : (n : ℕ) → 0 < n → repliesOf (getD (r .rows) (pushSlot N (r .ring)) []) ≡ oldest p (contents N (λ slot. probeOf (getD (r .rows) slot [])) (r .ring .head) n) .replies
+      go zero m = absurd (omega (arith, m))
+      go (suc n) m =
+          let at-head : wrap N (r .ring .head + 0) ≡ r .ring .head = rw (add-zero (r .ring .head)) (wrap-low N (r .ring .head) (sound .ring-fits .head-in)) in
+          rw (oldest-contents N (λ slot. probeOf (getD (r .rows) slot [])) (r .ring .head) n p, at-head, ← slot-full N (r .ring) l)
+
+  lost-is : (p : Probe) → (leb N (r .ring .len) && eqb (repliesOf (getD (r .rows) (pushSlot N (r .ring)) [])) 0) ≡ (leb N (r .ring .len) && eqb (oldest p (held N r) .replies) 0)
+  lost-is p = go (lt-test (r .ring .len) N)
+    where
+      go : Test (r .ring .len < N) (ltb (r .ring .len) N)
+          → (leb N (r .ring .len) && eqb (repliesOf (getD (r .rows) (pushSlot N (r .ring)) [])) 0) ≡ (leb N (r .ring .len) && eqb (oldest p (held N r) .replies) 0)
+      go (holds l t) = rw (lt-leb N (r .ring .len) l)
+      go (fails l t) = rw (oldest-is p (omega arith))
 
   -- what taking out the probe of a found sequence leaves
   record Without (s : ℕ) (rest : Rooms) : Type 0 where
@@ -82,23 +114,25 @@ module _ (N : ℕ) (hash : ℕ → ℕ) (r : Rooms) (sound : Sound N hash r) whe
     pub after-held : held N (roomsAfter o) ≡ remembering N p (held N r)
     pub after-found : slotOf N hash (roomsAfter o) (p .sequence) ≡ o .answer .slot
     pub after-evicted : o .answer .evicted ≡ evicts N p (held N r)
+    pub after-lost : o .answer .lost ≡ loses N p (held N r)
     pub after-elsewhere : (i j : ℕ) → j ≢ lane → j ≢ lane + 1 → wordOf (o .links) i j ≡ wordOf (r .links) i j
 
   module _ (p : Probe) (fits : ProbeFits p) where
     -- one that is not held
     pub remembers-new : list.holds (held N r) (p .sequence) ≡ false → Remembers p (pushed N hash r p)
-    unfolding evicts
+    unfolding evicts loses
     remembers-new absent = record {
       after-sound = pushed-sound N hash r sound p fits absent;
       after-held = pushed-held N hash r sound p fits ∙ sym (remembering-new N p (held N r) absent);
       after-found = pushed-found N hash r sound p fits;
       after-evicted = pushed-evicts N hash r p ∙ sym (rw (absent, held-length));
+      after-lost = pushed-loses N hash r p ∙ lost-is p ∙ sym (rw (absent, held-length));
       after-elsewhere = pushed-elsewhere N hash r sound p fits;
     }
 
     remembers-held : (l : slotOf N hash r (p .sequence) < N) → list.holds (held N r) (p .sequence) ≡ true
         → Remembers p (pushed N hash (takenOut N r (slotOf N hash r (p .sequence))) p)
-    unfolding evicts remembering
+    unfolding evicts loses remembering
     remembers-held l there = go (takenOut N r (slotOf N hash r (p .sequence))) (without (p .sequence) l)
       where
         go : (rest : Rooms) → Without (p .sequence) rest → Remembers p (pushed N hash rest p)
@@ -109,6 +143,7 @@ module _ (N : ℕ) (hash : ℕ → ℕ) (r : Rooms) (sound : Sound N hash r) whe
               after-held = pushed-held N hash rest (w .rest-sound) p fits ∙ rw (w .rest-held);
               after-found = pushed-found N hash rest (w .rest-sound) p fits;
               after-evicted = pushed-evicts N hash rest p ∙ lt-leb N (rest .ring .len) (omega (arith, w .rest-len, sound .ring-fits .len-in)) ∙ sym (rw there);
+              after-lost = pushed-loses N hash rest p ∙ rw (lt-leb N (rest .ring .len) (omega (arith, w .rest-len, sound .ring-fits .len-in)), there);
               after-elsewhere = λ i j a b. pushed-elsewhere N hash rest (w .rest-sound) p fits i j a b ∙ w .rest-elsewhere i j a b;
             }
 

@@ -1,33 +1,58 @@
 -- A probe survives its row: what is written is read back.
 -- Assumes nothing.
 use mathlib.Core.Path.{_≡_, refl, _∙_}
-use Prim.Native.Nat.{_+_, _-_, _/_, _%_, _^_}
+use Prim.Native.Nat.{ℕ, _+_, _*_, _/_, _%_, _^_, _<_}
 use native.Mathlib.Omega.{arith}
 use native.Mathlib.Nat.{mod-eq-of-lt, add-mul-mod-self-right, add-mul-div-right, div-eq-of-lt, zero-add}
 use lib.ListN.{getD}
 use Rattle.calls.specs.declared.Ordinal.{Ordinal}
 use Rattle.calls.specs.declared.Ordinal.the-variants.{Absent, Number}
-use Rattle.chains.proofs.Tests.{eq-false}
 use Rattle.probe_ring.specs.declared.Probe.{Probe}
-use Rattle.probe_ring.specs.Row.{ordinalWord, ordinalOf, wordsOf, sequenceOf, probeOf, OrdinalFits, ProbeFits}
+use Rattle.probe_ring.specs.Row.{knownOf, numberOf, ordinalOf, wordsOf, sequenceOf, repliesOf, probeOf, OrdinalFits, ProbeFits}
 
-ordinal-back : (o : Ordinal) → OrdinalFits o → ordinalOf (ordinalWord o) ≡ o
+ordinal-back : (o : Ordinal) → ordinalOf (knownOf o) (numberOf o) ≡ o
 unfolding ordinalOf
-ordinal-back Absent f = refl
-ordinal-back (Number n) f =
-    let back : n + 1 - 1 ≡ n = omega arith in
-    rw (eq-false (n + 1) 0 (λ e. omega (arith, e)), back, mod-eq-of-lt f)
+ordinal-back Absent = refl
+ordinal-back (Number n) = refl
+
+number-in : (o : Ordinal) → OrdinalFits o → numberOf o < 2 ^ 32
+number-in Absent f = omega arith
+number-in (Number n) f = f
+
+-- two numbers in one word, the first below its size
+lower-part : (a b z : ℕ) → a < z → (a + b * z) % z ≡ a
+lower-part a b z l = add-mul-mod-self-right a b z ∙ mod-eq-of-lt l
+
+upper-part : (a b z : ℕ) → a < z → (a + b * z) / z ≡ b
+upper-part a b z l = rw (add-mul-div-right a b {z = z} (omega (arith, l)), div-eq-of-lt l, zero-add b)
 
 module _ (p : Probe) (f : ProbeFits p) where
   pub sequence-back : sequenceOf (wordsOf p) ≡ p .sequence
   unfolding wordsOf
-  sequence-back = add-mul-mod-self-right (p .sequence) (p .replies) 4294967296 ∙ mod-eq-of-lt (f .sequence-in)
+  sequence-back = lower-part (p .sequence) (p .replies + knownOf (p .ordinal) * 65536) 4294967296 (f .sequence-in)
 
-  replies-back : getD (wordsOf p) 0 0 / 2 ^ 32 % 2 ^ 16 ≡ p .replies
+  above-sequence : getD (wordsOf p) 0 0 / 2 ^ 32 ≡ p .replies + knownOf (p .ordinal) * 65536
   unfolding wordsOf
-  replies-back = rw (add-mul-div-right (p .sequence) (p .replies) {z = 4294967296} (omega arith), div-eq-of-lt (f .sequence-in), zero-add (p .replies)) (mod-eq-of-lt (f .replies-in))
+  above-sequence = upper-part (p .sequence) (p .replies + knownOf (p .ordinal) * 65536) 4294967296 (f .sequence-in)
+
+  replies-back : repliesOf (wordsOf p) ≡ p .replies
+  replies-back = rw above-sequence (lower-part (p .replies) (knownOf (p .ordinal)) 65536 (f .replies-in))
+
+  known-back : getD (wordsOf p) 0 0 / 2 ^ 32 / 2 ^ 16 ≡ knownOf (p .ordinal)
+  known-back = rw above-sequence (upper-part (p .replies) (knownOf (p .ordinal)) 65536 (f .replies-in))
+
+  number-back : getD (wordsOf p) 1 0 % 2 ^ 32 ≡ numberOf (p .ordinal)
+  unfolding wordsOf
+  number-back = lower-part (numberOf (p .ordinal)) (p .train) 4294967296 (number-in (p .ordinal) (f .ordinal-in))
+
+  train-back : getD (wordsOf p) 1 0 / 2 ^ 32 % 2 ^ 32 ≡ p .train
+  unfolding wordsOf
+  train-back = rw (upper-part (numberOf (p .ordinal)) (p .train) 4294967296 (number-in (p .ordinal) (f .ordinal-in))) (mod-eq-of-lt (f .train-in))
+
+  its-ordinal : ordinalOf (getD (wordsOf p) 0 0 / 2 ^ 32 / 2 ^ 16) (getD (wordsOf p) 1 0 % 2 ^ 32) ≡ p .ordinal
+  its-ordinal = rw (known-back, number-back) (ordinal-back (p .ordinal))
 
   -- EVERY PROBE SURVIVES ITS ROW.
   pub probe-back : probeOf (wordsOf p) ≡ p
   unfolding probeOf wordsOf
-  probe-back = λ i. record { sequence = sequence-back i; replies = replies-back i; ordinal = ordinal-back (p .ordinal) (f .ordinal-in) i; packet = p .packet }
+  probe-back = λ i. record { sequence = sequence-back i; replies = replies-back i; ordinal = its-ordinal i; train = train-back i; packet = p .packet }

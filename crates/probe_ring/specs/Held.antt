@@ -32,6 +32,15 @@ remembering N p ps = take N (p ∷ others (p .sequence) ps)
 unfoldable pub evicts : ℕ → Probe → List Probe → Bool
 evicts N p ps = not (holds ps (p .sequence)) && leb N (length ps)
 
+-- the oldest of them, p where there is none
+unfoldable pub oldest : Probe → List Probe → Probe
+oldest p [] = p
+oldest p (q ∷ qs) = oldest q qs
+
+-- whether the one that goes for it has no reply
+unfoldable pub loses : ℕ → Probe → List Probe → Bool
+loses N p ps = evicts N p ps && eqb (oldest p ps .replies) 0
+
 -- another row for the probe of the same sequence
 unfoldable pub replacing : Probe → List Probe → List Probe
 replacing p [] = []

@@ -1,7 +1,7 @@
 -- The held probes in their two lent rooms, on any contents: how one is found, remembered, read and written back.
 -- N is how many are held at most, and `hash` says which chain is walked: it decides nothing.
 -- Assumes nothing.
-use mathlib.Core.Bool.{cond}
+use mathlib.Core.Bool.{_&&_, cond}
 use mathlib.Core.List.{List, [], map}
 use Prim.Native.Nat.{ℕ, zero, suc, _+_, _-_, _%_}
 use lib.Dec.{eqb, ltb, leb}
@@ -12,7 +12,7 @@ use Rattle.chains.specs.Walk.{walk, placeOf}
 use Rattle.chains.specs.Links.{setWord, newest, older, linked}
 use Rattle.probe_ring.specs.declared.Probe.{Probe}
 use Rattle.probe_ring.specs.declared.Remembered.{Remembered}
-use Rattle.probe_ring.specs.Row.{sequenceOf, wordsOf, probeOf}
+use Rattle.probe_ring.specs.Row.{sequenceOf, repliesOf, wordsOf, probeOf}
 
 -- the rows of the probes, the links of their chains, and which of the rows are held
 pub record Rooms : Type 0 where
@@ -93,11 +93,16 @@ module _ (N : ℕ) (hash : ℕ → ℕ) where
       walk N (λ slot. eqb s (sequenceOf (getD (r .rows) slot []))) (older lane (r .links)) (r .ring .head) (r .ring .len)
       (newest lane (r .links) (hash s))
 
-  -- a probe as the newest; where N are held, the oldest goes
+  -- a probe as the newest; where N are held, the oldest goes, lost where it has no reply
   unfoldable pub pushed : Rooms → Probe → Outcome
   pushed r p =
       outcome (set (r .rows) (pushSlot N (r .ring)) (wordsOf p)) (linked lane (r .links) (hash (p .sequence)) (pushSlot N (r .ring)))
-      (record { ring = afterPush N (r .ring); slot = pushSlot N (r .ring); evicted = leb N (r .ring .len) })
+      (record {
+        ring = afterPush N (r .ring);
+        slot = pushSlot N (r .ring);
+        evicted = leb N (r .ring .len);
+        lost = leb N (r .ring .len) && eqb (repliesOf (getD (r .rows) (pushSlot N (r .ring)) [])) 0;
+      })
 
   -- a held one is taken out first, and nothing is evicted for it
   unfoldable pub rememberedAt : Rooms → Probe → ℕ → Outcome

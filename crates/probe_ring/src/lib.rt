@@ -8,7 +8,7 @@ ghost use Rattle.scope.specs.Limits.{capacity};
 ghost use Rattle.chains.specs.Rings.{RingFits};
 ghost use Rattle.chains.specs.Hash.{numberHash};
 ghost use Rattle.chains.specs.Walk.{placeOf};
-ghost use Rattle.probe_ring.specs.Row.{oneMore, packetAfter, unanswered, afterReply, isAnswered, ordinalWord, ordinalOf, wordsOf, probeOf};
+ghost use Rattle.probe_ring.specs.Row.{oneMore, packetAfter, unanswered, afterReply, isAnswered, knownOf, numberOf, ordinalOf, repliesOf, wordsOf, probeOf};
 ghost use Rattle.probe_ring.specs.Rooms.{rooms, outcome, slotOf, pushed, remembered, takenOut, moved, moveRow, moveLink, mendedLink, mendNewest};
 use calls::Ordinal;
 use calls::Pending;
@@ -25,19 +25,21 @@ use scope::CAPACITY;
 // The lane of `links` that is the probes' own.
 pub const LANE: usize = 4;
 
-// `Probe` of the original, with its sequence. It is answered where it has replies.
+// `Probe` of the original, with its sequence and its train (document 02, Q-3). It is answered where it has replies.
 pub struct Probe {
     pub sequence: u32,
     pub replies: u16,
     pub ordinal: Ordinal,
+    pub train: u32,
     pub packet: PendingPacket,
 }
 
-// What `remember` answers: the ring then, the slot of the probe, and whether the oldest went for it.
+// What `remember` answers: the ring then, the slot of the probe, whether the oldest went for it, and whether that had no reply.
 pub struct Remembered {
     pub ring: Ring,
     pub slot: usize,
     pub evicted: bool,
+    pub lost: bool,
 }
 
 fn wide(x: u32) -> u64
@@ -82,22 +84,31 @@ fn one_more(replies: u16) -> u16
     }
 }
 
-fn ordinal_word(ordinal: Ordinal) -> u64
-    ensures { λ q. ⌜ q ≡ ordinalWord ordinal ⌝ }
+fn known_of(ordinal: Ordinal) -> u64
+    ensures { λ q. ⌜ (q ≡ knownOf ordinal) × (q < 2) ⌝ }
 {
     match ordinal {
         Ordinal::Absent => 0,
-        Ordinal::Number(n) => wide(n) + 1,
+        Ordinal::Number(_) => 1,
     }
 }
 
-fn ordinal_of(word: u64) -> Ordinal
-    ensures { λ q. ⌜ q ≡ ordinalOf word ⌝ }
+fn number_of(ordinal: Ordinal) -> u64
+    ensures { λ q. ⌜ (q ≡ numberOf ordinal) × (q < 4294967296) ⌝ }
 {
-    if word == 0 {
+    match ordinal {
+        Ordinal::Absent => 0,
+        Ordinal::Number(n) => n as u64,
+    }
+}
+
+fn ordinal_of(known: u64, number: u32) -> Ordinal
+    ensures { λ q. ⌜ q ≡ ordinalOf known number ⌝ }
+{
+    if known == 0 {
         Ordinal::Absent
     } else {
-        Ordinal::Number(low(word - 1))
+        Ordinal::Number(number)
     }
 }
 
@@ -112,13 +123,14 @@ fn packet_after(pending: Pending, stored: PendingPacket) -> PendingPacket
 
 impl Probe {
     // A probe just remembered.
-    pub fn unanswered(sequence: u32, packet: PendingPacket, ordinal: Ordinal) -> Probe
-        ensures { λ q. ⌜ q ≡ unanswered sequence packet ordinal ⌝ }
+    pub fn unanswered(sequence: u32, packet: PendingPacket, ordinal: Ordinal, train: u32) -> Probe
+        ensures { λ q. ⌜ q ≡ unanswered sequence packet ordinal train ⌝ }
     {
         Probe {
             sequence: sequence,
             replies: 0,
             ordinal: ordinal,
+            train: train,
             packet: packet,
         }
     }
@@ -141,6 +153,7 @@ impl Probe {
             sequence: self.sequence,
             replies: replies,
             ordinal: ordinal,
+            train: self.train,
             packet: packet,
         }
     }
@@ -149,9 +162,10 @@ impl Probe {
     pub fn words(self) -> [u64; 4]
         ensures { λ q. ⌜ q ≡ wordsOf self ⌝ }
     {
-        let first = wide(self.sequence) + wide_count(self.replies) * 4294967296;
         let ordinal = self.ordinal;
-        let second = ordinal_word(ordinal);
+        let first = wide(self.sequence)
+            + (wide_count(self.replies) + known_of(ordinal) * 65536) * 4294967296;
+        let second = number_of(ordinal) + wide(self.train) * 4294967296;
         [first, second, self.packet.time, self.packet.tag]
     }
 
@@ -161,7 +175,8 @@ impl Probe {
     {
         let sequence = low(words[0]);
         let replies = count_of(words[0]);
-        let ordinal = ordinal_of(words[1]);
+        let ordinal = ordinal_of(words[0] / 4294967296 / 65536, low(words[1]));
+        let train = low(words[1] / 4294967296);
         let packet = PendingPacket {
             time: words[2],
             tag: words[3],
@@ -170,6 +185,7 @@ impl Probe {
             sequence: sequence,
             replies: replies,
             ordinal: ordinal,
+            train: train,
             packet: packet,
         }
     }
@@ -342,6 +358,7 @@ pub fn push(
     let len = ring.len;
     let slot = push_slot(ring);
     let hash = number_hash(secret, probe.sequence);
+    let before = count_of(probes[slot][0]);
     put(probes, slot, probe);
     link(links, LANE, hash, slot);
     let next = chains::pushed(ring);
@@ -349,6 +366,7 @@ pub fn push(
         ring: next,
         slot: slot,
         evicted: CAPACITY <= len,
+        lost: (CAPACITY <= len) & (before == 0),
     }
 }
 
@@ -361,11 +379,12 @@ pub fn remember(
     sequence: u32,
     packet: PendingPacket,
     ordinal: Ordinal,
+    train: u32,
 ) -> Remembered
     requires { ⌜ (length (now probes) ≡ capacity) × (length (now links) ≡ capacity) × RingFits capacity ring ⌝ }
-    ensures { λ q. ⌜ (outcome (now (probes .exit)) (now (links .exit)) q ≡ remembered capacity (numberHash secret) (rooms (now (probes .entry)) (now (links .entry)) ring) (unanswered sequence packet ordinal)) × RingFits capacity (q .ring) × (q .slot < capacity) ⌝ }
+    ensures { λ q. ⌜ (outcome (now (probes .exit)) (now (links .exit)) q ≡ remembered capacity (numberHash secret) (rooms (now (probes .entry)) (now (links .entry)) ring) (unanswered sequence packet ordinal train)) × RingFits capacity (q .ring) × (q .slot < capacity) ⌝ }
 {
-    let probe = Probe::unanswered(sequence, packet, ordinal);
+    let probe = Probe::unanswered(sequence, packet, ordinal, train);
     let slot = find(probes, links, ring, secret, sequence);
     if slot < CAPACITY {
         let rest = take_out(probes, links, ring, slot);

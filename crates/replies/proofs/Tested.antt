@@ -45,7 +45,10 @@ numbers-in n e =
     let x = both (fits (n .reordered)) (fits (n .independent)) e in record { reordered = below _ (x .0); independent = below _ (x .1) }
 
 evicted-in : (v : Evicted) → evictedFit v ≡ true → EvictedIn v
-evicted-in v e = let x = both (fits (v .probes)) (fits (v .replies)) e in record { probes = below _ (x .0); replies = below _ (x .1) }
+evicted-in v e =
+    let x = both (fits (v .probes) && fits (v .replies)) (fits (v .unanswered)) e in
+    let y = both (fits (v .probes)) (fits (v .replies)) (x .0) in
+    record { probes = below _ (y .0); replies = below _ (y .1); unanswered = below _ (x .1) }
 
 -- The test holds exactly where every count is in bounds; this way round it is what the served calls need.
 pub in-bounds : (r : Replies) → repliesFit r ≡ true → InBounds r

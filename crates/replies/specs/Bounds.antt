@@ -27,11 +27,11 @@ answersFit a = fits (a .answered) && fits (a .additional) && fits (a .late) && f
 abbrev pub numbersFit : Numbers → Bool
 numbersFit n = fits (n .reordered) && fits (n .independent)
 
--- so are the evicted probes and the evicted keys
+-- so are the evicted probes, the evicted keys and the probes evicted unanswered
 abbrev pub evictedFit : Evicted → Bool
-evictedFit e = fits (e .probes) && fits (e .replies)
+evictedFit e = fits (e .probes) && fits (e .replies) && fits (e .unanswered)
 
--- so are all twelve counts: where one is not, refusal 4 applies
+-- so are all thirteen counts: where one is not, refusal 4 applies
 abbrev pub repliesFit : Replies → Bool
 repliesFit r = totalsFit (r .totals) && answersFit (r .answers) && numbersFit (r .numbers) && evictedFit (r .evicted)
 
@@ -54,12 +54,13 @@ pub record NumbersIn (n : Numbers) : Type 0 where
   pub reordered : n .reordered < countBound
   pub independent : n .independent < countBound
 
--- the same of the evicted probes and the evicted keys
+-- the same of the evicted probes, the evicted keys and the probes evicted unanswered
 pub record EvictedIn (e : Evicted) : Type 0 where
   pub probes : e .probes < countBound
   pub replies : e .replies < countBound
+  pub unanswered : e .unanswered < countBound
 
--- all twelve counts are below 2^63
+-- all thirteen counts are below 2^63
 pub record InBounds (r : Replies) : Type 0 where
   pub totals : TotalsIn (r .totals)
   pub answers : AnswersIn (r .answers)

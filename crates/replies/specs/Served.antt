@@ -66,9 +66,9 @@ numberedBy sender reflector n = record {
   independent = tally (not (eqb reflector sender)) (n .independent);
 }
 
--- how many probes and accepted keys were evicted so far: one more of each that the call evicted
-abbrev pub evictedBy : Bool → Bool → Evicted → Evicted
-evictedBy probe key e = record { probes = tally probe (e .probes); replies = tally key (e .replies) }
+-- how many probes and accepted keys were evicted so far: one more of each that the call evicted; lost: "evicted while unanswered"
+abbrev pub evictedBy : Bool → Bool → Bool → Evicted → Evicted
+evictedBy probe lost key e = record { probes = tally probe (e .probes); replies = tally key (e .replies); unanswered = tally lost (e .unanswered) }
 
 -- ---- the served calls
 
@@ -88,13 +88,13 @@ oneDuplicate t = record { requested = t .requested; unique = t .unique; duplicat
 abbrev pub oneUnknown : Totals → Totals
 oneUnknown t = record { requested = t .requested; unique = t .unique; duplicate = t .duplicate; unknown = t .unknown + 1 }
 
--- `sent`; copies: the ledger's, where 0 has become 1; probe: whether a held probe was evicted
-unfoldable pub afterSent : ℕ → Bool → Replies → Replies
-afterSent copies probe r = record {
+-- `sent`; copies: the ledger's, where 0 has become 1; probe, lost: whether a held probe was evicted, and that without a reply
+unfoldable pub afterSent : ℕ → Bool → Bool → Replies → Replies
+afterSent copies probe lost r = record {
   totals = requestedBy copies (r .totals);
   answers = r .answers;
   numbers = r .numbers;
-  evicted = evictedBy probe false (r .evicted);
+  evicted = evictedBy probe lost false (r .evicted);
 }
 
 -- `accept` of a duplicate: no other count changes
@@ -105,13 +105,13 @@ afterDuplicate r = record { totals = oneDuplicate (r .totals); answers = r .answ
 unfoldable pub afterUnknown : Replies → Replies
 afterUnknown r = record { totals = oneUnknown (r .totals); answers = r .answers; numbers = r .numbers; evicted = r .evicted }
 
--- replies: how many its probe had; probe, key: whether a probe and a key were evicted
-unfoldable pub afterUnique : ℕ → ℕ → Bool → ℕ → ℕ → Bool → Bool → Replies → Replies
-afterUnique replies copies pending sender reflector probe key r = record {
+-- replies: how many its probe had; probe, lost, key: whether a probe was evicted, that without a reply, and a key
+unfoldable pub afterUnique : ℕ → ℕ → Bool → ℕ → ℕ → Bool → Bool → Bool → Replies → Replies
+afterUnique replies copies pending sender reflector probe lost key r = record {
   totals = oneUnique (r .totals);
   answers = answeredBy replies copies pending (r .answers);
   numbers = numberedBy sender reflector (r .numbers);
-  evicted = evictedBy probe key (r .evicted);
+  evicted = evictedBy probe lost key (r .evicted);
 }
 
 -- a probe's replies stay at 65,535: copies are at most that, so no test sees the difference
@@ -134,5 +134,5 @@ freshReplies = record {
   totals = record { requested = 0; unique = 0; duplicate = 0; unknown = 0 };
   answers = record { answered = 0; additional = 0; late = 0; satisfied = 0 };
   numbers = record { last = Absent; highest = Absent; reordered = 0; independent = 0 };
-  evicted = record { probes = 0; replies = 0 };
+  evicted = record { probes = 0; replies = 0; unanswered = 0 };
 }

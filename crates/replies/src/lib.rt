@@ -38,10 +38,11 @@ pub struct Totals {
     pub unknown: u64,
 }
 
-// `probes_evicted`, `replies_evicted`.
+// `probes_evicted`, `replies_evicted`, and how many of the probes had no reply (document 02, Q-3).
 pub struct Evicted {
     pub probes: u64,
     pub replies: u64,
+    pub unanswered: u64,
 }
 
 pub struct Replies {
@@ -150,13 +151,14 @@ fn number(sender: u32, reflector: u32, numbers: Numbers) -> Numbers
     }
 }
 
-fn evict(probe: bool, key: bool, evicted: Evicted) -> Evicted
+fn evict(probe: bool, lost: bool, key: bool, evicted: Evicted) -> Evicted
     requires { ⌜ EvictedIn evicted ⌝ }
-    ensures { λ r. ⌜ r ≡ evictedBy probe key evicted ⌝ }
+    ensures { λ r. ⌜ r ≡ evictedBy probe lost key evicted ⌝ }
 {
     Evicted {
         probes: one_more_if(probe, evicted.probes),
         replies: one_more_if(key, evicted.replies),
+        unanswered: one_more_if(lost, evicted.unanswered),
     }
 }
 
@@ -218,14 +220,15 @@ impl Replies {
             evicted: Evicted {
                 probes: 0,
                 replies: 0,
+                unanswered: 0,
             },
         }
     }
 
     // The counts of `sent`.
-    pub fn sent(self, copies: u16, probe: bool) -> Replies
+    pub fn sent(self, copies: u16, probe: bool, lost: bool) -> Replies
         requires { ⌜ InBounds self ⌝ }
-        ensures { λ r. ⌜ r ≡ afterSent copies probe self ⌝ }
+        ensures { λ r. ⌜ r ≡ afterSent copies probe lost self ⌝ }
     {
         let totals = self.totals;
         let answers = self.answers;
@@ -235,7 +238,7 @@ impl Replies {
             totals: request(copies, totals),
             answers,
             numbers,
-            evicted: evict(probe, false, evicted),
+            evicted: evict(probe, lost, false, evicted),
         }
     }
 
@@ -280,10 +283,11 @@ impl Replies {
         sender: u32,
         reflector: u32,
         probe: bool,
+        lost: bool,
         key: bool,
     ) -> Replies
         requires { ⌜ InBounds self ⌝ }
-        ensures { λ r. ⌜ r ≡ afterUnique replies copies pending sender reflector probe key self ⌝ }
+        ensures { λ r. ⌜ r ≡ afterUnique replies copies pending sender reflector probe lost key self ⌝ }
     {
         let totals = self.totals;
         let answers = self.answers;
@@ -293,7 +297,7 @@ impl Replies {
             totals: one_unique(totals),
             answers: answer(replies, copies, pending, answers),
             numbers: number(sender, reflector, numbers),
-            evicted: evict(probe, key, evicted),
+            evicted: evict(probe, lost, key, evicted),
         }
     }
 
@@ -356,5 +360,7 @@ fn numbers_fit(n: Numbers) -> bool
 fn evicted_fit(e: Evicted) -> bool
     ensures { λ r. ⌜ r ≡ evictedFit e ⌝ }
 {
-    (e.probes < scope::COUNT_BOUND) & (e.replies < scope::COUNT_BOUND)
+    (e.probes < scope::COUNT_BOUND)
+        & (e.replies < scope::COUNT_BOUND)
+        & (e.unanswered < scope::COUNT_BOUND)
 }

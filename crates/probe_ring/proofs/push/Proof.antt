@@ -11,6 +11,18 @@ push-slot-requires c κs = search needs
 number-hash-requires : tie.Need-number-hash-requires
 number-hash-requires c κs = search needs
 
+mul-count-of : tie.Need-mul-count-of
+mul-count-of c = search needs
+
+index-1-count-of : tie.Need-index-1-count-of
+index-1-count-of c = search needs
+
+index-2-count-of : tie.Need-index-2-count-of
+index-2-count-of c = search needs
+
+count-of-requires : tie.Need-count-of-requires
+count-of-requires c κs = search needs
+
 put-requires : tie.Need-put-requires
 put-requires c κs = search needs
 
@@ -27,7 +39,7 @@ same-length-2 : tie.Need-same-length-2
 same-length-2 c = search needs
 
 returns : tie.Need-returns
-returns c = (pushed-as 4096 _ _ _ _ _ _ _ _ (c .before .before .before .before .before .before .before .before .push-slot .ensures .0) ((c .before .before .before .before .before .before .before .number-hash .ensures .0)) (c .pushed .ensures .0) (c .before .before .before .before .before .put .ensures) (c .before .before .link .ensures), c .pushed .ensures .1, c .before .before .before .before .before .before .before .before .push-slot .ensures .1)
+returns c = (pushed-as 4096 _ _ _ _ _ _ _ _ (c .before .before .before .before .before .before .before .before .before .before .push-slot .ensures .0) ((c .before .before .before .before .before .before .before .before .before .number-hash .ensures .0)) (c .pushed .ensures .0) (c .before .before .before .before .before .put .ensures) (c .before .before .link .ensures) _ (c .before .before .before .before .before .before .before .count-of .ensures), c .pushed .ensures .1, c .before .before .before .before .before .before .before .before .before .before .push-slot .ensures .1)
 
 pub push-spec : {M : Type 1} → statement M
 push-spec =
@@ -35,6 +47,10 @@ push-spec =
     (tie.spec
     push-slot-requires
     number-hash-requires
+    mul-count-of
+    index-1-count-of
+    index-2-count-of
+    count-of-requires
     put-requires
     link-requires
     pushed-requires

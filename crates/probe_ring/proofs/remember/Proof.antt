@@ -27,7 +27,7 @@ same-length-2 : tie.Need-same-length-2
 same-length-2 c = search needs
 
 returns : tie.Need-returns
-returns c = (remembered-held 4096 (numberHash (c .before .before .before .before .before .before .before .before .before .before .before .before .before .before .before .args .secret)) (rooms (c .before .before .before .before .before .before .before .before .before .before .before .before .before .before .before .args .probes .now) (c .before .before .before .before .before .before .before .before .before .before .before .before .before .before .before .args .links .now) (c .before .before .before .before .before .before .before .before .before .before .before .before .before .before .before .args .ring)) (c .before .before .before .before .before .before .before .before .before .before .before .before .before .before .before .pre .2) (unanswered (c .before .before .before .before .before .before .before .before .before .before .before .before .before .before .before .args .sequence) (c .before .before .before .before .before .before .before .before .before .before .before .before .before .before .before .args .packet) (c .before .before .before .before .before .before .before .before .before .before .before .before .before .before .before .args .ordinal)) _ (c .before .before .before .before .before .before .before .before .before .before .before .find .ensures) _ _ (c .before .before .before .before .before .before .before .before .before .before .if1 .taken) (c .before .before .before .before .before .before .before .take-out .ensures .0) (rw (c .before .before .before .before .before .before .before .before .before .before .before .before .before .before .unanswered .ensures) at (c .before .before .push .ensures .0)), c .before .before .push .ensures .1, c .before .before .push .ensures .2)
+returns c = (remembered-held 4096 (numberHash (c .before .before .before .before .before .before .before .before .before .before .before .before .before .before .before .args .secret)) (rooms (c .before .before .before .before .before .before .before .before .before .before .before .before .before .before .before .args .probes .now) (c .before .before .before .before .before .before .before .before .before .before .before .before .before .before .before .args .links .now) (c .before .before .before .before .before .before .before .before .before .before .before .before .before .before .before .args .ring)) (c .before .before .before .before .before .before .before .before .before .before .before .before .before .before .before .pre .2) (unanswered (c .before .before .before .before .before .before .before .before .before .before .before .before .before .before .before .args .sequence) (c .before .before .before .before .before .before .before .before .before .before .before .before .before .before .before .args .packet) (c .before .before .before .before .before .before .before .before .before .before .before .before .before .before .before .args .ordinal) (c .before .before .before .before .before .before .before .before .before .before .before .before .before .before .before .args .train)) _ (c .before .before .before .before .before .before .before .before .before .before .before .find .ensures) _ _ (c .before .before .before .before .before .before .before .before .before .before .if1 .taken) (c .before .before .before .before .before .before .before .take-out .ensures .0) (rw (c .before .before .before .before .before .before .before .before .before .before .before .before .before .before .unanswered .ensures) at (c .before .before .push .ensures .0)), c .before .before .push .ensures .1, c .before .before .push .ensures .2)
 
 push-requires-2 : tie.Need-push-requires-2
 push-requires-2 c κs = search needs
@@ -39,7 +39,7 @@ same-length-4 : tie.Need-same-length-4
 same-length-4 c = search needs
 
 returns-2 : tie.Need-returns-2
-returns-2 c = (remembered-new 4096 (numberHash (c .before .before .before .before .before .before .before .before .before .before .args .secret)) (rooms (c .before .before .before .before .before .before .before .before .before .before .args .probes .now) (c .before .before .before .before .before .before .before .before .before .before .args .links .now) (c .before .before .before .before .before .before .before .before .before .before .args .ring)) (c .before .before .before .before .before .before .before .before .before .before .pre .2) (unanswered (c .before .before .before .before .before .before .before .before .before .before .args .sequence) (c .before .before .before .before .before .before .before .before .before .before .args .packet) (c .before .before .before .before .before .before .before .before .before .before .args .ordinal)) _ (c .before .before .before .before .before .before .find .ensures) _ (c .before .before .before .before .before .if1 .left) (rw (c .before .before .before .before .before .before .before .before .before .unanswered .ensures) at (c .before .before .push2 .ensures .0)), c .before .before .push2 .ensures .1, c .before .before .push2 .ensures .2)
+returns-2 c = (remembered-new 4096 (numberHash (c .before .before .before .before .before .before .before .before .before .before .args .secret)) (rooms (c .before .before .before .before .before .before .before .before .before .before .args .probes .now) (c .before .before .before .before .before .before .before .before .before .before .args .links .now) (c .before .before .before .before .before .before .before .before .before .before .args .ring)) (c .before .before .before .before .before .before .before .before .before .before .pre .2) (unanswered (c .before .before .before .before .before .before .before .before .before .before .args .sequence) (c .before .before .before .before .before .before .before .before .before .before .args .packet) (c .before .before .before .before .before .before .before .before .before .before .args .ordinal) (c .before .before .before .before .before .before .before .before .before .before .args .train)) _ (c .before .before .before .before .before .before .find .ensures) _ (c .before .before .before .before .before .if1 .left) (rw (c .before .before .before .before .before .before .before .before .before .unanswered .ensures) at (c .before .before .push2 .ensures .0)), c .before .before .push2 .ensures .1, c .before .before .push2 .ensures .2)
 
 pub remember-spec : {M : Type 1} → statement M
 remember-spec =

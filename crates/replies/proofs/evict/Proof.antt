@@ -12,8 +12,12 @@ one-more-if-requires c κs = search needs
 one-more-if-requires-2 : tie.Need-one-more-if-requires-2
 one-more-if-requires-2 c κs = search needs
 
+one-more-if-requires-3 : tie.Need-one-more-if-requires-3
+one-more-if-requires-3 c κs = search needs
+
 returns : tie.Need-returns
-returns c = λ i. record { probes = c .before .one-more-if .ensures i; replies = c .one-more-if2 .ensures i }
+returns c = λ i. record { probes = c .before .before .one-more-if .ensures i; replies = c .before .one-more-if2 .ensures i; unanswered = c .one-more-if3 .ensures i }
 
 pub evict-spec : {M : Type 1} → statement M
-evict-spec = tie.close (tie.spec one-more-if-requires one-more-if-requires-2 returns)
+evict-spec =
+    tie.close (tie.spec one-more-if-requires one-more-if-requires-2 one-more-if-requires-3 returns)

@@ -20,18 +20,30 @@ count-of-requires c κs = search needs
 array-read-ordinal-of : tie.Need-array-read-ordinal-of
 array-read-ordinal-of c = search needs
 
+array-read-low-2 : tie.Need-array-read-low-2
+array-read-low-2 c = search needs
+
+low-requires-2 : tie.Need-low-requires-2
+low-requires-2 c κs = search needs
+
 ordinal-of-requires : tie.Need-ordinal-of-requires
 ordinal-of-requires c κs = search needs
 
-array-read-t9 : tie.Need-array-read-t9
-array-read-t9 c = search needs
+array-read-low-3 : tie.Need-array-read-low-3
+array-read-low-3 c = search needs
 
-array-read-t18 : tie.Need-array-read-t18
-array-read-t18 c = search needs
+low-requires-3 : tie.Need-low-requires-3
+low-requires-3 c κs = search needs
+
+array-read-t15 : tie.Need-array-read-t15
+array-read-t15 c = search needs
+
+array-read-t20 : tie.Need-array-read-t20
+array-read-t20 c = search needs
 
 returns : tie.Need-returns
 unfolding probeOf
-returns c = rw (c .before .before .low .ensures, c .before .count-of .ensures, c .ordinal-of .ensures)
+returns c = rw (c .before .before .before .before .low .ensures, c .before .before .before .count-of .ensures, c .before .ordinal-of .ensures, c .before .before .low2 .ensures, c .low3 .ensures)
 
 pub of-words-spec : {M : Type 1} → statement M
 of-words-spec =
@@ -42,7 +54,11 @@ of-words-spec =
     array-read-count-of
     count-of-requires
     array-read-ordinal-of
+    array-read-low-2
+    low-requires-2
     ordinal-of-requires
-    array-read-t9
-    array-read-t18
+    array-read-low-3
+    low-requires-3
+    array-read-t15
+    array-read-t20
     returns)
