@@ -24,7 +24,7 @@ use Rattle.calls.specs.declared.Call.{Call}
 use Rattle.calls.specs.declared.Call.the-variants.{Sent, Accept, Observe}
 use Rattle.timestamps.specs.Converted.{converted, secondNear}
 use Rattle.history.specs.Counting.{has, offset}
-use Rattle.history.specs.Ledger.{rememberings, without, distinct, replies, ordinal, packet, accepted, hasKey, awaiting, lastAccepted, held, replyClass, ready, afterReply, events, Answer, isUnique, answer, count, highestReflector, behind, probesEvicted, replyCounts, thousandths, unobserved}
+use Rattle.history.specs.Ledger.{rememberings, without, distinct, replies, ordinal, packet, accepted, hasKey, awaiting, lastAccepted, oldest, train, held, replyClass, ready, afterReply, events, Answer, isUnique, answer, count, highestReflector, behind, probesEvicted, evictedUnanswered, replyCounts, thousandths, unobserved}
 use Rattle.history.specs.FollowUps.{Slot, free, taken, followClass, slotAt, FollowClass, unavailable, ambiguous, unmatched, repeated, matched, classAt, followCounts, measured, measuredIn, delay}
 use Rattle.history.specs.DirectLoss.{anchorOf, receivedMaximum, latest, missing, DirectClass, mismatch, zeros, anchors, jump, again, exceeded, reordered, advanced, directClass, window, spans, Spans}
 
@@ -36,8 +36,12 @@ key s r t = record { sender = s; reflector = r; t3 = t }
 abbrev packetAt : ℕ → PendingPacket
 packetAt n = record { time = n; tag = 0 }
 
+abbrev sentOn : ℕ → ℕ → ℕ → Call
+sentOn t s n = Sent (record { sequence = s; ordinal = n; train = t; packet = packetAt n })
+
+-- with no train
 abbrev sent : ℕ → ℕ → Call
-sent s n = Sent (record { sequence = s; ordinal = n; packet = packetAt n })
+sent = sentOn 0
 
 abbrev accept : ReplyKey → Pending → Call
 accept k p = Accept (record { key = k; pending = p })
@@ -85,8 +89,9 @@ listing-counts : replyCounts 4096 1 listing ≡ record {
   independent = 0;
   probes-evicted = 0;
   replies-evicted = 0;
+  evicted-unanswered = 0;
 }
-unfolding count events replyClass lastAccepted held ready afterReply accepted rememberings distinct without hasKey has replies highestReflector probesEvicted offset
+unfolding count events replyClass lastAccepted held ready afterReply accepted rememberings distinct without hasKey has replies highestReflector probesEvicted evictedUnanswered oldest offset
 listing-counts = refl
 
 -- ---- capacity 2: the probe 1 is evicted by 2 and 3, its reply is then unknown, and a pending packet brings it back, answered anew
@@ -107,8 +112,9 @@ evictions-counts : replyCounts 2 1 evictions ≡ record {
   independent = 2;
   probes-evicted = 2;
   replies-evicted = 0;
+  evicted-unanswered = 1;
 }
-unfolding count events replyClass lastAccepted held ready afterReply accepted rememberings distinct without hasKey has replies highestReflector probesEvicted offset
+unfolding count events replyClass lastAccepted held ready afterReply accepted rememberings distinct without hasKey has replies highestReflector probesEvicted evictedUnanswered oldest offset
 evictions-counts = refl
 
 evictions-held : held 2 (events 2 evictions) ≡ 1 ∷ 3 ∷ []
@@ -116,10 +122,10 @@ unfolding events replyClass lastAccepted held ready afterReply accepted remember
 evictions-held = refl
 
 -- the answer: a pending packet replaces the stored one, and an accept without one hands the stored one back with its ordinal
-answers : (answer 2 (events 2 (sent 5 9 ∷ [])) (key 5 5 1) (some (packetAt 4)) ≡ isUnique (packetAt 4) (some 9))
-    × (answer 2 (events 2 (accept (key 5 5 1) (Held (packetAt 4)) ∷ sent 5 9 ∷ [])) (key 5 6 2) none ≡ isUnique (packetAt 4) (some 9))
-    × (answer 2 [] (key 5 5 1) (some (packetAt 4)) ≡ isUnique (packetAt 4) none)
-unfolding answer events replyClass lastAccepted held ready afterReply accepted rememberings distinct without hasKey has packet ordinal
+answers : (answer 2 (events 2 (sent 5 9 ∷ [])) (key 5 5 1) (some (packetAt 4)) ≡ isUnique (packetAt 4) (some 9) 0)
+    × (answer 2 (events 2 (accept (key 5 5 1) (Held (packetAt 4)) ∷ sent 5 9 ∷ [])) (key 5 6 2) none ≡ isUnique (packetAt 4) (some 9) 0)
+    × (answer 2 [] (key 5 5 1) (some (packetAt 4)) ≡ isUnique (packetAt 4) none 0)
+unfolding answer events replyClass lastAccepted held ready afterReply accepted rememberings distinct without hasKey has packet ordinal train
 answers = (refl, refl, refl)
 
 -- capacity 2: a key is a duplicate while it is one of the last two accepted, and unique again after two more
@@ -139,8 +145,9 @@ forgotten-counts : replyCounts 2 3 forgotten ≡ record {
   independent = 2;
   probes-evicted = 0;
   replies-evicted = 2;
+  evicted-unanswered = 0;
 }
-unfolding count events replyClass lastAccepted held ready afterReply accepted rememberings distinct without hasKey has replies highestReflector probesEvicted offset
+unfolding count events replyClass lastAccepted held ready afterReply accepted rememberings distinct without hasKey has replies highestReflector probesEvicted evictedUnanswered oldest offset
 forgotten-counts = refl
 
 -- a held probe that is remembered again becomes the newest, and evicts none; the next one evicts the older of the two
@@ -153,6 +160,32 @@ remembered-again : (held 2 (events 2 again-first) ≡ 1 ∷ 2 ∷ [])
     × (probesEvicted 2 (events 2 (sent 3 4 ∷ again-first)) ≡ 1)
 unfolding events held rememberings distinct without probesEvicted has
 remembered-again = (refl, refl, refl, refl)
+
+-- ---- which train was passing (document 02, Q-3), at capacity 2
+
+-- the train is handed back with the answer, by a later reply too; sent again, a sequence has the new one, and a probe remembered by accept has 0
+trains : (answer 2 (events 2 (sentOn 44 5 9 ∷ [])) (key 5 5 1) none ≡ isUnique (packetAt 9) (some 9) 44)
+    × (answer 2 (events 2 (accept (key 5 5 1) NoPacket ∷ sentOn 55 6 2 ∷ sentOn 44 5 9 ∷ [])) (key 5 6 2) (some (packetAt 4)) ≡ isUnique (packetAt 4) (some 9) 44)
+    × (answer 2 (events 2 (sentOn 66 5 3 ∷ sentOn 44 5 9 ∷ [])) (key 5 5 1) none ≡ isUnique (packetAt 3) (some 3) 66)
+    × (answer 2 (events 2 (sentOn 0 5 3 ∷ sentOn 44 5 9 ∷ [])) (key 5 5 1) none ≡ isUnique (packetAt 3) (some 3) 0)
+    × (answer 2 (events 2 (sentOn 8 2 8 ∷ sentOn 7 1 7 ∷ sentOn 44 5 9 ∷ [])) (key 5 5 1) (some (packetAt 4)) ≡ isUnique (packetAt 4) none 0)
+unfolding answer events replyClass lastAccepted held ready afterReply accepted rememberings distinct without hasKey has packet ordinal train
+trains = (refl, refl, refl, refl, refl)
+
+-- the probes 1 and 2 are held; 1 is the oldest
+abbrev two : List Call
+two = sent 2 2 ∷ sent 1 1 ∷ []
+
+-- evicted by `sent`; by an accept with a pending packet; answered before; sent again, which evicts none; sent again and then evicted, its old reply forgotten
+lost-probes : (evictedUnanswered 2 (events 2 (sent 3 3 ∷ two)) ≡ 1)
+    × (evictedUnanswered 2 (events 2 (accept (key 3 3 3) (Held (packetAt 4)) ∷ two)) ≡ 1)
+    × (evictedUnanswered 2 (events 2 (sent 3 3 ∷ accept (key 1 1 1) NoPacket ∷ two)) ≡ 0)
+    × (evictedUnanswered 2 (events 2 (sent 3 3 ∷ accept (key 2 2 2) NoPacket ∷ two)) ≡ 1)
+    × (evictedUnanswered 2 (events 2 (sent 1 3 ∷ two)) ≡ 0)
+    × (evictedUnanswered 2 (events 2 (sent 3 5 ∷ sent 2 4 ∷ sent 1 3 ∷ accept (key 1 1 1) NoPacket ∷ two)) ≡ 1)
+    × (evictedUnanswered 2 (events 2 (accept (key 3 3 3) NoPacket ∷ two)) ≡ 0)
+unfolding events replyClass lastAccepted held ready afterReply accepted rememberings distinct without hasKey has replies evictedUnanswered oldest
+lost-probes = (refl, refl, refl, refl, refl, refl, refl)
 
 -- the last accepted key awaits its observe, until it is observed
 awaits : (awaiting (events 2 (accept (key 5 6 1) NoPacket ∷ sent 5 9 ∷ [])) ≡ some (key 5 6 1))

@@ -23,7 +23,7 @@ use Rattle.delays.specs.Sums.{sumOf}
 use Rattle.delays.specs.Bounds as delays
 use Rattle.direct.specs.Outcomes.{countsInBounds}
 use Rattle.follow_ups.specs.Bounds as follow_ups
-use Rattle.history.specs.Ledger.{duplicate, unknown, unique, CallTest, isSent, isClass, isAnswered, isAdditional, isLate, isSatisfying, isReordered, isIndependent, accepted, events, count, probesEvicted}
+use Rattle.history.specs.Ledger.{duplicate, unknown, unique, CallTest, isSent, isClass, isAnswered, isAdditional, isLate, isSatisfying, isReordered, isIndependent, accepted, events, count, probesEvicted, evictedUnanswered}
 use Rattle.history.specs.DirectLoss.{isDirect, isObservation, isUnavailable, isDiscontinuity, isBelow, directCounts}
 use Rattle.history.specs.FollowUps.{unavailable, ambiguous, unmatched, repeated, matched, hasFollow, isFollow, followCounts, measured, roundTrips}
 use Rattle.history.specs.Figures.{figuresOf, estimates, roundTripFigures, delayFigures, clockQuality}
@@ -35,7 +35,7 @@ use Rattle.observe_history.specs.RoundTrips.{delaysFrom}
 use Rattle.observe_history.specs.FollowUps as observe_history
 use Rattle.link_history.specs.Shows.{countsFrom, callsIn}
 use Rattle.link_history.proofs.Shows.{both-hold}
-use Rattle.link_history.proofs.Few.{count-few, on-sent, on-reply, on-observe, events-few, accepted-few, evicted-few, trips-few, measured-few, delays-many, estimates-many, samples-few}
+use Rattle.link_history.proofs.Few.{count-few, on-sent, on-reply, on-observe, events-few, accepted-few, evicted-few, unanswered-few, trips-few, measured-few, delays-many, estimates-many, samples-few}
 use Rattle.link_history.proofs.Sums.{AllIn, EventsIn, total-few, words-say, trips-in, delays-in}
 
 module _ (copies : ℕ) (copies-in : copies < 2 ^ 16) (h : List Call) (room : callsIn h < mostCalls) (fit : EventsIn (events capacity h)) where
@@ -60,8 +60,9 @@ module _ (copies : ℕ) (copies-in : copies < 2 ^ 16) (h : List Call) (room : ca
       (both-hold _ _ (both-hold _ _ (both-hold _ _ (test-few (isAnswered capacity) (count-few _ (on-reply _) h)) (test-few (isAdditional capacity) (count-few _ (on-reply _) h)))
       (test-few (isLate capacity) (count-few _ (on-reply _) h))) (test-few (isSatisfying capacity copies) (count-few _ (on-reply _) h))))
       (both-hold _ _ (test-few (isReordered capacity) (count-few _ (on-reply _) h)) (test-few (isIndependent capacity) (count-few _ (on-reply _) h))))
-      (both-hold _ _ (few (probesEvicted capacity (events capacity h)) (omega (arith, evicted-few (events capacity h), events-few h)))
+      (both-hold _ _ (both-hold _ _ (few (probesEvicted capacity (events capacity h)) (omega (arith, evicted-few (events capacity h), events-few h)))
       (few (length (accepted (events capacity h)) - capacity) (omega (arith, accepted-few (events capacity h), events-few h))))
+      (few (evictedUnanswered capacity (events capacity h)) (omega (arith, unanswered-few (events capacity h), events-few h))))
 
   -- the figures of as many samples, each below 2^64
   delays-fit : (zs : List ℤ) → length zs ≤ 2 * callsIn h → AllIn zs → delays.countsFit (delaysFrom (figuresOf zs)) ≡ true

@@ -27,7 +27,7 @@ use Rattle.monitor.specs.States.{same, enters}
 use Rattle.monitor_model.specs.Plain.{insert, remove}
 use Rattle.ledger_steps.specs.Refusals.{earlier}
 use Rattle.history.specs.Counting.{has}
-use Rattle.history.specs.Ledger.{rememberings, without, distinct, replies, accepted, hasKey, awaiting, lastAccepted, held, replyClass, ready, afterReply, events, count, highestReflector, probesEvicted}
+use Rattle.history.specs.Ledger.{rememberings, without, distinct, replies, accepted, hasKey, awaiting, lastAccepted, held, replyClass, ready, afterReply, events, count, highestReflector, oldest, probesEvicted, evictedUnanswered}
 use Rattle.history.specs.DirectLoss.{window, spans, anchor, latestTransmit}
 use Rattle.history.specs.FollowUps.{roundTrips}
 use Rattle.history.specs.Figures.{total, least, greatest, roundTripFigures}
@@ -60,7 +60,7 @@ observation = record {
 abbrev report : List Call
 report =
     Accept (record { key = key; pending = Held packetHeld }) ∷ Observe observation ∷ Accept (record { key = key; pending = Held packetHeld })
-    ∷ Sent (record { sequence = 7; ordinal = 1; packet = packetHeld }) ∷ []
+    ∷ Sent (record { sequence = 7; ordinal = 1; train = 0; packet = packetHeld }) ∷ []
 
 -- records 4 turned away 0
 report-served : servedFrom (watching 2 1000) report ≡ report
@@ -72,9 +72,9 @@ report-replies : snapshotFrom 1 report .replies ≡ record {
   totals = record { requested = 1; unique = 1; duplicate = 1; unknown = 0 };
   answers = record { answered = 1; additional = 0; late = 0; satisfied = 1 };
   numbers = record { last = Number 7; highest = Number 7; reordered = 0; independent = 0 };
-  evicted = record { probes = 0; replies = 0 };
+  evicted = record { probes = 0; replies = 0; unanswered = 0 };
 }
-unfolding count events afterReply replyClass ready lastAccepted held hasKey has accepted rememberings distinct without replies highestReflector probesEvicted
+unfolding count events afterReply replyClass ready lastAccepted held hasKey has accepted rememberings distinct without replies highestReflector probesEvicted evictedUnanswered oldest
 report-replies = refl
 
 -- unobserved 0 thousandths 0

@@ -21,7 +21,7 @@ use Rattle.clock_quality.specs.Quality as quality
 use Rattle.clock_quality.specs.Samples as samples
 use Rattle.history.specs.Counting.{tally, has, orElse}
 use Rattle.history.specs.Given.{EstimatePair, packetOf, followOf}
-use Rattle.history.specs.Ledger.{Event, remembered, replied, observed, noPacket, accepted, held, Class, duplicate, unknown, unique, CallTest, isSent, onReply, onObserve, replyClass, ready, afterReply, events, count, probesEvicted}
+use Rattle.history.specs.Ledger.{Event, remembered, replied, observed, noPacket, accepted, held, Class, duplicate, unknown, unique, CallTest, isSent, onReply, onObserve, replyClass, ready, afterReply, events, count, oldest, replies, probesEvicted, evictedUnanswered}
 use Rattle.history.specs.FollowUps.{Slot, free, taken, convertedIn, Measured, measuredBy, measuredIn, sameFollow, matched, classAt, slotAt, measuredOf, measured, roundTrips}
 use Rattle.history.specs.Figures.{delays, estimates}
 use Rattle.link_history.specs.Shows.{isCounted, callsIn}
@@ -70,7 +70,7 @@ ready-few : (es : List Event) (k : ReplyKey) (p : Option PendingPacket) → leng
 unfolding ready
 ready-few es k p = go (has (held capacity es) (k .sender))
   where
-    go : (b : Bool) → length (cond b es (remembered (k .sender) none (orElse p noPacket) ∷ es)) ≤ suc (length es)
+    go : (b : Bool) → length (cond b es (remembered (k .sender) none 0 (orElse p noPacket) ∷ es)) ≤ suc (length es)
     go true = omega arith
     go false = omega arith
 
@@ -93,7 +93,7 @@ events-few (Idle ∷ h) = events-few h
 pub accepted-few : (es : List Event) → length (accepted es) ≤ length es
 unfolding accepted
 accepted-few [] = omega arith
-accepted-few (remembered s o p ∷ es) = omega (arith, accepted-few es)
+accepted-few (remembered s o t p ∷ es) = omega (arith, accepted-few es)
 accepted-few (replied k p ∷ es) = omega (arith, accepted-few es)
 accepted-few (observed o ∷ es) = omega (arith, accepted-few es)
 
@@ -104,14 +104,22 @@ tally-few false m n l = omega arith
 pub evicted-few : (es : List Event) → probesEvicted capacity es ≤ length es
 unfolding probesEvicted
 evicted-few [] = omega arith
-evicted-few (remembered s o p ∷ es) = tally-few (eqb (length (held capacity es)) capacity && not (has (held capacity es) s)) (probesEvicted capacity es) (length es) (evicted-few es)
+evicted-few (remembered s o t p ∷ es) = tally-few (eqb (length (held capacity es)) capacity && not (has (held capacity es) s)) (probesEvicted capacity es) (length es) (evicted-few es)
 evicted-few (replied k p ∷ es) = omega (arith, evicted-few es)
 evicted-few (observed o ∷ es) = omega (arith, evicted-few es)
+
+pub unanswered-few : (es : List Event) → evictedUnanswered capacity es ≤ length es
+unfolding evictedUnanswered
+unanswered-few [] = omega arith
+unanswered-few (remembered s o t p ∷ es) =
+    tally-few (eqb (length (held capacity es)) capacity && not (has (held capacity es) s) && eqb (replies (oldest s (held capacity es)) es) 0) (evictedUnanswered capacity es) (length es) (unanswered-few es)
+unanswered-few (replied k p ∷ es) = omega (arith, unanswered-few es)
+unanswered-few (observed o ∷ es) = omega (arith, unanswered-few es)
 
 pub trips-few : (es : List Event) → length (roundTrips es) ≤ length es
 unfolding roundTrips
 trips-few [] = omega arith
-trips-few (remembered s o p ∷ es) = omega (arith, trips-few es)
+trips-few (remembered s o t p ∷ es) = omega (arith, trips-few es)
 trips-few (replied k p ∷ es) = omega (arith, trips-few es)
 trips-few (observed o ∷ es) = omega (arith, trips-few es)
 
@@ -138,7 +146,7 @@ of-few copies (some f) o es ms = go (sameFollow matched (classAt capacity copies
 pub measured-few : (copies : ℕ) (es : List Event) → length (measured capacity copies es) ≤ length es
 unfolding measured
 measured-few copies [] = omega arith
-measured-few copies (remembered s o p ∷ es) = omega (arith, measured-few copies es)
+measured-few copies (remembered s o t p ∷ es) = omega (arith, measured-few copies es)
 measured-few copies (replied k p ∷ es) = omega (arith, measured-few copies es)
 measured-few copies (observed o ∷ es) = omega (arith, measured-few copies es, of-few copies (followOf (o .follow)) o es (measured capacity copies es))
 

@@ -21,7 +21,8 @@ use Rattle.key_ring.specs.Table.{Table, newestSlot, rowAt, rowsOf}
 use Rattle.key_ring.proofs.Meaning.{slot-count}
 use Rattle.key_ring.proofs.Holders.{observed-at-most}
 use Rattle.history.specs.Given.{packetOf}
-use Rattle.history.specs.Ledger.{Class, duplicate, unknown, unique, copiesOf, lastAccepted, replyClass, answerBy, answer, isReply, count, events}
+use Rattle.history.specs.Ledger.{Class, duplicate, unknown, unique, copiesOf, rememberings, held, lastAccepted, replyClass, answerBy, answer, isReply, count, events}
+use Rattle.history.specs.Evictions.{evictedAnswered, renewed}
 use Rattle.history.specs.DirectLoss.{spans, shownReverse, highestLessSeen}
 use Rattle.history.specs.FollowUps.{hasFollow, measured}
 use Rattle.history.specs.Figures.{estimates}
@@ -38,6 +39,7 @@ use Rattle.ledger_steps.specs.declared.AcceptAnswer.{AcceptAnswer}
 use Rattle.ledger_steps.specs.declared.AcceptAnswer.the-variants as accepts
 use Rattle.reply_history.specs.Fits.{KeyFits}
 use Rattle.reply_history.specs.Follows.{asAccepted, keysTable}
+use Rattle.reply_history.proofs.AddUp.{remembered-add-up, evicted-add-up}
 use Rattle.observe_history.specs.Direct.{packetsOf, since}
 use Rattle.observe_history.specs.FollowUps.{slotHeld}
 use Rattle.observe_history.proofs.DirectShown.{reverse-shows}
@@ -52,7 +54,7 @@ use Rattle.link_history.proofs.Shows.{ledger-follows}
 abbrev saysDuplicate : AcceptAnswer → Bool
 saysDuplicate (accepts.Served l accepted.Duplicate) = true
 saysDuplicate (accepts.Served l accepted.Unknown) = false
-saysDuplicate (accepts.Served l (accepted.Unique p o)) = false
+saysDuplicate (accepts.Served l (accepted.Unique p o t)) = false
 saysDuplicate (accepts.Refused n) = false
 
 -- there is no figure of loss exactly when nothing was requested
@@ -140,6 +142,22 @@ module _ (m : Making) (ok : MakingFits m) (cs : List Call) (w : AllFits cs) wher
   -- invalid at the sender alone, at the reflector alone and at both are the samples shown as invalid
   pub invalid-shown-adds-up : AddsUp (shown .follow .quality)
   invalid-shown-adds-up = subst (λ (x : Snapshot). AddsUp (x .follow .quality)) (sym (shows .snapshot)) (quality-adds-up (estimates (measured capacity (copiesOf (m .copies)) (events capacity h))))
+
+  -- ---- every probe that was remembered is held, or was evicted answered, or evicted unanswered, or renewed (document 02, Q-3)
+
+  pub remembered-shown-add-up :
+      length (rememberings (events capacity h))
+      ≡ length (held capacity (events capacity h)) + evictedAnswered capacity (events capacity h) + shown .replies .evicted .unanswered + renewed capacity (events capacity h)
+  remembered-shown-add-up =
+      remembered-add-up capacity (omega arith) (events capacity h)
+      ∙ sym (ap (λ (x : Snapshot). length (held capacity (events capacity h)) + evictedAnswered capacity (events capacity h) + x .replies .evicted .unanswered + renewed capacity (events capacity h)) (shows .snapshot))
+
+  -- the evicted probes are those evicted answered and those evicted unanswered
+  pub evicted-shown-add-up : shown .replies .evicted .probes ≡ evictedAnswered capacity (events capacity h) + shown .replies .evicted .unanswered
+  evicted-shown-add-up =
+      ap (λ (x : Snapshot). x .replies .evicted .probes) (shows .snapshot)
+      ∙ evicted-add-up capacity (events capacity h)
+      ∙ sym (ap (λ (x : Snapshot). evictedAnswered capacity (events capacity h) + x .replies .evicted .unanswered) (shows .snapshot))
 
   -- ---- no figure of loss is shown exactly when nothing was requested
 

@@ -69,7 +69,7 @@ observed-in o l e =
 -- of every observation of a history
 unfoldable pub EventsIn : List Event → Type 0
 EventsIn [] = Unit
-EventsIn (remembered s o p ∷ es) = EventsIn es
+EventsIn (remembered s o t p ∷ es) = EventsIn es
 EventsIn (replied k p ∷ es) = EventsIn es
 EventsIn (observed o ∷ es) = ObservedIn o × EventsIn es
 
@@ -77,7 +77,7 @@ ready-in : (es : List Event) (k : ReplyKey) (p : Option PendingPacket) → Event
 unfolding ready EventsIn
 ready-in es k p w = go (has (held capacity es) (k .sender))
   where
-    go : (b : Bool) → EventsIn (cond b es (remembered (k .sender) none (orElse p noPacket) ∷ es))
+    go : (b : Bool) → EventsIn (cond b es (remembered (k .sender) none 0 (orElse p noPacket) ∷ es))
     go true = w
     go false = w
 
@@ -119,7 +119,7 @@ words-say (negsuc n) = omega arith
 pub trips-in : (es : List Event) → EventsIn es → AllIn (roundTrips es)
 unfolding roundTrips EventsIn
 trips-in [] w = tt
-trips-in (remembered s o p ∷ es) w = trips-in es w
+trips-in (remembered s o t p ∷ es) w = trips-in es w
 trips-in (replied k p ∷ es) w = trips-in es w
 trips-in (observed o ∷ es) w = (omega (arith, w .0 .rtt-in), trips-in es (w .1))
 
@@ -170,7 +170,7 @@ following-in (some f) own offset slot r w =
 slot-in : (copies : ℕ) (es : List Event) → EventsIn es → (r : ℕ) → SlotIn (slotAt capacity copies es r)
 unfolding slotAt EventsIn
 slot-in copies [] w r = tt
-slot-in copies (remembered s o p ∷ es) w r = slot-in copies es w r
+slot-in copies (remembered s o t p ∷ es) w r = slot-in copies es w r
 slot-in copies (replied k p ∷ es) w r = evicting-in (evicted capacity copies (accepted es)) r (slotAt capacity copies es r) (slot-in copies es w r)
 slot-in copies (observed o ∷ es) w r =
     let s : Slot = following (followOf (o .follow)) (o .key .reflector) (o .offset) (slotAt capacity copies es) r in
@@ -208,7 +208,7 @@ of-in copies (some f) o es ms v z w = go (sameFollow matched (classAt capacity c
 pub delays-in : (copies : ℕ) (es : List Event) → EventsIn es → AllIn (delays (measured capacity copies es))
 unfolding measured EventsIn delays
 delays-in copies [] w = tt
-delays-in copies (remembered s o p ∷ es) w = delays-in copies es w
+delays-in copies (remembered s o t p ∷ es) w = delays-in copies es w
 delays-in copies (replied k p ∷ es) w = delays-in copies es w
 delays-in copies (observed o ∷ es) w =
     of-in copies (followOf (o .follow)) o es (measured capacity copies es) (w .1) (w .0 .offset-in) (delays-in copies es (w .1))

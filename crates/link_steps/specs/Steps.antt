@@ -118,7 +118,7 @@ sentLeaves k s r =
 abbrev pub isUnique : Accepted → Bool
 isUnique accepted.Duplicate = false
 isUnique accepted.Unknown = false
-isUnique (accepted.Unique p o) = true
+isUnique (accepted.Unique p o t) = true
 
 -- the call was served, and its reply is unique
 abbrev pub wasUnique : AcceptAnswer → Bool

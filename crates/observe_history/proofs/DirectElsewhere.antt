@@ -74,7 +74,7 @@ module _ (N : ℕ) (byNumber : ℕ → ℕ) where
   unfolding ready window
   ready-window es k p = go (has (held N es) (k .sender))
     where
-      go : (b : Bool) → window N (cond b es (remembered (k .sender) none (orElse p noPacket) ∷ es)) ≡ window N es
+      go : (b : Bool) → window N (cond b es (remembered (k .sender) none 0 (orElse p noPacket) ∷ es)) ≡ window N es
       go true = refl
       go false = refl
 
@@ -98,7 +98,7 @@ module _ (N : ℕ) (byNumber : ℕ → ℕ) where
     direct-sent s =
         kept h (Sent s ∷ h) (l .counts .direct) offsets links (sentIn N byNumber l probes links s .links) refl refl
         (remembered-elsewhere 6 (λ e. omega (arith, e)) (λ e. omega (arith, e)) (λ e. omega (arith, e)) N byNumber (probe_ring.rooms probes links (l .tables .probes))
-        (unanswered (s .sequence) (s .packet) (ordinal.Number (s .ordinal)))) f
+        (unanswered (s .sequence) (s .packet) (ordinal.Number (s .ordinal)) (s .train))) f
 
     accept-links : (x : ReplyClass) (at : ℕ) (a : Reply) → Untouched 6 links (acceptBy N byKey byNumber x l keys slots probes links at a .links)
     unfolding uniqueIn

@@ -32,7 +32,7 @@ module _ (N copies : ℕ) where
   unfolding ready slotAt
   ready-slots es k p r = go (has (held N es) (k .sender))
     where
-      go : (b : Bool) → slotAt N copies (cond b es (remembered (k .sender) none (orElse p noPacket) ∷ es)) r ≡ slotAt N copies es r
+      go : (b : Bool) → slotAt N copies (cond b es (remembered (k .sender) none 0 (orElse p noPacket) ∷ es)) r ≡ slotAt N copies es r
       go true = refl
       go false = refl
 
@@ -40,7 +40,7 @@ module _ (N copies : ℕ) where
   unfolding ready accepted
   ready-accepted es k p = go (has (held N es) (k .sender))
     where
-      go : (b : Bool) → accepted (cond b es (remembered (k .sender) none (orElse p noPacket) ∷ es)) ≡ accepted es
+      go : (b : Bool) → accepted (cond b es (remembered (k .sender) none 0 (orElse p noPacket) ∷ es)) ≡ accepted es
       go true = refl
       go false = refl
 

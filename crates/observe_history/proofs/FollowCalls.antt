@@ -99,7 +99,7 @@ module _ (N copies : ℕ) where
   unfolding ready measured
   ready-measured es k p = go (has (held N es) (k .sender))
     where
-      go : (b : Bool) → measured N copies (cond b es (remembered (k .sender) none (orElse p noPacket) ∷ es)) ≡ measured N copies es
+      go : (b : Bool) → measured N copies (cond b es (remembered (k .sender) none 0 (orElse p noPacket) ∷ es)) ≡ measured N copies es
       go true = refl
       go false = refl
 

@@ -155,9 +155,9 @@ module _ (lane : ℕ) where
       unfolding readied
       readied-elsewhere byKey r slot k p = go (ltb slot N)
         where
-          go : (t : Bool) → Untouched lane (r .links) (cond t (probes.outcome (r .rows) (r .links) (record { ring = r .ring; slot = slot; evicted = false })) (pushed N hash r (unanswered (k .sender) (packetAfter p noPacket) ordinal.Absent)) .links)
+          go : (t : Bool) → Untouched lane (r .links) (cond t (probes.outcome (r .rows) (r .links) (record { ring = r .ring; slot = slot; evicted = false; lost = false })) (pushed N hash r (unanswered (k .sender) (packetAfter p noPacket) ordinal.Absent 0)) .links)
           go true = same (r .links)
-          go false = pushed-elsewhere r (unanswered (k .sender) (packetAfter p noPacket) ordinal.Absent)
+          go false = pushed-elsewhere r (unanswered (k .sender) (packetAfter p noPacket) ordinal.Absent 0)
 
   -- ---- the keys
 

@@ -39,7 +39,7 @@ module _ (N : ℕ) where
   unfolding ready roundTrips
   ready-trips es k p = go (has (held N es) (k .sender))
     where
-      go : (b : Bool) → roundTrips (cond b es (remembered (k .sender) none (orElse p noPacket) ∷ es)) ≡ roundTrips es
+      go : (b : Bool) → roundTrips (cond b es (remembered (k .sender) none 0 (orElse p noPacket) ∷ es)) ≡ roundTrips es
       go true = refl
       go false = refl
 

@@ -21,7 +21,7 @@ use Rattle.replies.specs.Served as served
 use Rattle.replies.specs.Served.{afterSent, afterDuplicate, afterUnknown, afterUnique, highestAfter, isReordered}
 use Rattle.history.specs.Counting.{tally, has, present}
 use Rattle.history.specs.Given.{packetOf}
-use Rattle.history.specs.Ledger.{Event, Class, duplicate, unknown, unique, accepted, held, replyClass, ready, before, afterReply, events, count, isSent, isClass, isAnswered, isAdditional, isLate, isSatisfying, isReordered as isBehind, isIndependent, behind, lastReflector, highestReflector, probesEvicted}
+use Rattle.history.specs.Ledger.{Event, Class, duplicate, unknown, unique, accepted, held, replyClass, ready, before, afterReply, events, count, isSent, isClass, isAnswered, isAdditional, isLate, isSatisfying, isReordered as isBehind, isIndependent, behind, lastReflector, highestReflector, replies, oldest, probesEvicted, evictedUnanswered}
 use Rattle.ledger_steps.specs.Accept.{isPending}
 use Rattle.reply_history.specs.Fits.{KeyFits}
 use Rattle.reply_history.specs.Follows.{asReflector, repliesIn}
@@ -42,15 +42,23 @@ pending-same (pending.Held q) = refl
 module _ (N copies : ℕ) (h : List Call) where
   -- ---- `sent`
 
-  pub counts-sent : (s : SentProbe) (evicted : Bool) → evicted ≡ (eqb (length (held N (events N h))) N && not (has (held N (events N h)) (s .sequence)))
-      → afterSent copies evicted (repliesIn N copies h) ≡ repliesIn N copies (Sent s ∷ h)
-  unfolding afterSent count events accepted probesEvicted
-  counts-sent s evicted e = rw (e, tally-same (eqb (length (held N (events N h))) N && not (has (held N (events N h)) (s .sequence))) (probesEvicted N (events N h)), mul-suc)
+  pub counts-sent : (s : SentProbe) (evicted lost : Bool) → evicted ≡ (eqb (length (held N (events N h))) N && not (has (held N (events N h)) (s .sequence)))
+      → lost ≡ (eqb (length (held N (events N h))) N && not (has (held N (events N h)) (s .sequence)) && eqb (replies (oldest (s .sequence) (held N (events N h))) (events N h)) 0)
+      → afterSent copies evicted lost (repliesIn N copies h) ≡ repliesIn N copies (Sent s ∷ h)
+  unfolding afterSent count events accepted probesEvicted evictedUnanswered
+  counts-sent s evicted lost e f =
+      rw (
+        e,
+        f,
+        tally-same (eqb (length (held N (events N h))) N && not (has (held N (events N h)) (s .sequence))) (probesEvicted N (events N h)),
+        tally-same (eqb (length (held N (events N h))) N && not (has (held N (events N h)) (s .sequence)) && eqb (replies (oldest (s .sequence) (held N (events N h))) (events N h)) 0) (evictedUnanswered N (events N h)),
+        mul-suc,
+      )
 
   -- ---- calls that are no replies
 
   pub counts-observe : (o : ReplyObservation) → repliesIn N copies h ≡ repliesIn N copies (Observe o ∷ h)
-  unfolding count events accepted probesEvicted
+  unfolding count events accepted probesEvicted evictedUnanswered
   counts-observe o = refl
 
   pub counts-advance : (t : ℕ) → repliesIn N copies h ≡ repliesIn N copies (Advance t ∷ h)
@@ -78,8 +86,9 @@ module _ (N copies : ℕ) (h : List Call) where
     unfolding afterUnknown count events afterReply
     counts-unknown e = rw (e, one (count N (isClass N unknown) h))
 
-    module _ (e : class ≡ unique) (probe key : Bool) (copies-in : copies < 2 ^ 16) (key-fits : KeyFits (a .key)) (all-fit : KeysFit (accepted es))
+    module _ (e : class ≡ unique) (probe lost key : Bool) (copies-in : copies < 2 ^ 16) (key-fits : KeyFits (a .key)) (all-fit : KeysFit (accepted es))
         (probe-is : served.tally probe (probesEvicted N es) ≡ probesEvicted N (ready N es (a .key) (packetOf (a .pending))))
+        (lost-is : served.tally lost (evictedUnanswered N es) ≡ evictedUnanswered N (ready N es (a .key) (packetOf (a .pending))))
         (key-is : served.tally key (length (accepted es) - N) ≡ suc (length (accepted es)) - N) where
       -- the replies that its probe had before it
       abbrev had : ℕ
@@ -133,6 +142,10 @@ module _ (N copies : ℕ) (h : List Call) where
       unfolding events afterReply probesEvicted
       probes-evicted-more = rw e probe-is
 
+      unanswered-more : served.tally lost (evictedUnanswered N es) ≡ evictedUnanswered N (events N (Accept a ∷ h))
+      unfolding events afterReply evictedUnanswered
+      unanswered-more = rw e lost-is
+
       replies-evicted-more : served.tally key (length (accepted es) - N) ≡ length (accepted (events N (Accept a ∷ h))) - N
       replies-evicted-more = rw accepted-more key-is
 
@@ -145,12 +158,12 @@ module _ (N copies : ℕ) (h : List Call) where
 
       -- EVERY COUNT AFTER A UNIQUE REPLY.
       pub counts-unique :
-          afterUnique (min had mostReplies) copies (isPending (a .pending)) (a .key .sender) (a .key .reflector) probe key (repliesIn N copies h)
+          afterUnique (min had mostReplies) copies (isPending (a .pending)) (a .key .sender) (a .key .reflector) probe lost key (repliesIn N copies h)
           ≡ repliesIn N copies (Accept a ∷ h)
       unfolding afterUnique
       counts-unique = λ i. record {
         totals = record { requested = requested-same i; unique = unique-more i; duplicate = duplicate-same i; unknown = unknown-same i };
         answers = record { answered = answered-more i; additional = additional-more i; late = late-more i; satisfied = satisfied-more i };
         numbers = record { last = last-is i; highest = highest-is i; reordered = reordered-more i; independent = independent-more i };
-        evicted = record { probes = probes-evicted-more i; replies = replies-evicted-more i };
+        evicted = record { probes = probes-evicted-more i; replies = replies-evicted-more i; unanswered = unanswered-more i };
       }

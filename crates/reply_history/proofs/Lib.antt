@@ -1,5 +1,6 @@
 pub mod Saturation
 pub mod Lists
+pub mod AddUp
 pub mod Probes
 pub mod Keys
 pub mod Numbers

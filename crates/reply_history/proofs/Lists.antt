@@ -27,15 +27,15 @@ or-false true b e = (e, absurd (true-not-false refl e))
 or-false false b e = (refl, e)
 
 -- no number stands twice
-unfoldable Once : List ℕ → Type 0
+unfoldable pub Once : List ℕ → Type 0
 Once [] = Unit
 Once (x ∷ xs) = (has xs x ≡ false) × Once xs
 
-without-here : (s x : ℕ) (xs : List ℕ) → eqb s x ≡ true → without s (x ∷ xs) ≡ without s xs
+pub without-here : (s x : ℕ) (xs : List ℕ) → eqb s x ≡ true → without s (x ∷ xs) ≡ without s xs
 unfolding without
 without-here s x xs e = rw e
 
-without-there : (s x : ℕ) (xs : List ℕ) → eqb s x ≡ false → without s (x ∷ xs) ≡ x ∷ without s xs
+pub without-there : (s x : ℕ) (xs : List ℕ) → eqb s x ≡ false → without s (x ∷ xs) ≡ x ∷ without s xs
 unfolding without
 without-there s x xs e = rw e
 
@@ -44,12 +44,12 @@ unfolding has
 has-tail x xs n e = or-false (eqb n x) (has xs n) e
 
 -- a number that is not there is not taken out
-without-absent : (s : ℕ) (xs : List ℕ) → has xs s ≡ false → without s xs ≡ xs
+pub without-absent : (s : ℕ) (xs : List ℕ) → has xs s ≡ false → without s xs ≡ xs
 unfolding without
 without-absent s [] e = refl
 without-absent s (x ∷ xs) e = let t = has-tail x xs s e in rw (t .0) (ap (λ (l : List ℕ). x ∷ l) (without-absent s xs (t .1)))
 
-has-take : (n : ℕ) (xs : List ℕ) (s : ℕ) → has xs s ≡ false → has (take n xs) s ≡ false
+pub has-take : (n : ℕ) (xs : List ℕ) (s : ℕ) → has xs s ≡ false → has (take n xs) s ≡ false
 unfolding has
 has-take zero xs s e = refl
 has-take (suc n) [] s e = refl
@@ -83,7 +83,7 @@ once-without s (x ∷ xs) d = go (eqb s x) (once-without s xs (d .1))
     go true ih = ih
     go false ih = (has-without-less s x xs (d .0), ih)
 
-once-distinct : (xs : List ℕ) → Once (distinct xs)
+pub once-distinct : (xs : List ℕ) → Once (distinct xs)
 unfolding distinct Once
 once-distinct [] = tt
 once-distinct (x ∷ xs) = (has-without-same x (distinct xs), once-without x (distinct xs) (once-distinct xs))

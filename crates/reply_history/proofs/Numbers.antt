@@ -31,7 +31,7 @@ pub ready-accepted : (N : ℕ) (es : List Event) (k : ReplyKey) (p : Option Pend
 unfolding ready accepted
 ready-accepted N es k p = go (has (held N es) (k .sender))
   where
-    go : (b : Bool) → accepted (cond b es (remembered (k .sender) none (orElse p noPacket) ∷ es)) ≡ accepted es
+    go : (b : Bool) → accepted (cond b es (remembered (k .sender) none 0 (orElse p noPacket) ∷ es)) ≡ accepted es
     go true = refl
     go false = refl
 

@@ -45,7 +45,7 @@ module _ (N : ℕ) (byKey : ReplyKey → ℕ) (byNumber : ℕ → ℕ) (number-b
     keys-same = refl
 
     probes-same : map (probeIn (events N h)) (held N (events N h)) ≡ map (probeIn (events N (Observe o ∷ h))) (held N (events N (Observe o ∷ h)))
-    unfolding events held rememberings replies history.ordinal packet
+    unfolding events held rememberings replies history.ordinal history.train packet
     probes-same = refl
 
     pub observe-keeps : RepliesFollow N byKey byNumber copies (Observe o ∷ h) (withObserve s (observeOf N byKey byNumber s o))

@@ -10,7 +10,7 @@ use lib.Dec.{eqb, leb}
 use borrow.Author.Tests.{lt-leb, le-leb}
 use lib.ListN.{length, take}
 use Rattle.chains.specs.Walk.{firstOf}
-use Rattle.chains.proofs.Tests.{Test, holds, fails, eq-test, true-not-false}
+use Rattle.chains.proofs.Tests.{Test, holds, fails, eq-test, eq-false, true-not-false}
 use Rattle.calls.specs.declared.PendingPacket.{PendingPacket}
 use Rattle.calls.specs.declared.Pending.{Pending}
 use Rattle.calls.specs.declared.Pending.the-variants as pending
@@ -18,13 +18,13 @@ use Rattle.calls.specs.declared.ReplyKey.{ReplyKey}
 use Rattle.probe_ring.specs.declared.Probe.{Probe}
 use Rattle.probe_ring.specs.Row.{unanswered, packetAfter, afterReply}
 use Rattle.probe_ring.specs.Held as list
-use Rattle.probe_ring.specs.Held.{others, remembering, replacing, evicts}
+use Rattle.probe_ring.specs.Held.{others, remembering, replacing, evicts, loses}
 use Rattle.history.specs.Counting.{has, orElse}
 use Rattle.history.specs.Given.{packetOf}
-use Rattle.history.specs.Ledger.{Event, remembered, replied, rememberings, without, distinct, replies, packet, held}
+use Rattle.history.specs.Ledger.{Event, remembered, replied, rememberings, without, distinct, replies, packet, held, oldest}
 use Rattle.history.specs.Ledger as history
 use Rattle.reply_history.specs.Follows.{asOrdinal, probeIn}
-use Rattle.reply_history.proofs.Saturation.{one-more}
+use Rattle.reply_history.proofs.Saturation.{one-more, none-yet}
 use Rattle.reply_history.proofs.Lists.{has-tail, eqb-same, eqb-flip, kept-without, take-map}
 
 -- ---- any list of sequences
@@ -76,27 +76,27 @@ module _ (es : List Event) where
       go true t ih = ih
       go false t ih = ap₂ (λ (p : Probe) (ps : List Probe). p ∷ ps) (k x t) ih
 
-  remembered-row : (s : ℕ) (o : Option ℕ) (p : PendingPacket) → probeIn (remembered s o p ∷ es) s ≡ unanswered s p (asOrdinal o)
-  unfolding replies history.ordinal packet
-  remembered-row s o p = rw (eqb-same s)
+  remembered-row : (s : ℕ) (o : Option ℕ) (t : ℕ) (p : PendingPacket) → probeIn (remembered s o t p ∷ es) s ≡ unanswered s p (asOrdinal o) t
+  unfolding replies history.ordinal history.train packet
+  remembered-row s o t p = rw (eqb-same s)
 
-  other-row : (s : ℕ) (o : Option ℕ) (p : PendingPacket) (x : ℕ) → eqb s x ≡ false → probeIn (remembered s o p ∷ es) x ≡ probeIn es x
-  unfolding replies history.ordinal packet
-  other-row s o p x e = rw (eqb-flip x s, e)
+  other-row : (s : ℕ) (o : Option ℕ) (t : ℕ) (p : PendingPacket) (x : ℕ) → eqb s x ≡ false → probeIn (remembered s o t p ∷ es) x ≡ probeIn es x
+  unfolding replies history.ordinal history.train packet
+  other-row s o t p x e = rw (eqb-flip x s, e)
 
   -- REMEMBERED AMONG THE HELD ONES AS AMONG ALL.
-  pub rows-remember : (N s : ℕ) (o : Option ℕ) (p : PendingPacket)
-      → remembering N (unanswered s p (asOrdinal o)) (map (probeIn es) (held N es)) ≡ map (probeIn (remembered s o p ∷ es)) (held N (remembered s o p ∷ es))
+  pub rows-remember : (N s : ℕ) (o : Option ℕ) (t : ℕ) (p : PendingPacket)
+      → remembering N (unanswered s p (asOrdinal o) t) (map (probeIn es) (held N es)) ≡ map (probeIn (remembered s o t p ∷ es)) (held N (remembered s o t p ∷ es))
   unfolding remembering held rememberings distinct
-  rows-remember zero s o p = refl
-  rows-remember (suc n) s o p =
-      ap₂ (λ (q : Probe) (qs : List Probe). q ∷ qs) (sym (remembered-row s o p))
+  rows-remember zero s o t p = refl
+  rows-remember (suc n) s o t p =
+      ap₂ (λ (q : Probe) (qs : List Probe). q ∷ qs) (sym (remembered-row s o t p))
       (ap (take n) (rows-others s (take (suc n) (distinct (rememberings es))))
       ∙ take-map (probeIn es) n (without s (take (suc n) (distinct (rememberings es))))
       ∙ ap (map (probeIn es)) (kept-without n s (rememberings es))
       ∙ sym (take-map (probeIn es) n (without s (distinct (rememberings es))))
-      ∙ ap (take n) (sym (rows-kept (remembered s o p) (distinct (rememberings es)) s (other-row s o p)))
-      ∙ take-map (probeIn (remembered s o p ∷ es)) n (without s (distinct (rememberings es))))
+      ∙ ap (take n) (sym (rows-kept (remembered s o t p) (distinct (rememberings es)) s (other-row s o t p)))
+      ∙ take-map (probeIn (remembered s o t p ∷ es)) n (without s (distinct (rememberings es))))
 
   pub packet-after : (p : Pending) (q : PendingPacket) → packetAfter p q ≡ orElse (packetOf p) q
   packet-after pending.Absent q = refl
@@ -104,11 +104,11 @@ module _ (es : List Event) where
 
   -- the row of its own sequence after a reply
   pub replied-row : (k : ReplyKey) (p : Pending) → afterReply p (probeIn es (k .sender)) ≡ probeIn (replied k (packetOf p) ∷ es) (k .sender)
-  unfolding afterReply replies history.ordinal packet
+  unfolding afterReply replies history.ordinal history.train packet
   replied-row k p = rw (eqb-same (k .sender), packet-after p (packet (k .sender) es), one-more (replies (k .sender) es))
 
   unreplied-row : (k : ReplyKey) (p : Option PendingPacket) (x : ℕ) → eqb (k .sender) x ≡ false → probeIn es x ≡ probeIn (replied k p ∷ es) x
-  unfolding replies history.ordinal packet
+  unfolding replies history.ordinal history.train packet
   unreplied-row k p x e = rw (eqb-flip x (k .sender), e)
 
   each-row : (k : ReplyKey) (p : Pending) (x : ℕ) → cond (eqb (k .sender) x) (afterReply p (probeIn es (k .sender))) (probeIn es x) ≡ probeIn (replied k (packetOf p) ∷ es) x
@@ -126,10 +126,10 @@ module _ (es : List Event) where
       ap₂ (λ (q : Probe) (qs : List Probe). q ∷ qs) (each-row k p x) (rows-replied k p ss)
 
   -- the probe just remembered is held
-  pub held-new : (N s : ℕ) (o : Option ℕ) (p : PendingPacket) → 0 < N → has (held N (remembered s o p ∷ es)) s ≡ true
+  pub held-new : (N s : ℕ) (o : Option ℕ) (t : ℕ) (p : PendingPacket) → 0 < N → has (held N (remembered s o t p ∷ es)) s ≡ true
   unfolding has held rememberings distinct
-  held-new zero s o p h = absurd (omega arith)
-  held-new (suc n) s o p h = rw (eqb-same s)
+  held-new zero s o t p h = absurd (omega arith)
+  held-new (suc n) s o t p h = rw (eqb-same s)
 
 -- ---- evictions
 
@@ -166,3 +166,19 @@ evicts-is N es p =
       full-is N (length (take N (distinct (rememberings es)))) (length-take N (distinct (rememberings es))),
     )
     (and-flip (not (has (take N (distinct (rememberings es))) (p .sequence))) (eqb (length (take N (distinct (rememberings es)))) N))
+
+-- the oldest of the rows is the row of the oldest
+rows-oldest : (es : List Event) (x : ℕ) (xs : List ℕ) → list.oldest (probeIn es x) (map (probeIn es) xs) ≡ probeIn es (oldest x xs)
+unfolding list.oldest oldest
+rows-oldest es x [] = refl
+rows-oldest es x (y ∷ ys) = rows-oldest es y ys
+
+-- "evicted while unanswered": the oldest goes, and it has had no reply
+pub loses-is : (N : ℕ) → 0 < N → (es : List Event) (p : Probe)
+    → loses N p (map (probeIn es) (held N es)) ≡ (eqb (length (held N es)) N && not (has (held N es) (p .sequence)) && eqb (replies (oldest (p .sequence) (held N es)) es) 0)
+unfolding loses list.oldest oldest
+loses-is N some-room es p = rw (evicts-is N es p) (go (not (has (held N es) (p .sequence))) (held N es))
+  where
+    go : (b : Bool) (ss : List ℕ) → (eqb (length ss) N && b && eqb (list.oldest p (map (probeIn es) ss) .replies) 0) ≡ (eqb (length ss) N && b && eqb (replies (oldest (p .sequence) ss) es) 0)
+    go b [] = rw (eq-false 0 N (λ e. omega (arith, e, some-room)))
+    go b (x ∷ xs) = ap (λ (t : Bool). eqb (length (x ∷ xs)) N && b && t) (ap (λ (q : Probe). eqb (q .replies) 0) (rows-oldest es x xs) ∙ none-yet (replies (oldest x xs) es))

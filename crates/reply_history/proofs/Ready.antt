@@ -17,7 +17,7 @@ use Rattle.calls.specs.declared.Ordinal.the-variants as ordinal
 use Rattle.probe_ring.specs.declared.Probe.{Probe}
 use Rattle.probe_ring.specs.Row.{unanswered, packetAfter, ProbeFits}
 use Rattle.probe_ring.specs.Held as list
-use Rattle.probe_ring.specs.Held.{remembering, evicts}
+use Rattle.probe_ring.specs.Held.{remembering, evicts, loses}
 use Rattle.probe_ring.specs.Rooms as probe_ring
 use Rattle.probe_ring.specs.Rooms.{Rooms, Outcome, roomsAfter, slotOf, pushed}
 use Rattle.probe_ring.proofs.Laws.{Sound, find-first, find-is}
@@ -25,11 +25,11 @@ use Rattle.probe_ring.proofs.Remembering.{Remembers, remembers-new}
 use Rattle.replies.specs.Served as served
 use Rattle.history.specs.Counting.{has, orElse}
 use Rattle.history.specs.Given.{packetOf}
-use Rattle.history.specs.Ledger.{Event, remembered, noPacket, held, ready, probesEvicted}
+use Rattle.history.specs.Ledger.{Event, remembered, noPacket, oldest, held, replies, ready, probesEvicted, evictedUnanswered}
 use Rattle.ledger_steps.specs.Accept.{readied, probeAt}
 use Rattle.reply_history.specs.Fits.{KeyFits}
 use Rattle.reply_history.specs.Follows.{probeIn}
-use Rattle.reply_history.proofs.Probes.{rows-has, rows-first, rows-remember, packet-after, held-new, evicts-is}
+use Rattle.reply_history.proofs.Probes.{rows-has, rows-first, rows-remember, packet-after, held-new, evicts-is, loses-is}
 use Rattle.reply_history.proofs.Counts.{tally-same}
 
 module _ (N : ℕ) (some-room : 0 < N) (byKey : ReplyKey → ℕ) (byNumber : ℕ → ℕ) (es : List Event) (r : Rooms) (sound : Sound N byNumber r)
@@ -44,6 +44,7 @@ module _ (N : ℕ) (some-room : 0 < N) (byKey : ReplyKey → ℕ) (byNumber : �
     pub after-has : has (held N es′) (k .sender) ≡ true
     pub after-found : slotOf N byNumber (roomsAfter o) (k .sender) ≡ o .answer .slot
     pub after-evicted : served.tally (o .answer .evicted) (probesEvicted N es) ≡ probesEvicted N es′
+    pub after-lost : served.tally (o .answer .lost) (evictedUnanswered N es) ≡ evictedUnanswered N es′
     pub after-elsewhere : (i j : ℕ) → j ≢ 4 → j ≢ 5 → wordOf (o .links) i j ≡ wordOf (r .links) i j
 
   -- A sequence is found exactly if the history holds it.
@@ -52,10 +53,10 @@ module _ (N : ℕ) (some-room : 0 < N) (byKey : ReplyKey → ℕ) (byNumber : �
 
   -- the probe as it is remembered where it is not held
   abbrev new : Probe
-  new = unanswered (k .sender) (packetAfter p noPacket) ordinal.Absent
+  new = unanswered (k .sender) (packetAfter p noPacket) ordinal.Absent 0
 
   new-fits : ProbeFits new
-  new-fits = record { sequence-in = fits .sender-in; replies-in = omega arith; ordinal-in = tt }
+  new-fits = record { sequence-in = fits .sender-in; replies-in = omega arith; ordinal-in = tt; train-in = omega arith }
 
   is-held : has (held N es) (k .sender) ≡ true → Readied (readied N byKey byNumber r (slotOf N byNumber r (k .sender)) k p)
   unfolding readied ready
@@ -65,22 +66,26 @@ module _ (N : ℕ) (some-room : 0 < N) (byKey : ReplyKey → ℕ) (byNumber : �
     after-has = rw e e;
     after-found = refl;
     after-evicted = rw e;
+    after-lost = rw e;
     after-elsewhere = λ i j a b. refl;
   })
 
   is-new : has (held N es) (k .sender) ≡ false → Readied (readied N byKey byNumber r (slotOf N byNumber r (k .sender)) k p)
-  unfolding readied ready probesEvicted
+  unfolding readied ready probesEvicted evictedUnanswered
   is-new e =
       let absent : list.holds (probe_ring.held N r) (k .sender) ≡ false = ap (λ (ps : List Probe). list.holds ps (k .sender)) are ∙ rows-has es (held N es) (k .sender) ∙ e in
       let rem : Remembers N byNumber r sound new (pushed N byNumber r new) = remembers-new N byNumber r sound new new-fits absent in
       let told : pushed N byNumber r new .answer .evicted ≡ (eqb (length (held N es)) N && not (has (held N es) (k .sender))) =
       rem .after-evicted ∙ ap (evicts N new) are ∙ evicts-is N es new in
+      let loss : pushed N byNumber r new .answer .lost ≡ (eqb (length (held N es)) N && not (has (held N es) (k .sender)) && eqb (replies (oldest (k .sender) (held N es)) es) 0) =
+      rem .after-lost ∙ ap (loses N new) are ∙ loses-is N some-room es new in
       rw (found-is (k .sender), e) (record {
         after-sound = rem .after-sound;
-        after-are = rw e (rem .after-held ∙ ap (remembering N new) are ∙ rw (packet-after es p noPacket) (rows-remember es N (k .sender) none (orElse (packetOf p) noPacket)));
-        after-has = rw e (held-new es N (k .sender) none (orElse (packetOf p) noPacket) some-room);
+        after-are = rw e (rem .after-held ∙ ap (remembering N new) are ∙ rw (packet-after es p noPacket) (rows-remember es N (k .sender) none 0 (orElse (packetOf p) noPacket)));
+        after-has = rw e (held-new es N (k .sender) none 0 (orElse (packetOf p) noPacket) some-room);
         after-found = rem .after-found;
         after-evicted = rw (e, told) (tally-same (eqb (length (held N es)) N && not (has (held N es) (k .sender))) (probesEvicted N es));
+        after-lost = rw (e, loss) (tally-same (eqb (length (held N es)) N && not (has (held N es) (k .sender)) && eqb (replies (oldest (k .sender) (held N es)) es) 0) (evictedUnanswered N es));
         after-elsewhere = rem .after-elsewhere;
       })
 

@@ -29,7 +29,7 @@ use Rattle.reply_history.proofs.Probes.{rows-first, rows-absent}
 awaits-first : (n : ℕ) (es : List Event) (k : ReplyKey) → (present (awaiting es) && firstIs (take (suc n) (accepted es)) k) ≡ awaitsIn (awaiting es) k
 unfolding awaiting accepted
 awaits-first n [] k = refl
-awaits-first n (remembered s o p ∷ es) k = awaits-first n es k
+awaits-first n (remembered s o t p ∷ es) k = awaits-first n es k
 awaits-first n (replied a p ∷ es) k = refl
 awaits-first n (observed o ∷ es) k = refl
 

@@ -22,7 +22,7 @@ use Rattle.key_ring.proofs.Fresh.{fresh-sound}
 use Rattle.probe_ring.specs.Rooms as probe_ring
 use Rattle.probe_ring.proofs.Laws.{empty-sound, empty-held}
 use Rattle.replies.specs.Served.{freshReplies}
-use Rattle.history.specs.Ledger.{rememberings, distinct, held, accepted, lastAccepted, awaiting, events, count, highestReflector, probesEvicted, copiesOf}
+use Rattle.history.specs.Ledger.{rememberings, distinct, held, accepted, lastAccepted, awaiting, events, count, highestReflector, probesEvicted, evictedUnanswered, copiesOf}
 use Rattle.ledger_state.specs.State.{atLeastOne}
 use Rattle.ledger_steps.specs.Rooms.{Rooms, Stand}
 use Rattle.reply_history.specs.Fits.{CallFits, AllFit}
@@ -50,7 +50,7 @@ module _ (N : ℕ) (some-room : 0 < N) (byKey : ReplyKey → ℕ) (byNumber : �
   no-probes = empty-held N byNumber (r .probes) (r .links) 0 ∙ sym (ap (map (probeIn [])) (take-nil N))
 
   no-replies : freshReplies ≡ repliesIn N (copiesOf copies) []
-  unfolding count events accepted highestReflector probesEvicted
+  unfolding count events accepted highestReflector probesEvicted evictedUnanswered
   no-replies = let none : zero - N ≡ 0 = omega arith in rw (mul-zero (copiesOf copies), none)
 
   pub fresh-follows : RepliesFollow N byKey byNumber (copiesOf copies) [] (freshStand copies secret r)
@@ -72,7 +72,7 @@ module _ (N : ℕ) (some-room : 0 < N) (byKey : ReplyKey → ℕ) (byNumber : �
   -- ONE SERVED CALL MORE.
   pub stepped-follows : (h : List Call) (s : Stand) (c : Call) → AllFit h → CallFits c → RepliesFollow N byKey byNumber copies h s
       → RepliesFollow N byKey byNumber copies (c ∷ h) (stepped N byKey byNumber s c)
-  stepped-follows h s (Sent p) w fits f = sent-follows N byKey byNumber copies h s p fits f
+  stepped-follows h s (Sent p) w fits f = sent-follows N some-room byKey byNumber copies h s p fits f
   stepped-follows h s (Accept a) w fits f = accept-follows N some-room byKey byNumber key-below number-below copies copies-in h w s a fits f .follows
   stepped-follows h s (Observe o) w fits f = observe-keeps N byKey byNumber number-below copies h s f o
   stepped-follows h s (Advance t) w fits f = advance-keeps N byKey byNumber number-below copies h s f t

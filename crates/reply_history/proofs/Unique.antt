@@ -3,7 +3,7 @@
 use mathlib.Core.Path.{_≡_, refl, sym, ap, _∙_, subst}
 use mathlib.Core.Bool.{Bool, true, false, cond}
 use mathlib.Core.List.{List, [], _∷_, map}
-use Prim.Native.Nat.{ℕ, _%_, _^_, _<_, _-_, suc}
+use Prim.Native.Nat.{ℕ, _/_, _%_, _^_, _<_, suc}
 use native.Mathlib.Omega.{arith}
 use lib.Dec.{leb, eqb}
 use lib.ListN.{take, getD, set}
@@ -41,21 +41,25 @@ use Rattle.reply_history.proofs.Counts.{counts-unique}
 use Rattle.reply_history.proofs.Ready.{Readied, readied-is, slot-in, probe-is}
 use Rattle.reply_history.proofs.Classes.{AcceptFollows, by}
 
--- the ordinal of any row fits
-word-ordinal : (w : ℕ) → OrdinalFits (row.ordinalOf w)
+-- the ordinal and the train of any row fit
+low-in : (n : ℕ) → n % 4294967296 < 4294967296
+low-in n = omega arith
+
+word-ordinal : (known number : ℕ) → number < 2 ^ 32 → OrdinalFits (row.ordinalOf known number)
 unfolding row.ordinalOf
-word-ordinal w = go (eqb w 0)
+word-ordinal known number l = go (eqb known 0)
   where
-    go : (b : Bool) → OrdinalFits (cond b ordinal.Absent (ordinal.Number ((w - 1) % 2 ^ 32)))
+    go : (b : Bool) → OrdinalFits (cond b ordinal.Absent (ordinal.Number number))
     go true = tt
-    go false = below (w - 1)
-      where
-        below : (n : ℕ) → n % 4294967296 < 4294967296
-        below n = omega arith
+    go false = l
 
 row-ordinal : (words : List ℕ) → OrdinalFits (row.probeOf words .ordinal)
 unfolding row.probeOf
-row-ordinal words = word-ordinal (getD words 1 0)
+row-ordinal words = word-ordinal (getD words 0 0 / 2 ^ 32 / 2 ^ 16) (getD words 1 0 % 2 ^ 32) (low-in (getD words 1 0))
+
+row-train : (words : List ℕ) → row.probeOf words .train < 2 ^ 32
+unfolding row.probeOf
+row-train words = low-in (getD words 1 0 / 2 ^ 32)
 
 module _ (N : ℕ) (some-room : 0 < N) (byKey : ReplyKey → ℕ) (byNumber : ℕ → ℕ) (key-below : (k : ReplyKey) → byKey k < N) (number-below : (r : ℕ) → byNumber r < N)
     (copies : ℕ) (copies-in : copies < 2 ^ 16) (h : List Call) (all-fit : AllFit h) (s : Stand) (a : Reply) (fits : KeyFits (a .key))
@@ -123,6 +127,7 @@ module _ (N : ℕ) (some-room : 0 < N) (byKey : ReplyKey → ℕ) (byNumber : �
     sequence-in = fits .sender-in;
     replies-in = rw (one-more (replies (a .key .sender) es′)) (kept-in (suc (replies (a .key .sender) es′)));
     ordinal-in = subst (λ (q : Probe). OrdinalFits (q .ordinal)) here-is (row-ordinal (getD (o .rows) (o .answer .slot) []));
+    train-in = subst (λ (q : Probe). q .train < 2 ^ 32) here-is (row-train (getD (o .rows) (o .answer .slot) []));
   }
 
   its : after .sequence ≡ a .key .sender
@@ -158,11 +163,11 @@ module _ (N : ℕ) (some-room : 0 < N) (byKey : ReplyKey → ℕ) (byNumber : �
 
   counts-are :
       afterUnique (probeAt (o .rows) (o .answer .slot) .replies) (s .ledger .copies) (isPending (a .pending)) (a .key .sender) (a .key .reflector)
-      (o .answer .evicted) (leb N (s .ledger .tables .keys .len)) (s .ledger .counts .replies)
+      (o .answer .evicted) (o .answer .lost) (leb N (s .ledger .tables .keys .len)) (s .ledger .counts .replies)
       ≡ repliesIn N copies (Accept a ∷ h)
   counts-are =
       rw (here-is, f .copies-are, f .replies-are)
-      (counts-unique N copies h a e (o .answer .evicted) (leb N (s .ledger .tables .keys .len)) copies-in fits (accepted-fit N h all-fit) (ok .after-evicted)
+      (counts-unique N copies h a e (o .answer .evicted) (o .answer .lost) (leb N (s .ledger .tables .keys .len)) copies-in fits (accepted-fit N h all-fit) (ok .after-evicted) (ok .after-lost)
       (key-evicted N t (events N h) t-keys))
 
   awaits-are : true ≡ present (awaiting (events N (Accept a ∷ h)))

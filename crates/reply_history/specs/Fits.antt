@@ -25,6 +25,7 @@ pub record KeyFits (k : ReplyKey) : Type 0 where
 pub record SentFits (s : SentProbe) : Type 0 where
   pub sequence-in : s .sequence < 2 ^ 32
   pub ordinal-in : s .ordinal < 2 ^ 32
+  pub train-in : s .train < 2 ^ 32
 
 -- an ordinal, where there is one
 abbrev pub OrdinalFits : Ordinal → Type 0

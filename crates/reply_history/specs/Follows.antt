@@ -39,7 +39,7 @@ asReflector (some n) = reflector.Number n
 
 -- the probe s after these events; its replies are counted up to 65,535
 abbrev pub probeIn : List Event → ℕ → Probe
-probeIn es s = record { sequence = s; replies = min (replies s es) mostReplies; ordinal = asOrdinal (history.ordinal s es); packet = packet s es }
+probeIn es s = record { sequence = s; replies = min (replies s es) mostReplies; ordinal = asOrdinal (history.ordinal s es); train = history.train s es; packet = packet s es }
 
 -- the counts and the reflector numbers
 abbrev pub repliesBy : ReplyCounts → List ReplyKey → Replies
@@ -47,7 +47,7 @@ repliesBy c ks = record {
   totals = record { requested = c .requested; unique = c .unique; duplicate = c .duplicate; unknown = c .unknown };
   answers = record { answered = c .answered; additional = c .additional; late = c .late; satisfied = c .satisfied };
   numbers = record { last = asReflector (lastReflector ks); highest = asReflector (highestReflector ks); reordered = c .reordered; independent = c .independent };
-  evicted = record { probes = c .probes-evicted; replies = c .replies-evicted };
+  evicted = record { probes = c .probes-evicted; replies = c .replies-evicted; unanswered = c .evicted-unanswered };
 }
 
 -- the same after the served calls h, with these copies
@@ -63,7 +63,7 @@ awaitsIn (some a) k = sameKey k a
 abbrev pub asAccepted : history.Answer → Accepted
 asAccepted history.isDuplicate = answers.Duplicate
 asAccepted history.isUnknown = answers.Unknown
-asAccepted (history.isUnique p o) = answers.Unique p (asOrdinal o)
+asAccepted (history.isUnique p o t) = answers.Unique p (asOrdinal o) t
 
 -- ---- the parts of a stand
 
