@@ -159,7 +159,7 @@ static void clear(uint8_t *r, int holds, unsigned from, unsigned to) {
 
 // Sets to 0 what a record of its kind and flags has not.
 static void mend_record(uint8_t *r) {
-    static const unsigned ends[5] = {28, 36, 88, 12, 4};
+    static const unsigned ends[5] = {32, 36, 88, 12, 4};
     uint8_t kind = r[0] %= 5;
     uint8_t flags = r[1] &= kind == 2 ? 255 : kind == 1 ? 1 : 0;
     if (kind == 2 && !(flags & 8))

@@ -105,4 +105,5 @@ figuresOf k records turned = record {
   missing = missingOf (summaryOf (k .ledger .counts .direct));
   session = sessionOf (k .watch);
   rtt = roundTripOf (k .ledger .counts .rtt);
+  evicted = record { unanswered = k .ledger .counts .replies .evicted .unanswered };
 }

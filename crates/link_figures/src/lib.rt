@@ -143,6 +143,7 @@ pub fn figures_of(link: Link, records: u64, turned: u64) -> Figures
     let totals = replies.totals;
     let answers = replies.answers;
     let numbers = replies.numbers;
+    let evicted = replies.evicted;
     let losses = direct.counts;
     let classes = follow.counts;
     let summary = direct::summary::summary_of(direct);
@@ -171,5 +172,8 @@ pub fn figures_of(link: Link, records: u64, turned: u64) -> Figures
         missing: missing_of(summary),
         session: session_of(watch),
         rtt: round_trip_of(rtt),
+        evicted: figures::Evicted {
+            unanswered: evicted.unanswered,
+        },
     }
 }

@@ -78,6 +78,7 @@ sent-back p h =
     ∙ (λ i. entry.Sent (record {
       sequence = field c 3 tt (h .sequence) i;
       ordinal = field c 4 tt (h .ordinal) i;
+      train = field c 7 tt (h .train) i;
       packet = record { time = field c 5 tt (h .packet .time) i; tag = field c 6 tt (h .packet .tag) i };
     }))
 

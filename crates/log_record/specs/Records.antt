@@ -35,9 +35,9 @@ use Rattle.log_record.specs.declared.Record.the-variants as answered
 abbrev pub frame : ℕ → ℕ → List Field → List Field
 frame kind flags fields = byte 0 kind ∷ byte 1 flags ∷ byte 95 (255 - kind) ∷ fields
 
--- "0 sent (4 sequence, 8 ordinal, 12 time, 20 tag)"
+-- "0 sent (4 sequence, 8 ordinal, 12 time, 20 tag)"; "kind 0 carries the number at byte 28" (document 02, Q-3)
 abbrev pub sentFields : SentProbe → List Field
-sentFields p = bytes4 4 (p .sequence) ∷ bytes4 8 (p .ordinal) ∷ bytes8 12 (p .packet .time) ∷ bytes8 20 (p .packet .tag) ∷ []
+sentFields p = bytes4 4 (p .sequence) ∷ bytes4 8 (p .ordinal) ∷ bytes8 12 (p .packet .time) ∷ bytes8 20 (p .packet .tag) ∷ bytes4 28 (p .train) ∷ []
 
 -- "4 sender, 8 reflector, 12 T3", before other fields
 abbrev pub keyFields : ReplyKey → List Field → List Field
@@ -90,9 +90,14 @@ recordOf c = written (tableOf c) blank
 abbrev pub keyAt : List ℕ → ReplyKey
 keyAt r = record { sender = numberAt 2 r 4; reflector = numberAt 2 r 8; t3 = numberAt 3 r 12 }
 
--- "4 sequence, 8 ordinal, 12 time, 20 tag"
+-- "4 sequence, 8 ordinal, 12 time, 20 tag", and the train at 28
 abbrev pub sentAt : List ℕ → SentProbe
-sentAt r = record { sequence = numberAt 2 r 4; ordinal = numberAt 2 r 8; packet = record { time = numberAt 3 r 12; tag = numberAt 3 r 20 } }
+sentAt r = record {
+  sequence = numberAt 2 r 4;
+  ordinal = numberAt 2 r 8;
+  train = numberAt 2 r 28;
+  packet = record { time = numberAt 3 r 12; tag = numberAt 3 r 20 };
+}
 
 -- of the record's flags, and the record: without flag 1 nothing is pending
 abbrev pub acceptAt : ℕ → List ℕ → Reply

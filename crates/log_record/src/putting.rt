@@ -41,6 +41,7 @@ fn put_sent(bytes: &mut [u8], p: SentProbe)
     put_u32(bytes, 8, p.ordinal);
     put_u64(bytes, 12, packet.time);
     put_u64(bytes, 20, packet.tag);
+    put_u32(bytes, 28, p.train);
 }
 
 fn put_key(bytes: &mut [u8], key: ReplyKey)

@@ -42,6 +42,7 @@ fn sent(bytes: &[u8]) -> SentProbe
     SentProbe {
         sequence: u32_at(bytes, 4),
         ordinal: u32_at(bytes, 8),
+        train: u32_at(bytes, 28),
         packet: PendingPacket {
             time: u64_at(bytes, 12),
             tag: u64_at(bytes, 20),

@@ -221,7 +221,7 @@ module _ (r : List ℕ) (b : Bytes r) (h : Rules r) where
   of-sent : kind ≡ 0 → recordOf (entry.Sent (sentAt r)) ≡ r
   unfolding tableOf
   of-sent e = copied-of (entry.Sent (sentAt r)) 0 r tt (h .size) b
-      (sym e, (no-flags 0 e (eqb-false 0 1 refl) (eqb-false 0 2 refl), (last-of 0 e, (refl, (refl, (refl, (refl, tt))))))) (empty-at 0 e)
+      (sym e, (no-flags 0 e (eqb-false 0 1 refl) (eqb-false 0 2 refl), (last-of 0 e, (refl, (refl, (refl, (refl, (refl, tt)))))))) (empty-at 0 e)
 
   of-accept : kind ≡ 1 → recordOf (entry.Accept (acceptAt flags r)) ≡ r
   unfolding tableOf

@@ -13,9 +13,9 @@ use Rattle.record_parts.specs.Parts.{flag}
 abbrev pub Bytes : List ℕ → Type 0
 Bytes r = (i : ℕ) → getD r i 0 < 256
 
--- the fields of a kind stand from byte 4 up to this one: sent, accept, observe, advance, idle
+-- the fields of a kind stand from byte 4 up to this one: sent (with the train of document 02, Q-3, at 28), accept, observe, advance, idle
 abbrev pub endOf : ℕ → ℕ
-endOf kind = cond (eqb kind 0) 28 (cond (eqb kind 1) 36 (cond (eqb kind 2) 88 (cond (eqb kind 3) 12 4)))
+endOf kind = cond (eqb kind 0) 32 (cond (eqb kind 1) 36 (cond (eqb kind 2) 88 (cond (eqb kind 3) 12 4)))
 
 -- the bytes of no field
 abbrev pub unused : ℕ → ℕ → Bool

@@ -31,7 +31,7 @@ use Rattle.record_parts.specs.declared.Entry.the-variants as entry
 abbrev pub U16 : ℕ → Type 0
 U16 n = n < 2 ^ 16
 
--- a number of 4 bytes: sequences, ordinals and counters
+-- a number of 4 bytes: sequences, ordinals, trains and counters
 abbrev pub U32 : ℕ → Type 0
 U32 n = n < 2 ^ 32
 
@@ -96,10 +96,11 @@ abbrev pub EstimatesFit : Estimates → Type 0
 EstimatesFit estimates.Absent = Unit
 EstimatesFit (estimates.Pair s r) = EstimateFits s × EstimateFits r
 
--- what `sent` is told: sequence and ordinal of 4 bytes, and the packet
+-- what `sent` is told: sequence, ordinal and train of 4 bytes, and the packet
 pub record SentFits (p : SentProbe) : Type 0 where
   pub sequence : U32 (p .sequence)
   pub ordinal : U32 (p .ordinal)
+  pub train : U32 (p .train)
   pub packet : PacketFits (p .packet)
 
 -- what `accept` is told: the key, and the pending packet if there

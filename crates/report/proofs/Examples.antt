@@ -27,9 +27,10 @@ documented =
       missing = record { forward = Absent; reverse = Absent };
       session = Active 0;
       rtt = record { samples = 1; min = Number 50; max = Number 50 };
+      evicted = record { unanswered = 0 };
     }
 
--- Document 01's example, word for word.
+-- Document 01's example, word for word, with the last line of document 02, Q-3.
 pub document-example :
     textOf documented
     ≡ bytes "records 4 turned away 0\n"
@@ -42,6 +43,7 @@ pub document-example :
     ++ bytes "missing forward - reverse -\n"
     ++ bytes "state active losses 0\n"
     ++ bytes "rtt samples 1 min 50 max 50\n"
+    ++ bytes "evicted unanswered 0\n"
 unfolding textOf valuesOf filled decimal digitsWithin
 document-example = refl
 
@@ -59,10 +61,11 @@ alike n s =
       missing = record { forward = Number n; reverse = Number n };
       session = s;
       rtt = record { samples = n; min = Number n; max = Number n };
+      evicted = record { unanswered = n };
     }
 
 -- A long text: each place holds the greatest number of its type, or the longest word.
-pub longest : length (textOf (alike 18446744073709551615 (Failed 4294967295))) ≡ 891
+pub longest : length (textOf (alike 18446744073709551615 (Failed 4294967295))) ≡ 931
 unfolding textOf valuesOf filled decimal digitsWithin
 longest = refl
 

@@ -15,7 +15,7 @@ use Rattle.report.specs.declared.figures.Figures.{Figures}
 abbrev pub newline : List ℕ
 newline = bytes "\n"
 
--- The ten lines, in document 01's words.
+-- The ten lines, in document 01's words, and "a last line, `evicted unanswered N`" (document 02, Q-3).
 abbrev pub template : List ℕ
 template =
     bytes "records # turned away #\n"
@@ -28,6 +28,7 @@ template =
     ++ bytes "missing forward # reverse #\n"
     ++ bytes "state # losses #\n"
     ++ bytes "rtt samples # min # max #\n"
+    ++ bytes "evicted unanswered #\n"
 
 -- a value as it is: a number, or absent
 abbrev pub shownOf : Value → Shown
@@ -81,6 +82,7 @@ valuesOf f =
     ∷ shown.Number (f .rtt .samples)
     ∷ shownOf (f .rtt .min)
     ∷ shownOf (f .rtt .max)
+    ∷ shown.Number (f .evicted .unanswered)
     ∷ []
 
 -- The text of the report: the template, filled from the figures.

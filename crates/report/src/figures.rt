@@ -78,6 +78,11 @@ pub struct RoundTrip {
     pub max: Value,
 }
 
+// `evicted unanswered` (document 02, Q-3).
+pub struct Evicted {
+    pub unanswered: u64,
+}
+
 // All that the report shows.
 pub struct Figures {
     pub played: Played,
@@ -90,4 +95,5 @@ pub struct Figures {
     pub missing: Missing,
     pub session: Session,
     pub rtt: RoundTrip,
+    pub evicted: Evicted,
 }

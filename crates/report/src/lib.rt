@@ -7,7 +7,7 @@ ghost use mathlib.Core.Path.{_≡_};
 ghost use Rattle.report.specs.Report.{outcome, reportOf};
 use crate::figures::Figures;
 
-// The size of the buffer: the template with the greatest number at each place fits it, and so would a line more.
+// The size of the buffer: the template with the greatest number at each place fits it.
 pub const REPORT_ROOM: usize = 1024;
 
 // The length of the text, or the refusal's number.
@@ -35,7 +35,8 @@ pub fn report(buffer: &mut [u8], figures: Figures) -> Answer
         direct # unavailable # discontinuities # reordered #\n\
         missing forward # reverse #\n\
         state # losses #\n\
-        rtt samples # min # max #\n",
+        rtt samples # min # max #\n\
+        evicted unanswered #\n",
         values,
     );
     Answer::Written(end)

@@ -89,5 +89,6 @@ pub(crate) fn values_of(figures: Figures) -> [Shown; PLACES]
         Shown::Number(figures.rtt.samples),
         min,
         max,
+        Shown::Number(figures.evicted.unanswered),
     ]
 }

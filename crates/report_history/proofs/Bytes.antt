@@ -82,7 +82,7 @@ module _ (r : List ℕ) (h : BytesIn r) where
   key-fits = record { sender-in = four-bytes r h 4; reflector-in = four-bytes r h 8; t3-in = eight-bytes r h 12 }
 
   sent-fits : Fits (call.Sent (sentAt r))
-  sent-fits = (record { sequence-in = four-bytes r h 4; ordinal-in = four-bytes r h 8 }, tt)
+  sent-fits = (record { sequence-in = four-bytes r h 4; ordinal-in = four-bytes r h 8; train-in = four-bytes r h 28 }, tt)
 
   observe-fits : (flags : ℕ) → Fits (call.Observe (observeAt flags r))
   observe-fits flags = (

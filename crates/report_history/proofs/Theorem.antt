@@ -84,6 +84,7 @@ figures-are copies v h k records turned shows =
       missing = missingOf (shown i .direct);
       session = session i;
       rtt = roundTripOf (counts i .rtt);
+      evicted = record { unanswered = counts i .replies .evicted .unanswered };
     }
 
 -- ---- the theorem

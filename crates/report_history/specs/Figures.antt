@@ -72,6 +72,7 @@ figuresFrom copies v h records turned =
       missing = missingOf (summaryFrom capacity h);
       session = sessionFrom v h;
       rtt = roundTripOf (delaysFrom (roundTripFigures capacity h));
+      evicted = record { unanswered = c .evicted-unanswered };
     }
 
 -- ---- the report of a log

@@ -9,7 +9,7 @@ ghost use Rattle.template.specs.Filled.{shownText, places, mostFilled, f
 use crate::words::put_text;
 
 // How many places the template has.
-pub const PLACES: usize = 30;
+pub const PLACES: usize = 31;
 
 // The byte of the template that stands for a value.
 pub const PLACE: u8 = b'#';
