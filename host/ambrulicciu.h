@@ -37,7 +37,7 @@
  * A HOST IN SHORT (host/c has a whole one)
  *       static ambrulicciu_link yard;
  *       ambrulicciu_link_fresh(&yard, 1, secret, 3, 2000000000u);            copies 1, failed at 3 losses, timeout 2 s
- *       ambrulicciu_link_sent(&yard, sequence, ordinal, now, tag);           after each probe
+ *       ambrulicciu_link_sent(&yard, sequence, ordinal, train, now, tag);    after each probe; train 0: none
  *       ambrulicciu_link_accept(&yard, sender, reflector, t3, &packet, &accepted);
  *       if (accepted.class_ == AMBRULICCIU_UNIQUE)                           each unique reply is observed once
  *           ambrulicciu_link_observe(&yard, &observation);
@@ -130,6 +130,7 @@ typedef struct {
     uint64_t tag;           /* the probe's tag, untouched */
     uint64_t ordinal_known; /* 0: the probe was not told by sent */
     uint64_t ordinal;
+    uint64_t train;         /* the probe's train, as sent was told last; 0: none, or the probe was not told by sent */
 } ambrulicciu_accepted;
 
 /* Which fields of an observation are there, added up. AMBRULICCIU_UNKNOWN_MODE counts only with AMBRULICCIU_FOLLOW_UP; bit 16 and bits
@@ -271,6 +272,7 @@ typedef struct {
     ambrulicciu_delays round_trip;
     ambrulicciu_direct direct;
     ambrulicciu_follow_ups follow_up;
+    uint64_t evicted_unanswered; /* of the evicted probes, those that had no reply; a probe sent again is not evicted */
 } ambrulicciu_figures;
 
 /* The session's states. */
@@ -301,9 +303,9 @@ typedef struct {
 uint8_t ambrulicciu_ledger_fresh(ambrulicciu_ledger *ledger, uint16_t copies, const uint32_t secret[8]);
 
 /* A probe was sent: adds copies to requested, and holds the probe. A sequence that is held already becomes the newest, unanswered, with
- * the new ordinal, time and tag. Refuses 5, 4. */
+ * the new ordinal, train, time and tag. `train` comes back with the answer of accept; 0: no train. Refuses 5, 4. */
 uint8_t ambrulicciu_sent(ambrulicciu_ledger *ledger, ambrulicciu_probe *probes, size_t probes_length, ambrulicciu_chain *links,
-                         size_t links_length, uint32_t sequence, uint32_t ordinal, uint64_t time, uint64_t tag);
+                         size_t links_length, uint32_t sequence, uint32_t ordinal, uint32_t train, uint64_t time, uint64_t tag);
 
 /* A reply came, with the three parts of its key. `pending` other than 0: the host still had the probe's packet, with this send time and
  * tag. Each reply is counted as unique, duplicate or unknown, all of which are served calls. Refuses 5, 4. */
@@ -337,7 +339,8 @@ uint8_t ambrulicciu_snapshot(const ambrulicciu_ledger *ledger, ambrulicciu_figur
 /* ambrulicciu_sent and ambrulicciu_monitor_sent at the same time. Refuses 5, 6, 4, 3, for either part. */
 uint8_t ambrulicciu_watched_sent(ambrulicciu_ledger *ledger, ambrulicciu_monitor *monitor, ambrulicciu_probe *probes,
                                  size_t probes_length, ambrulicciu_chain *links, size_t links_length, ambrulicciu_queued *queue,
-                                 size_t queue_length, uint32_t sequence, uint32_t ordinal, uint64_t time, uint64_t tag);
+                                 size_t queue_length, uint32_t sequence, uint32_t ordinal, uint32_t train, uint64_t time,
+                                 uint64_t tag);
 
 /* ambrulicciu_accept, and ambrulicciu_monitor_reply if the reply is unique. Refuses 5, 4, for either part. */
 uint8_t ambrulicciu_watched_accept(ambrulicciu_ledger *ledger, ambrulicciu_monitor *monitor, ambrulicciu_key *keys, size_t keys_length,
@@ -513,8 +516,8 @@ uint8_t ambrulicciu_bit_summary_show(const ambrulicciu_bit_summary *summary, amb
 
 /* Each writes one record of AMBRULICCIU_RECORD bytes, with what the call of the same name was told, be it served or refused. Refuses 5:
  * another number of bytes. An observe's has no converted T3: flag 16 is read in a log, and never written. */
-uint8_t ambrulicciu_log_write_sent(uint8_t *bytes, size_t bytes_length, uint32_t sequence, uint32_t ordinal, uint64_t time,
-                                   uint64_t tag);
+uint8_t ambrulicciu_log_write_sent(uint8_t *bytes, size_t bytes_length, uint32_t sequence, uint32_t ordinal, uint32_t train,
+                                   uint64_t time, uint64_t tag);
 uint8_t ambrulicciu_log_write_accept(uint8_t *bytes, size_t bytes_length, uint32_t sender, uint32_t reflector, uint64_t t3,
                                      uint32_t pending, uint64_t time, uint64_t tag);
 uint8_t ambrulicciu_log_write_observe(uint8_t *bytes, size_t bytes_length, const ambrulicciu_observation *observation);
@@ -563,7 +566,7 @@ typedef struct {
 } ambrulicciu_told_accept;
 typedef struct {
     uint32_t kind; /* AMBRULICCIU_KIND_SENT .. AMBRULICCIU_KIND_IDLE; the fields of other kinds are 0 */
-    uint32_t unused;
+    uint32_t train; /* of a sent probe, 0: none */
     ambrulicciu_told_sent sent;
     ambrulicciu_told_accept accept;
     ambrulicciu_observation observation; /* as observe is told; fields that are not there are 0 */
@@ -575,7 +578,7 @@ typedef struct {
 uint8_t ambrulicciu_log_read(const uint8_t *log, size_t log_length, uint32_t at, ambrulicciu_call *call);
 
 /* ---- the report --------------------------------------------------------------------------------------------------------------------
- * Ten lines of text, as linkreport prints them, at the start of a buffer of AMBRULICCIU_TEXT bytes; `length` says how many bytes were
+ * Eleven lines of text, as linkreport prints them, at the start of a buffer of AMBRULICCIU_TEXT bytes; `length` says how many bytes were
  * written. The bytes behind stay as they are; there is no 0 at the end. */
 
 /* The report of a log, played from fresh in the rooms, which may hold anything. Refuses 5: a room, the queue or the buffer of another
@@ -623,12 +626,13 @@ static inline uint8_t ambrulicciu_link_fresh(ambrulicciu_link *link, uint16_t co
     return ambrulicciu_ledger_fresh(&link->ledger, copies, secret);
 }
 
-static inline uint8_t ambrulicciu_link_sent(ambrulicciu_link *link, uint32_t sequence, uint32_t ordinal, uint64_t time, uint64_t tag) {
+static inline uint8_t ambrulicciu_link_sent(ambrulicciu_link *link, uint32_t sequence, uint32_t ordinal, uint32_t train, uint64_t time,
+                                            uint64_t tag) {
     if (!link->watched)
-        return ambrulicciu_sent(&link->ledger, link->probes, AMBRULICCIU_ROWS, link->links, AMBRULICCIU_ROWS, sequence, ordinal, time,
-                                tag);
+        return ambrulicciu_sent(&link->ledger, link->probes, AMBRULICCIU_ROWS, link->links, AMBRULICCIU_ROWS, sequence, ordinal, train,
+                                time, tag);
     return ambrulicciu_watched_sent(&link->ledger, &link->monitor, link->probes, AMBRULICCIU_ROWS, link->links, AMBRULICCIU_ROWS,
-                                    link->queue, AMBRULICCIU_ROWS, sequence, ordinal, time, tag);
+                                    link->queue, AMBRULICCIU_ROWS, sequence, ordinal, train, time, tag);
 }
 
 /* `packet` is null where none is pending. */

@@ -260,7 +260,7 @@ static void try_sent(void) {
     ambrulicciu_ledger *l = ledger(0);
     rooms r = lend_rooms(PROBES | LINKS);
     ready();
-    done("sent", ambrulicciu_sent(l, r.probes, r.probe_rows, r.links, r.link_rows, (uint32_t)number(), (uint32_t)number(), number(), number()), "54");
+    done("sent", ambrulicciu_sent(l, r.probes, r.probe_rows, r.links, r.link_rows, (uint32_t)number(), (uint32_t)number(), (uint32_t)number(), number(), number()), "54");
 }
 
 static void try_accept(void) {
@@ -316,7 +316,7 @@ static void try_watched_sent(void) {
     fill(m, r);
     ready();
     done("watched_sent", ambrulicciu_watched_sent(l, m, r.probes, r.probe_rows, r.links, r.link_rows, r.queue, r.queue_rows, (uint32_t)number(),
-                                                  (uint32_t)number(), number(), number()), "5643");
+                                                  (uint32_t)number(), (uint32_t)number(), number(), number()), "5643");
 }
 
 static void try_watched_accept(void) {
@@ -519,7 +519,7 @@ static void try_writers(void) {
     size_t n = bytes_of(AMBRULICCIU_RECORD);
     uint8_t *bytes = lend(n, 0);
     ready();
-    done("log_write_sent", ambrulicciu_log_write_sent(bytes, n, (uint32_t)number(), (uint32_t)number(), number(), number()), "5");
+    done("log_write_sent", ambrulicciu_log_write_sent(bytes, n, (uint32_t)number(), (uint32_t)number(), (uint32_t)number(), number(), number()), "5");
     bytes = lend(n, 0);
     ready();
     done("log_write_accept", ambrulicciu_log_write_accept(bytes, n, (uint32_t)number(), (uint32_t)number(), number(), (uint32_t)number(), number(), number()), "5");
@@ -567,7 +567,7 @@ static uint8_t *log_of(size_t *size) {
     for (uint32_t i = 0; i < count; i++, at += AMBRULICCIU_RECORD) {
         ambrulicciu_observation o = brought(i);
         switch (drawn() % 6) {
-        case 0: ambrulicciu_log_write_sent(at, AMBRULICCIU_RECORD, i, i, i, number()); break;
+        case 0: ambrulicciu_log_write_sent(at, AMBRULICCIU_RECORD, i, i, i, i, number()); break;
         case 1: ambrulicciu_log_write_accept(at, AMBRULICCIU_RECORD, i - 1, i, i, (uint32_t)drawn() % 2, i, i); break;
         case 2: ambrulicciu_log_write_advance(at, AMBRULICCIU_RECORD, number()); break;
         case 3: ambrulicciu_log_write_idle(at, AMBRULICCIU_RECORD); break;
@@ -604,7 +604,7 @@ static void try_again(void) {
     ambrulicciu_call c;
     put((unsigned char *)&o, sizeof o, (int)(drawn() % 2));
     put(log, sizeof log, 0);
-    uint8_t wrote = kind == AMBRULICCIU_KIND_SENT      ? ambrulicciu_log_write_sent(log, AMBRULICCIU_RECORD, (uint32_t)number(), (uint32_t)number(), number(), number())
+    uint8_t wrote = kind == AMBRULICCIU_KIND_SENT      ? ambrulicciu_log_write_sent(log, AMBRULICCIU_RECORD, (uint32_t)number(), (uint32_t)number(), (uint32_t)number(), number(), number())
                     : kind == AMBRULICCIU_KIND_ACCEPT  ? ambrulicciu_log_write_accept(log, AMBRULICCIU_RECORD, (uint32_t)number(), (uint32_t)number(), number(),
                                                                                       (uint32_t)drawn() % 2, number(), number())
                     : kind == AMBRULICCIU_KIND_OBSERVE ? ambrulicciu_log_write_observe(log, AMBRULICCIU_RECORD, &o)
@@ -613,7 +613,7 @@ static void try_again(void) {
     wrote += ambrulicciu_log_write_trailer(log + AMBRULICCIU_RECORD, AMBRULICCIU_TRAILER, 1, 1, 1, 1);
     wrote += ambrulicciu_log_read(log, sizeof log, 0, &c);
     wrote += c.kind == AMBRULICCIU_KIND_SENT
-                 ? ambrulicciu_log_write_sent(again, sizeof again, c.sent.sequence, c.sent.ordinal, c.sent.time, c.sent.tag)
+                 ? ambrulicciu_log_write_sent(again, sizeof again, c.sent.sequence, c.sent.ordinal, c.train, c.sent.time, c.sent.tag)
              : c.kind == AMBRULICCIU_KIND_ACCEPT
                  ? ambrulicciu_log_write_accept(again, sizeof again, c.accept.sender, c.accept.reflector, c.accept.t3, c.accept.pending, c.accept.time, c.accept.tag)
              : c.kind == AMBRULICCIU_KIND_OBSERVE ? ambrulicciu_log_write_observe(again, sizeof again, &c.observation)

@@ -10,8 +10,8 @@ int main(void) {
     uint8_t text[AMBRULICCIU_TEXT];
     uint64_t length;
     ambrulicciu_link_fresh(&yard, 1, secret, 3, 2000000000); /* one reply a probe; failed at 3 losses in a row; lost after 2 s */
-    ambrulicciu_link_sent(&yard, 1, 1, packet.time, packet.tag);
-    ambrulicciu_link_sent(&yard, 2, 2, 2000, 8);
+    ambrulicciu_link_sent(&yard, 1, 1, 0, packet.time, packet.tag);
+    ambrulicciu_link_sent(&yard, 2, 2, 0, 2000, 8);
     ambrulicciu_link_accept(&yard, 1, 1, 5, &packet, &reply); /* a reply to the first; the second stays without */
     if (reply.class_ == AMBRULICCIU_UNIQUE) {
         ambrulicciu_observation observation = {.t3 = 5, .sender = 1, .reflector = 1, .round_trip = 50};

@@ -60,12 +60,13 @@ static void start(host *h, uint16_t copies, uint16_t threshold, uint64_t timeout
 
 static void sent(host *h, uint32_t sequence, uint32_t ordinal, uint64_t now) {
     uint64_t tag = 1000 + ordinal;
+    uint32_t train = ordinal % 30 < 10 ? 4000 + ordinal / 30 : 0; /* one passes during each ten probes out of thirty */
     h->pending[ordinal % PENDING].sequence = sequence;
     h->pending[ordinal % PENDING].packet.time = now;
     h->pending[ordinal % PENDING].packet.tag = tag;
     h->pending[ordinal % PENDING].waits = 1;
-    ambrulicciu_log_write_sent(next_record(h), AMBRULICCIU_RECORD, sequence, ordinal, now, tag);
-    count(h, ambrulicciu_link_sent(&h->link, sequence, ordinal, now, tag));
+    ambrulicciu_log_write_sent(next_record(h), AMBRULICCIU_RECORD, sequence, ordinal, train, now, tag);
+    count(h, ambrulicciu_link_sent(&h->link, sequence, ordinal, train, now, tag));
 }
 
 /* The packet of a probe that the host still waits for; it then waits no more. */

@@ -150,12 +150,12 @@ static void fresh(void) {
 }
 
 static void send(void) {
-    uint32_t ordinal = (uint32_t)drawn(), which = below(8) ? ++sequence : (uint32_t)below(20);
+    uint32_t ordinal = (uint32_t)drawn(), train = below(3) ? (uint32_t)drawn() : 0, which = below(8) ? ++sequence : (uint32_t)below(20);
     uint64_t time = below(30) ? now : ~(uint64_t)0 - below(60), tag = drawn();
-    uint8_t one = ambrulicciu_link_sent(&forms, which, ordinal, time, tag);
+    uint8_t one = ambrulicciu_link_sent(&forms, which, ordinal, train, time, tag);
     uint8_t other = watched ? ambrulicciu_watched_sent(&direct.ledger, &direct.monitor, direct.probes, ROWS, direct.links, ROWS,
-                                                       direct.queue, ROWS, which, ordinal, time, tag)
-                            : ambrulicciu_sent(&direct.ledger, direct.probes, ROWS, direct.links, ROWS, which, ordinal, time, tag);
+                                                       direct.queue, ROWS, which, ordinal, train, time, tag)
+                            : ambrulicciu_sent(&direct.ledger, direct.probes, ROWS, direct.links, ROWS, which, ordinal, train, time, tag);
     reach(one ? "sent refused" : "sent served");
     same("sent", one, other, "", "", 0);
 }
@@ -210,8 +210,9 @@ static void accept(void) {
                             : ambrulicciu_accept(&direct.ledger, direct.keys, ROWS, direct.slots, ROWS, direct.probes, ROWS,
                                                  direct.links, ROWS, sender, reflector, t3, (uint32_t)pending, time, tag, &too);
     same("accept", one, other, &answer, &too, sizeof answer);
-    absent("accept", answer.class_ == AMBRULICCIU_UNIQUE, answer.time | answer.tag | answer.ordinal_known);
+    absent("accept", answer.class_ == AMBRULICCIU_UNIQUE, answer.time | answer.tag | answer.ordinal_known | answer.train);
     absent("accept", answer.ordinal_known, answer.ordinal);
+    absent("accept", answer.ordinal_known, answer.train);
     reach(answer.class_ == AMBRULICCIU_UNKNOWN ? "unknown" : answer.class_ == AMBRULICCIU_DUPLICATE ? "duplicate" : "unique");
     if (answer.class_ == AMBRULICCIU_UNIQUE) {
         reach(answer.ordinal_known ? "ordinal" : "no ordinal");
@@ -320,7 +321,7 @@ static void named(void) {
     ambrulicciu_link_fresh(&forms, 1, secret, 1, 10);
     ambrulicciu_link_session(&forms, &session);
     is("the state of a fresh link", session.state, AMBRULICCIU_IDLE);
-    ambrulicciu_link_sent(&forms, 1, 1, 100, 0);
+    ambrulicciu_link_sent(&forms, 1, 1, 0, 100, 0);
     ambrulicciu_link_accept(&forms, 2, 1, 5, NULL, &answer);
     is("the class of a reply to nothing", answer.class_, AMBRULICCIU_UNKNOWN);
     ambrulicciu_link_accept(&forms, 1, 1, 5, NULL, &answer);
@@ -329,7 +330,7 @@ static void named(void) {
     is("the state after a reply", session.state, AMBRULICCIU_ACTIVE);
     ambrulicciu_link_accept(&forms, 1, 1, 5, NULL, &answer);
     is("the class of the same reply again", answer.class_, AMBRULICCIU_DUPLICATE);
-    ambrulicciu_link_sent(&forms, 2, 2, 200, 0);
+    ambrulicciu_link_sent(&forms, 2, 2, 0, 200, 0);
     ambrulicciu_link_advance(&forms, 210);
     ambrulicciu_link_session(&forms, &session);
     is("the state after as many losses as the threshold", session.state, AMBRULICCIU_FAILED);

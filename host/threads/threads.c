@@ -100,7 +100,7 @@ static void show(played *p) {
 
 static void play(played *p, uint32_t from, uint32_t to) {
     for (uint32_t call = from; call < to; call++) {
-        told(p, ambrulicciu_link_sent(&p->link, call, call, call, drawn(&p->seed)));
+        told(p, ambrulicciu_link_sent(&p->link, call, call, call, call, drawn(&p->seed)));
         if (drawn(&p->seed) % 5) {
             accept(p, call);
             observe(p);

@@ -48,12 +48,12 @@ module _ (w : List ℕ) (keys slots probes links : List (List ℕ)) (answer : Li
   pub duplicate-is :
       (r : Bool) (made : Reply) (w' : List ℕ) → made ≡ reply → r ≡ isDuplicate (ledgerAt w) keys links (length slots) (length probes) (made .key) →
       w' ≡ cond r (duplicateWords w) w → r ≡ true →
-      acceptLeft 0 w' keys slots probes links (1 ∷ 0 ∷ 0 ∷ 0 ∷ 0 ∷ []) ≡ acceptOf w keys slots probes links answer reply
+      acceptLeft 0 w' keys slots probes links (1 ∷ 0 ∷ 0 ∷ 0 ∷ 0 ∷ 0 ∷ []) ≡ acceptOf w keys slots probes links answer reply
   unfolding acceptOf duplicateWords
   duplicate-is r made w' hm hr hw taken =
       let duplicate : isDuplicate (ledgerAt w) keys links (length slots) (length probes) (reply .key) ≡ true =
       ap (λ (x : Reply). isDuplicate (ledgerAt w) keys links (length slots) (length probes) (x .key)) (sym hm) ∙ sym hr ∙ taken in
-      ap (λ (x : List ℕ). acceptLeft 0 x keys slots probes links (1 ∷ 0 ∷ 0 ∷ 0 ∷ 0 ∷ [])) (hw ∙ ap (λ (b : Bool). cond b (duplicateWords w) w) taken)
+      ap (λ (x : List ℕ). acceptLeft 0 x keys slots probes links (1 ∷ 0 ∷ 0 ∷ 0 ∷ 0 ∷ 0 ∷ [])) (hw ∙ ap (λ (b : Bool). cond b (duplicateWords w) w) taken)
       ∙ sym (ap (acceptFrom w answer) (duplicate-as (ledgerAt w) keys slots probes links reply duplicate))
 
   -- any other reply: no word has changed before it is looked at

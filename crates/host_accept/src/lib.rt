@@ -16,7 +16,7 @@ fn accept(
     probes: &mut [[u64; 4]],
     links: &mut [[u16; 8]],
     reply: Reply,
-    answer: &mut [u64; 5],
+    answer: &mut [u64; 6],
 ) -> u8
     ensures { λ r. ⌜ acceptLeft r (now (ledger .exit)) (now (keys .exit)) (now (slots .exit)) (now (probes .exit)) (now (links .exit)) (now (answer .exit)) ≡ acceptOf (now (ledger .entry)) (now (keys .entry)) (now (slots .entry)) (now (probes .entry)) (now (links .entry)) (now (answer .entry)) reply ⌝ }
 {
@@ -33,7 +33,7 @@ fn accept(
 }
 
 // A duplicate is answered before the ledger is taken out of its words: what a unique reply needs of them would cost it a quarter of its time.
-// Words of `answer`: 0 class, 1 time, 2 tag, 3 ordinal_known, 4 ordinal.
+// Words of `answer`: 0 class, 1 time, 2 tag, 3 ordinal_known, 4 ordinal, 5 train.
 #[no_mangle]
 pub extern "C" fn ambrulicciu_accept(
     ledger: &mut [u64; LEDGER_WORDS],
@@ -47,14 +47,14 @@ pub extern "C" fn ambrulicciu_accept(
     pending: u32,
     time: u64,
     tag: u64,
-    answer: &mut [u64; 5],
+    answer: &mut [u64; 6],
 ) -> u8
     ensures { λ r. ⌜ acceptLeft r (now (ledger .exit)) (now (keys .exit)) (now (slots .exit)) (now (probes .exit)) (now (links .exit)) (now (answer .exit)) ≡ acceptOf (now (ledger .entry)) (now (keys .entry)) (now (slots .entry)) (now (probes .entry)) (now (links .entry)) (now (answer .entry)) (replyOf sender reflector t3 pending time tag) ⌝ }
 {
     let reply = host_calls::reply_of(sender, reflector, t3, pending, time, tag);
     let key = reply.key;
     if count_if_duplicate(ledger, keys, links, slots.len(), probes.len(), key) {
-        *answer = [1, 0, 0, 0, 0];
+        *answer = [1, 0, 0, 0, 0, 0];
         return 0;
     }
     accept(ledger, keys, slots, probes, links, reply, answer)

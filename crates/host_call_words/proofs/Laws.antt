@@ -22,8 +22,8 @@ pub long-stored : (w : List ℕ) (at n l h : ℕ) → l ≡ lower n → h ≡ up
 long-stored w at n l h el eh = λ i. set (set w at (el i)) (at + 1) (eh i)
 
 pub sent-stored : (p : SentProbe) (w₁ w₂ : List ℕ) → w₁ ≡ longAt zeros 2 (p .packet .time) → w₂ ≡ longAt w₁ 4 (p .packet .tag)
-    → set (set w₂ 6 (p .sequence)) 7 (p .ordinal) ≡ sentWords p
-sent-stored p w₁ w₂ e f = ap (λ (w : List ℕ). set (set w 6 (p .sequence)) 7 (p .ordinal)) (f ∙ ap (λ (w : List ℕ). longAt w 4 (p .packet .tag)) e)
+    → set (set (set w₂ 6 (p .sequence)) 7 (p .ordinal)) 1 (p .train) ≡ sentWords p
+sent-stored p w₁ w₂ e f = ap (λ (w : List ℕ). set (set (set w 6 (p .sequence)) 7 (p .ordinal)) 1 (p .train)) (f ∙ ap (λ (w : List ℕ). longAt w 4 (p .packet .tag)) e)
 
 pub accept-stored : (r : Reply) (w₁ w₂ w₃ : List ℕ) (t g k : ℕ) → w₁ ≡ longAt (set zeros 0 1) 8 (r .key .t3) → t ≡ pendingTime (r .pending)
     → w₂ ≡ longAt w₁ 10 t → g ≡ pendingTag (r .pending) → w₃ ≡ longAt w₂ 12 g → k ≡ pendingFlag (r .pending)

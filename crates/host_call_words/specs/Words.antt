@@ -1,4 +1,4 @@
--- A call in the 44 words in which a host reads it: 0 its kind, 2 to 7 a sent, 8 to 16 an accept, 18 to 41 an observation, 42 and 43 the time of an
+-- A call in the 44 words in which a host reads it: 0 its kind, 1 and 2 to 7 a sent, 8 to 16 an accept, 18 to 41 an observation, 42 and 43 the time of an
 -- advance; those of the other kinds are 0. A C struct names them; a number of 8 bytes is two words, low half first. Assumes nothing.
 use mathlib.Core.List.{List, [], _∷_, _++_}
 use Prim.Native.Nat.{ℕ, _+_, _*_}
@@ -24,9 +24,9 @@ long n rest = lower n ∷ upper n ∷ rest
 abbrev pub wires : Estimates → ℕ
 wires q = senderWire q + 65536 * reflectorWire q
 
--- kind 0: time, tag, sequence, ordinal
+-- kind 0: train, time, tag, sequence, ordinal
 abbrev pub sentWords : SentProbe → List ℕ
-sentWords p = 0 ∷ 0 ∷ long (p .packet .time) (long (p .packet .tag) (p .sequence ∷ p .ordinal ∷ replicate 36 0))
+sentWords p = 0 ∷ p .train ∷ long (p .packet .time) (long (p .packet .tag) (p .sequence ∷ p .ordinal ∷ replicate 36 0))
 
 -- kind 1: T3, and the pending packet's time and tag; sender, reflector, and 1 where a packet is pending
 abbrev pub acceptWords : Reply → List ℕ

@@ -29,6 +29,7 @@ fn sent_words(p: SentProbe) -> [u32; 44]
     put_long(&mut words, 4, packet.tag);
     words[6] = p.sequence;
     words[7] = p.ordinal;
+    words[1] = p.train;
     words
 }
 

@@ -9,12 +9,13 @@ use calls::ReplyKey;
 use calls::SentProbe;
 use ledger_steps::Accepted;
 
-pub fn probe_of(sequence: u32, ordinal: u32, time: u64, tag: u64) -> SentProbe
-    ensures { λ r. ⌜ r ≡ probeOf sequence ordinal time tag ⌝ }
+pub fn probe_of(sequence: u32, ordinal: u32, train: u32, time: u64, tag: u64) -> SentProbe
+    ensures { λ r. ⌜ r ≡ probeOf sequence ordinal train time tag ⌝ }
 {
     SentProbe {
         sequence,
         ordinal,
+        train,
         packet: PendingPacket { time, tag },
     }
 }
@@ -40,22 +41,22 @@ pub fn reply_of(sender: u32, reflector: u32, t3: u64, pending: u32, time: u64, t
     }
 }
 
-fn ordinal_words(packet: PendingPacket, ordinal: Ordinal) -> [u64; 5]
-    ensures { λ r. ⌜ r ≡ ordinalWords packet ordinal ⌝ }
+fn ordinal_words(packet: PendingPacket, ordinal: Ordinal, train: u32) -> [u64; 6]
+    ensures { λ r. ⌜ r ≡ ordinalWords packet ordinal train ⌝ }
 {
     match ordinal {
-        Ordinal::Absent => [2, packet.time, packet.tag, 0, 0],
-        Ordinal::Number(number) => [2, packet.time, packet.tag, 1, number as u64],
+        Ordinal::Absent => [2, packet.time, packet.tag, 0, 0, train as u64],
+        Ordinal::Number(number) => [2, packet.time, packet.tag, 1, number as u64, train as u64],
     }
 }
 
-// Class (0 unknown, 1 duplicate, 2 unique); of a unique one the packet's time and tag, 1 if it has an ordinal, the ordinal. All else is 0.
-pub fn accepted_words(accepted: Accepted) -> [u64; 5]
+// Class (0 unknown, 1 duplicate, 2 unique); of a unique one the packet's time and tag, 1 if it has an ordinal, the ordinal, its train. All else is 0.
+pub fn accepted_words(accepted: Accepted) -> [u64; 6]
     ensures { λ r. ⌜ r ≡ acceptedWords accepted ⌝ }
 {
     match accepted {
-        Accepted::Duplicate => [1, 0, 0, 0, 0],
-        Accepted::Unknown => [0, 0, 0, 0, 0],
-        Accepted::Unique(packet, ordinal) => ordinal_words(packet, ordinal),
+        Accepted::Duplicate => [1, 0, 0, 0, 0, 0],
+        Accepted::Unknown => [0, 0, 0, 0, 0, 0],
+        Accepted::Unique(packet, ordinal, train) => ordinal_words(packet, ordinal, train),
     }
 }

@@ -25,7 +25,7 @@ use scope::COUNT_BOUND;
 // ---- refusal 4
 
 fn replies_fit(state: &[u64; LEDGER_WORDS]) -> bool
-    ensures { λ r. ⌜ r ≡ repliesFit (repliesAt 11 (now (state .entry))) ⌝ }
+    ensures { λ r. ⌜ r ≡ repliesFit (repliesAt 11 72 (now (state .entry))) ⌝ }
 {
     let totals = (state[11] < COUNT_BOUND)
         & (state[12] < COUNT_BOUND)
@@ -36,7 +36,7 @@ fn replies_fit(state: &[u64; LEDGER_WORDS]) -> bool
         & (state[17] < COUNT_BOUND)
         & (state[18] < COUNT_BOUND);
     let numbers = (state[21] < COUNT_BOUND) & (state[22] < COUNT_BOUND);
-    let evicted = (state[23] < COUNT_BOUND) & (state[24] < COUNT_BOUND);
+    let evicted = (state[23] < COUNT_BOUND) & (state[24] < COUNT_BOUND) & (state[72] < COUNT_BOUND);
     totals & answers & numbers & evicted
 }
 

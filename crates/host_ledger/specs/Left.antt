@@ -19,11 +19,11 @@ use Rattle.host_ledger.specs.Words.{tablesWords}
 unfoldable pub freshWords : ℕ → Secret → List ℕ
 freshWords copies secret = copies ∷ (secretWords secret ++ replicate 75 0)
 
--- `sent`: calls, the ring of probes, how many replies are requested, how many probes were evicted
+-- `sent`: calls, the ring of probes, how many replies are requested, how many probes were evicted, and how many of those unanswered
 unfoldable pub sentWords : List ℕ → Ledger → List ℕ
 sentWords w l =
-    set (set (set (set (set w 5 (l .calls)) 8 (l .tables .probes .head)) 9 (l .tables .probes .len)) 11 (l .counts .replies .totals .requested))
-    23 (l .counts .replies .evicted .probes)
+    set (set (set (set (set (set w 5 (l .calls)) 8 (l .tables .probes .head)) 9 (l .tables .probes .len)) 11 (l .counts .replies .totals .requested))
+    23 (l .counts .replies .evicted .probes)) 72 (l .counts .replies .evicted .unanswered)
 
 -- `accept` of a duplicate or an unknown reply: calls and the two counts
 unfoldable pub countedWords : List ℕ → Ledger → List ℕ
@@ -31,7 +31,9 @@ countedWords w l = set (set (set w 5 (l .calls)) 13 (l .counts .replies .totals 
 
 -- `accept` of a unique reply: calls, both rings, that a key awaits, the counts of replies
 unfoldable pub acceptedWords : List ℕ → Ledger → List ℕ
-acceptedWords w l = sets (sets (set w 5 (l .calls)) 6 (tablesWords (l .tables))) 11 (repliesWords (l .counts .replies))
+acceptedWords w l =
+    set (sets (sets (set w 5 (l .calls)) 6 (tablesWords (l .tables))) 11 (repliesWords (l .counts .replies)))
+    72 (l .counts .replies .evicted .unanswered)
 
 -- direct loss is stored where counters were told
 abbrev pub directStored : Counters → List ℕ → Direct → List ℕ

@@ -47,7 +47,7 @@ secretWords s = joined (s .first) (s .second) ∷ joined (s .third) (s .fourth) 
 abbrev pub SecretKept : Secret → Type 0
 SecretKept s = secretAt 0 (secretWords s) ≡ s
 
--- ---- the counts of replies, fourteen words; a reflector number has bit 32 set, so that number 0 is not none
+-- ---- the counts of replies, fourteen words and one elsewhere; a reflector number has bit 32 set, so that number 0 is not none
 
 -- a reflector number, last or highest, as its word says it: none where the word is 0, else the lower half
 abbrev pub reflectorOf : ℕ → Reflector
@@ -62,16 +62,16 @@ reflectorWord (reflector.Number n) = n + 2 ^ 32
 abbrev pub ReflectorKept : Reflector → Type 0
 ReflectorKept n = reflectorOf (reflectorWord n) ≡ n
 
--- from `at` on: four totals, four counts of answers, four words on reflector numbers, two of evictions
-unfoldable pub repliesAt : ℕ → List ℕ → Replies
-repliesAt at w = record {
+-- from `at` on: four totals, four counts of answers, four words on reflector numbers, two of evictions; at `lost` the probes evicted unanswered
+unfoldable pub repliesAt : (at lost : ℕ) → List ℕ → Replies
+repliesAt at lost w = record {
   totals = record { requested = getD w at 0; unique = getD w (at + 1) 0; duplicate = getD w (at + 2) 0; unknown = getD w (at + 3) 0 };
   answers = record { answered = getD w (at + 4) 0; additional = getD w (at + 5) 0; late = getD w (at + 6) 0; satisfied = getD w (at + 7) 0 };
   numbers = record { last = reflectorOf (getD w (at + 8) 0); highest = reflectorOf (getD w (at + 9) 0); reordered = getD w (at + 10) 0; independent = getD w (at + 11) 0 };
-  evicted = record { probes = getD w (at + 12) 0; replies = getD w (at + 13) 0 };
+  evicted = record { probes = getD w (at + 12) 0; replies = getD w (at + 13) 0; unanswered = getD w lost 0 };
 }
 
--- their fourteen words, in the same order
+-- the fourteen words, in the same order
 unfoldable pub repliesWords : Replies → List ℕ
 repliesWords r =
     r .totals .requested ∷ r .totals .unique ∷ r .totals .duplicate ∷ r .totals .unknown
@@ -81,7 +81,7 @@ repliesWords r =
 
 -- these counts are read back from their words
 abbrev pub RepliesKept : Replies → Type 0
-RepliesKept r = repliesAt 0 (repliesWords r) ≡ r
+RepliesKept r = repliesAt 0 14 (repliesWords r ++ (r .evicted .unanswered ∷ [])) ≡ r
 
 -- ---- delays, eight words: the count, the sum's sign and two words, the kind and the magnitude of the smallest and of the largest
 

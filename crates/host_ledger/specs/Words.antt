@@ -1,7 +1,7 @@
 -- A ledger in the 80 words that a host lends:
 --   0 copies; 1 to 4 the words of the hash; 5 calls; 6, 7 head and length of the ring of keys; 8, 9 of probes; 10 whether a key awaits;
 --   11 to 24 the counts of replies; 25 to 32 the round trips; 33 to 43 direct loss; 44 to 71 follow-ups (44 counts, 50 delays, 58 clock quality);
---   72 to 79 unused.
+--   72 the probes evicted unanswered; 73 to 79 unused.
 -- Any words say a ledger. Assumes nothing.
 use mathlib.Core.List.{List, [], _∷_}
 use Prim.Native.Nat.{ℕ, _+_, _%_, _^_}
@@ -26,7 +26,7 @@ ledgerAt w = record {
   secret = secretAt 1 w;
   calls = getD w 5 0;
   tables = tablesAt 6 w;
-  counts = record { replies = repliesAt 11 w; rtt = delaysAt 25 w; direct = directAt 33 w; follow = followAt 44 w };
+  counts = record { replies = repliesAt 11 72 w; rtt = delaysAt 25 w; direct = directAt 33 w; follow = followAt 44 w };
 }
 
 -- the words of both rings and of what awaits

@@ -1,6 +1,7 @@
 // The ledger in the words that a host lends (specs/Words.antt has their order): what any words say, and what each call stores.
 // A call stores only the words that it changes: a store of all of them would cost more than a duplicate reply.
 ghost use mathlib.Core.Path.{_≡_};
+ghost use lib.ListN.{set};
 ghost use lib.Seq.{sets};
 ghost use Rattle.host_quality.specs.Words.{qualityAt};
 ghost use Rattle.host_ledger.specs.Parts.{secretAt, secretWords, SecretKept, repliesAt, repliesWords, RepliesKept, windowAt, directAt, followAt};
@@ -72,7 +73,7 @@ fn tables_of(state: &[u64; LEDGER_WORDS]) -> Tables
 }
 
 fn replies_of(state: &[u64; LEDGER_WORDS]) -> Replies
-    ensures { λ r. ⌜ r ≡ repliesAt 11 (now (state .entry)) ⌝ }
+    ensures { λ r. ⌜ r ≡ repliesAt 11 72 (now (state .entry)) ⌝ }
 {
     let last = reflector_of(state[19]);
     let highest = reflector_of(state[20]);
@@ -98,6 +99,7 @@ fn replies_of(state: &[u64; LEDGER_WORDS]) -> Replies
         evicted: Evicted {
             probes: state[23],
             replies: state[24],
+            unanswered: state[72],
         },
     }
 }
@@ -232,7 +234,7 @@ fn store_tables(state: &mut [u64; LEDGER_WORDS], tables: Tables)
 }
 
 fn store_replies(state: &mut [u64; LEDGER_WORDS], replies: Replies)
-    ensures { λ _. ⌜ (now (state .exit) ≡ sets (now (state .entry)) 11 (repliesWords replies)) × RepliesKept replies ⌝ }
+    ensures { λ _. ⌜ (now (state .exit) ≡ set (sets (now (state .entry)) 11 (repliesWords replies)) 72 (replies .evicted .unanswered)) × RepliesKept replies ⌝ }
 {
     let totals = replies.totals;
     let answers = replies.answers;
@@ -254,6 +256,7 @@ fn store_replies(state: &mut [u64; LEDGER_WORDS], replies: Replies)
     state[22] = numbers.independent;
     state[23] = evicted.probes;
     state[24] = evicted.replies;
+    state[72] = evicted.unanswered;
 }
 
 // ---- what each call stores
@@ -272,6 +275,7 @@ pub fn store_sent(state: &mut [u64; LEDGER_WORDS], next: Ledger)
     state[9] = probes.len as u64;
     state[11] = totals.requested;
     state[23] = evicted.probes;
+    state[72] = evicted.unanswered;
 }
 
 // Of an `accept` whose reply is a duplicate or unknown.

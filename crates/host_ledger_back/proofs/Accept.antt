@@ -112,24 +112,24 @@ highest-of : (b : Bool) (word reflector : ℕ) → reflector < 2 ^ 32 → Reflec
 highest-of true word reflector k = highest-by (eqb (stepFrom (lower word) reflector) 0) (not (ltb (stepFrom (lower word) reflector) (2 ^ 31))) (lower word) reflector (omega arith) k
 highest-of false word reflector k = reflector-again reflector k
 
-pub unique-back : (w : List ℕ) → length w ≡ 80 → (keys probes : Ring) (replies copies : ℕ) (pending : Bool) (sender reflector : ℕ) (probe key : Bool) → reflector < 2 ^ 32
-    → ledgerAt (acceptedWords w (ledgerUnique (ledgerAt w) keys probes (afterUnique replies copies pending sender reflector probe key (ledgerAt w .counts .replies))))
-    ≡ ledgerUnique (ledgerAt w) keys probes (afterUnique replies copies pending sender reflector probe key (ledgerAt w .counts .replies))
+pub unique-back : (w : List ℕ) → length w ≡ 80 → (keys probes : Ring) (replies copies : ℕ) (pending : Bool) (sender reflector : ℕ) (probe lost key : Bool) → reflector < 2 ^ 32
+    → ledgerAt (acceptedWords w (ledgerUnique (ledgerAt w) keys probes (afterUnique replies copies pending sender reflector probe lost key (ledgerAt w .counts .replies))))
+    ≡ ledgerUnique (ledgerAt w) keys probes (afterUnique replies copies pending sender reflector probe lost key (ledgerAt w .counts .replies))
 unfolding afterUnique ledgerAt repliesAt
-unique-back w long keys probes replies copies pending sender reflector probe key h =
-    accepted-by w long keys probes (afterUnique replies copies pending sender reflector probe key (ledgerAt w .counts .replies))
+unique-back w long keys probes replies copies pending sender reflector probe lost key h =
+    accepted-by w long keys probes (afterUnique replies copies pending sender reflector probe lost key (ledgerAt w .counts .replies))
     (reflector-again reflector h) (highest-of (isSet (getD w 20 0)) (getD w 20 0) reflector h)
 
 -- ---- any reply: S is what a call stores, by what the reply is
 module _ (w : List ℕ) (long : length w ≡ 80) (S : Ledger → Accepted → List ℕ) (at-duplicate : (l : Ledger) → S l Duplicate ≡ countedWords w l)
-    (at-unknown : (l : Ledger) → S l Unknown ≡ countedWords w l) (at-unique : (l : Ledger) (packet : PendingPacket) (ordinal : Ordinal) → S l (Unique packet ordinal) ≡ acceptedWords w l) where
+    (at-unknown : (l : Ledger) → S l Unknown ≡ countedWords w l) (at-unique : (l : Ledger) (packet : PendingPacket) (ordinal : Ordinal) (train : ℕ) → S l (Unique packet ordinal train) ≡ acceptedWords w l) where
   by-class : (N : ℕ) (byKey : ReplyKey → ℕ) (byNumber : ℕ → ℕ) (c : ReplyClass) (keys slots probes links : List (List ℕ)) (at : ℕ) (a : Reply) → a .key .reflector < 2 ^ 32
       → ledgerAt (S (acceptBy N byKey byNumber c (ledgerAt w) keys slots probes links at a .ledger) (acceptBy N byKey byNumber c (ledgerAt w) keys slots probes links at a .accepted))
       ≡ acceptBy N byKey byNumber c (ledgerAt w) keys slots probes links at a .ledger
   unfolding uniqueIn
   by-class N byKey byNumber class.Duplicate keys slots probes links at a h = ap ledgerAt (at-duplicate _) ∙ duplicate-back w long
   by-class N byKey byNumber class.Unknown keys slots probes links at a h = ap ledgerAt (at-unknown _) ∙ unknown-back w long
-  by-class N byKey byNumber class.Unique keys slots probes links at a h = ap ledgerAt (at-unique _ _ _) ∙ unique-back w long _ _ _ _ _ _ _ _ _ h
+  by-class N byKey byNumber class.Unique keys slots probes links at a h = ap ledgerAt (at-unique _ _ _ _) ∙ unique-back w long _ _ _ _ _ _ _ _ _ _ h
 
   pub accept-back : (keys slots probes links : List (List ℕ)) (a : Reply) → a .key .reflector < 2 ^ 32
       → ledgerAt (S (acceptOn (ledgerAt w) keys slots probes links a .ledger) (acceptOn (ledgerAt w) keys slots probes links a .accepted))

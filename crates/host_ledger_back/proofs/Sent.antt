@@ -31,7 +31,7 @@ withSent l next = record {
       };
       answers = l .counts .replies .answers;
       numbers = l .counts .replies .numbers;
-      evicted = record { probes = next .counts .replies .evicted .probes; replies = l .counts .replies .evicted .replies };
+      evicted = record { probes = next .counts .replies .evicted .probes; replies = l .counts .replies .evicted .replies; unanswered = next .counts .replies .evicted .unanswered };
     };
     rtt = l .counts .rtt;
     direct = l .counts .direct;

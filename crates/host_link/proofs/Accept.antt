@@ -49,19 +49,20 @@ accepted-long : (w : List ℕ) (next : Ledger) → length (acceptedWords w next)
 unfolding acceptedWords
 accepted-long w next =
     let first = set w 5 (next .calls) in
-    length-sets (sets first 6 (tablesWords (next .tables))) 11 (repliesWords (next .counts .replies)) ∙ length-sets first 6 (tablesWords (next .tables)) ∙ length-set w 5 (next .calls)
+    length-set (sets (sets first 6 (tablesWords (next .tables))) 11 (repliesWords (next .counts .replies))) 72 (next .counts .replies .evicted .unanswered)
+    ∙ length-sets (sets first 6 (tablesWords (next .tables))) 11 (repliesWords (next .counts .replies)) ∙ length-sets first 6 (tablesWords (next .tables)) ∙ length-set w 5 (next .calls)
 
 served-long : (w : List ℕ) (next : Ledger) (a : Accepted) → length (servedWords w next a) ≡ length w
 served-long w next Duplicate = counted-long w next
 served-long w next Unknown = counted-long w next
-served-long w next (Unique packet ordinal) = accepted-long w next
+served-long w next (Unique packet ordinal train) = accepted-long w next
 
 module _ (w : List ℕ) (long : length w ≡ 80) (keys slots probes links : List (List ℕ)) (a : Reply) (h : a .key .reflector < 2 ^ 32) where
   abbrev answerBy : ℕ → AcceptAnswer
   answerBy k = acceptBy k (acceptOn (ledgerAt w) keys slots probes links a) keys slots probes links .answer
 
   ledger-by : (k : ℕ) → ledgerAt (plain.wordsAfter w (answerBy k)) ≡ ledgerOfAccept (ledgerAt w) (answerBy k)
-  ledger-by zero = accept-back w long (servedWords w) (λ l. refl) (λ l. refl) (λ l p o. refl) keys slots probes links a h
+  ledger-by zero = accept-back w long (servedWords w) (λ l. refl) (λ l. refl) (λ l p o t. refl) keys slots probes links a h
   ledger-by (suc k) = refl
 
   long-by : (k : ℕ) → length (plain.wordsAfter w (answerBy k)) ≡ 80
@@ -70,7 +71,7 @@ module _ (w : List ℕ) (long : length w ≡ 80) (keys slots probes links : List
 
   -- with a monitor: the same answer, and the monitor that then stands
   watched-ledger-by : (k : ℕ) (m : Monitor) → ledgerAt (ledgerAfter w (watched.bothAccept (answerBy k) m)) ≡ ledgerOfAccept (ledgerAt w) (answerBy k)
-  watched-ledger-by zero m = accept-back w long (servedWords w) (λ l. refl) (λ l. refl) (λ l p o. refl) keys slots probes links a h
+  watched-ledger-by zero m = accept-back w long (servedWords w) (λ l. refl) (λ l. refl) (λ l p o t. refl) keys slots probes links a h
   watched-ledger-by (suc k) m = refl
 
   watched-long-by : (k : ℕ) (m : Monitor) → length (ledgerAfter w (watched.bothAccept (answerBy k) m)) ≡ 80

@@ -15,7 +15,7 @@ use Rattle.host_link.proofs.Watch.{advance-agrees, idle-agrees}
 
 -- ---- one call
 pub agrees : (x : HostLink) (c : HostCall) → length (x .ledger) ≡ 80 → Typed c → Agrees x c
-agrees x (sent sequence ordinal time tag) long h = sent-agrees (x .ledger) long (x .watch) (x .rooms) (x .queue) sequence ordinal time tag h
+agrees x (sent sequence ordinal train time tag) long h = sent-agrees (x .ledger) long (x .watch) (x .rooms) (x .queue) sequence ordinal train time tag h
 agrees x (accept sender reflector t3 pending time tag) long h = accept-agrees (x .ledger) long (x .watch) (x .rooms) (x .queue) sender reflector t3 pending time tag h
 agrees x (observe words) long h = observe-agrees (x .ledger) long (x .watch) (x .rooms) (x .queue) words h
 agrees x (advance time) long h = advance-agrees (x .ledger) long (x .watch) (x .rooms) (x .queue) time

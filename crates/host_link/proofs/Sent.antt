@@ -41,7 +41,8 @@ long-after w next =
     let second = set first 8 (next .tables .probes .head) in
     let third = set second 9 (next .tables .probes .len) in
     let fourth = set third 11 (next .counts .replies .totals .requested) in
-    length-set fourth 23 (next .counts .replies .evicted .probes) ∙ length-set third 11 (next .counts .replies .totals .requested) ∙ length-set second 9 (next .tables .probes .len)
+    let fifth = set fourth 23 (next .counts .replies .evicted .probes) in
+    length-set fifth 72 (next .counts .replies .evicted .unanswered) ∙ length-set fourth 23 (next .counts .replies .evicted .probes) ∙ length-set third 11 (next .counts .replies .totals .requested) ∙ length-set second 9 (next .tables .probes .len)
     ∙ length-set first 8 (next .tables .probes .head) ∙ length-set w 5 (next .calls)
 
 module _ (w : List ℕ) (long : length w ≡ 80) (probes links : List (List ℕ)) (s : SentProbe) where
@@ -76,16 +77,16 @@ module _ (w : List ℕ) (long : length w ≡ 80) (probes links : List (List ℕ)
   monitor-by words queue h zero = stored _ (fits-sent true (monitorAt words) queue (s .sequence) (s .packet .time) h (fits-at words))
   monitor-by words queue h (suc k) = refl
 
-pub sent-agrees : (ledger : List ℕ) → length ledger ≡ 80 → (v : HostWatch) (rooms : Rooms) (queue : List Probe) (sequence ordinal time tag : ℕ) → sequence < 2 ^ 32
-    → Agrees (hostLink ledger v rooms queue) (sent sequence ordinal time tag)
+pub sent-agrees : (ledger : List ℕ) → length ledger ≡ 80 → (v : HostWatch) (rooms : Rooms) (queue : List Probe) (sequence ordinal train time tag : ℕ) → sequence < 2 ^ 32
+    → Agrees (hostLink ledger v rooms queue) (sent sequence ordinal train time tag)
 unfolding playHost sentOf watchedSentTo watched.sentTo sentTo refuses after
-sent-agrees ledger long alone rooms queue sequence ordinal time tag h =
-    let s = probeOf sequence ordinal time tag in
+sent-agrees ledger long alone rooms queue sequence ordinal train time tag h =
+    let s = probeOf sequence ordinal train time tag in
     let k = refusalOfSent 0 (ledgerAt ledger) (length (rooms .probes)) (length (rooms .links)) in
     let r = sentBy k (sentOn (ledgerAt ledger) (rooms .probes) (rooms .links) s) (rooms .probes) (rooms .links) in
     (refl, (λ i. standing (ledger-by ledger long (rooms .probes) (rooms .links) s k i) (sentRooms rooms (r .probes) (r .links)) (unwatched queue)), long-by ledger long (rooms .probes) (rooms .links) s k)
-sent-agrees ledger long (watching words) rooms queue sequence ordinal time tag h =
-    let s = probeOf sequence ordinal time tag in
+sent-agrees ledger long (watching words) rooms queue sequence ordinal train time tag h =
+    let s = probeOf sequence ordinal train time tag in
     let m = monitorAt words in
     let k = refusalOfSent (monitor.refusalOfSent m (length queue) time) (ledgerAt ledger) (length (rooms .probes)) (length (rooms .links)) in
     let r = sentBy k (sentOn (ledgerAt ledger) (rooms .probes) (rooms .links) s) (rooms .probes) (rooms .links) in

@@ -52,7 +52,7 @@ said x = record { link = record { ledger = ledgerAt (x .ledger); watch = watchSa
 
 -- a call, as the numbers that the host hands over
 pub data HostCall : Type 0 where
-  sent : (sequence ordinal time tag : ℕ) → HostCall
+  sent : (sequence ordinal train time tag : ℕ) → HostCall
   accept : (sender reflector t3 pending time tag : ℕ) → HostCall
   observe : (words : List ℕ) → HostCall
   advance : ℕ → HostCall
@@ -60,7 +60,7 @@ pub data HostCall : Type 0 where
 
 -- the call that the numbers say, as the library is told it
 abbrev pub told : HostCall → Call
-told (sent sequence ordinal time tag) = Sent (probeOf sequence ordinal time tag)
+told (sent sequence ordinal train time tag) = Sent (probeOf sequence ordinal train time tag)
 told (accept sender reflector t3 pending time tag) = Accept (replyOf sender reflector t3 pending time tag)
 told (observe words) = Observe (observationAt words)
 told (advance time) = Advance time
@@ -92,10 +92,10 @@ abbrev pub leftWatchedSent : HostLink → watchedSent.Left → HostStep
 leftWatchedSent x r = step (r .number) (hostLink (r .ledger) (watching (r .monitor)) (sentRooms (x .rooms) (r .probes) (r .links)) (r .queue))
 
 -- `ambrulicciu_sent`, and `ambrulicciu_watched_sent` where there is a monitor
-abbrev pub sends : HostWatch → HostLink → (sequence ordinal time tag : ℕ) → HostStep
-sends alone x sequence ordinal time tag = leftSent x (sentOf (x .ledger) (x .rooms .probes) (x .rooms .links) (probeOf sequence ordinal time tag))
-sends (watching words) x sequence ordinal time tag =
-    leftWatchedSent x (watchedSent.watchedSentTo (x .ledger) words (x .rooms .probes) (x .rooms .links) (x .queue) sequence ordinal time tag)
+abbrev pub sends : HostWatch → HostLink → (sequence ordinal train time tag : ℕ) → HostStep
+sends alone x sequence ordinal train time tag = leftSent x (sentOf (x .ledger) (x .rooms .probes) (x .rooms .links) (probeOf sequence ordinal train time tag))
+sends (watching words) x sequence ordinal train time tag =
+    leftWatchedSent x (watchedSent.watchedSentTo (x .ledger) words (x .rooms .probes) (x .rooms .links) (x .queue) sequence ordinal train time tag)
 
 -- the link after `ambrulicciu_accept`, which has no monitor: the queue stays
 abbrev pub leftAccept : HostLink → AcceptLeft → HostStep
@@ -139,7 +139,7 @@ idles (watching words) x = step (monitor.idleTo words .number) (hostLink (x .led
 
 -- one call of any kind, on the link as it stands
 unfoldable pub playHost : HostLink → HostCall → HostStep
-playHost x (sent sequence ordinal time tag) = sends (x .watch) x sequence ordinal time tag
+playHost x (sent sequence ordinal train time tag) = sends (x .watch) x sequence ordinal train time tag
 playHost x (accept sender reflector t3 pending time tag) = accepts (x .watch) x sender reflector t3 pending time tag
 playHost x (observe words) = observes x words
 playHost x (advance time) = advances (x .watch) x time
@@ -152,7 +152,7 @@ hostPlayed x (c ∷ cs) = playHost (hostPlayed x cs) c .next
 
 -- the numbers fit their types, which a host cannot break
 abbrev pub Typed : HostCall → Type 0
-Typed (sent sequence ordinal time tag) = sequence < 2 ^ 32
+Typed (sent sequence ordinal train time tag) = sequence < 2 ^ 32
 Typed (accept sender reflector t3 pending time tag) = reflector < 2 ^ 32
 Typed (observe words) = (i : ℕ) → getD words i 0 < 2 ^ 32
 Typed (advance time) = Unit {0}

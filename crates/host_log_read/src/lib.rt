@@ -78,7 +78,7 @@ fn no_call(checked: Log) -> u8
 
 // Record `at` of a log, from 0: its kind, and what the call was told. Each kind has words of its own, so that no field has two meanings, and the
 // words of the other kinds are 0. 9 and 7 as above; 8 where no good record stands there. The other records are not looked at.
-// Words of `call`: 0 kind, 1 unused, 2 sent.time (u64), 4 sent.tag (u64), 6 sent.sequence, 7 sent.ordinal,
+// Words of `call`: 0 kind, 1 train, 2 sent.time (u64), 4 sent.tag (u64), 6 sent.sequence, 7 sent.ordinal,
 // 8 accept.t3 (u64), 10 accept.time (u64), 12 accept.tag (u64), 14 accept.sender, 15 accept.reflector, 16 accept.pending, 17 accept.unused,
 // 18 observation.t3 (u64), 20 observation.round_trip (u64), 22 observation.t4 (i64), 24 observation.reference (i64),
 // 26 observation.reserved (2), 28 observation.follow_up_timestamp (u64), 30 observation.sender, 31 observation.reflector,

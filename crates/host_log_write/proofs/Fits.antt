@@ -18,8 +18,8 @@ use Rattle.host_numbers.proofs.Back.{joined-below}
 use Rattle.host_observation.specs.Observation.{word, double, flagsAt, observationAt}
 use Rattle.host_log_write.specs.Told.{sentTold, acceptTold, observeTold, advanceTold, idleTold}
 
-pub sent-fits : (sequence ordinal time tag : ℕ) → U32 sequence → U32 ordinal → U64 time → U64 tag → EntryFits (sentTold sequence ordinal time tag)
-sent-fits sequence ordinal time tag hs ho ht hg = record { sequence = hs; ordinal = ho; packet = record { time = ht; tag = hg } }
+pub sent-fits : (sequence ordinal train time tag : ℕ) → U32 sequence → U32 ordinal → U32 train → U64 time → U64 tag → EntryFits (sentTold sequence ordinal train time tag)
+sent-fits sequence ordinal train time tag hs ho hn ht hg = record { sequence = hs; ordinal = ho; train = hn; packet = record { time = ht; tag = hg } }
 
 -- ---- what is there by a flag
 

@@ -31,8 +31,8 @@ wires-fit true s r = λ i. le-leb (s / 256 % 64) 63 (six s) i && le-leb (r / 256
     six : (n : ℕ) → n / 256 % 64 ≤ 63
     six n = omega arith
 
-pub sent-number : (bytes : List ℕ) (sequence ordinal time tag : ℕ) → writtenTo bytes (sentTold sequence ordinal time tag) .number ≡ numberBy bytes
-sent-number bytes sequence ordinal time tag = by-size bytes (sentTold sequence ordinal time tag) refl
+pub sent-number : (bytes : List ℕ) (sequence ordinal train time tag : ℕ) → writtenTo bytes (sentTold sequence ordinal train time tag) .number ≡ numberBy bytes
+sent-number bytes sequence ordinal train time tag = by-size bytes (sentTold sequence ordinal train time tag) refl
 
 pub accept-number : (bytes : List ℕ) (sender reflector t3 pending time tag : ℕ)
     → writtenTo bytes (acceptTold sender reflector t3 pending time tag) .number ≡ numberBy bytes

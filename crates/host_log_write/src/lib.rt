@@ -16,15 +16,17 @@ pub extern "C" fn ambrulicciu_log_write_sent(
     bytes: &mut [u8],
     sequence: u32,
     ordinal: u32,
+    train: u32,
     time: u64,
     tag: u64,
 ) -> u8
-    ensures { λ r. ⌜ wrote r (now (bytes .exit)) ≡ writtenTo (now (bytes .entry)) (sentTold sequence ordinal time tag) ⌝ }
+    ensures { λ r. ⌜ wrote r (now (bytes .exit)) ≡ writtenTo (now (bytes .entry)) (sentTold sequence ordinal train time tag) ⌝ }
 {
     let packet = PendingPacket { time, tag };
     let probe = SentProbe {
         sequence,
         ordinal,
+        train,
         packet,
     };
     log_record::write(bytes, Entry::Sent(probe))

@@ -12,13 +12,14 @@ pub extern "C" fn ambrulicciu_sent(
     links: &mut [[u16; 8]],
     sequence: u32,
     ordinal: u32,
+    train: u32,
     time: u64,
     tag: u64,
 ) -> u8
-    ensures { λ r. ⌜ sentLeft r (now (ledger .exit)) (now (probes .exit)) (now (links .exit)) ≡ sentOf (now (ledger .entry)) (now (probes .entry)) (now (links .entry)) (probeOf sequence ordinal time tag) ⌝ }
+    ensures { λ r. ⌜ sentLeft r (now (ledger .exit)) (now (probes .exit)) (now (links .exit)) ≡ sentOf (now (ledger .entry)) (now (probes .entry)) (now (links .entry)) (probeOf sequence ordinal train time tag) ⌝ }
 {
     let state = host_ledger::load(ledger);
-    let probe = host_calls::probe_of(sequence, ordinal, time, tag);
+    let probe = host_calls::probe_of(sequence, ordinal, train, time, tag);
     let answer = ledger_sent::sent(state, probes, links, probe);
     match answer {
         Answer::Refused(number) => number,

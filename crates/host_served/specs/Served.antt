@@ -10,4 +10,4 @@ use Rattle.host_ledger.specs.Left.{countedWords, acceptedWords}
 abbrev pub servedWords : List ℕ → Ledger → Accepted → List ℕ
 servedWords w next Duplicate = countedWords w next
 servedWords w next Unknown = countedWords w next
-servedWords w next (Unique packet ordinal) = acceptedWords w next
+servedWords w next (Unique packet ordinal train) = acceptedWords w next

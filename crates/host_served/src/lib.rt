@@ -12,6 +12,6 @@ pub fn store_served(ledger: &mut [u64; LEDGER_WORDS], next: Ledger, accepted: Ac
     match accepted {
         Accepted::Duplicate => host_ledger::store_counted(ledger, next),
         Accepted::Unknown => host_ledger::store_counted(ledger, next),
-        Accepted::Unique(_, _) => host_ledger::store_accepted(ledger, next),
+        Accepted::Unique(_, _, _) => host_ledger::store_accepted(ledger, next),
     }
 }

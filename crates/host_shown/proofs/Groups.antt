@@ -12,7 +12,7 @@ use Rattle.clock_quality.specs.declared.ClockQuality.{ClockQuality}
 use Rattle.direct.specs.declared.summary.DirectSummary.{DirectSummary}
 use Rattle.follow_ups.specs.declared.summary.FollowUpSummary.{FollowUpSummary}
 use Rattle.ledger_snapshot.specs.declared.Snapshot.{Snapshot}
-use Rattle.host_shown.specs.Words.{pointWords, repliesWords, lossWords, delayWords, directCountWords, spanWords, directWords}
+use Rattle.host_shown.specs.Words.{pointWords, repliesWords, evictedWords, lossWords, delayWords, directCountWords, spanWords, directWords}
 use Rattle.host_shown.specs.Words.{followCountWords, estimateWords, qualityCountWords, largestWords, qualityWords, followWords, shownWords}
 use Rattle.host_shown.proofs.Laws.{placed, placed-next, placed-all}
 
@@ -80,17 +80,18 @@ follow-length f = simp length-append (omega (arith, quality-length (f .quality))
 
 -- ---- the whole
 
-shown-length : (s : Snapshot) → length (shownWords s) ≡ 90
+shown-length : (s : Snapshot) → length (shownWords s) ≡ 91
 unfolding shownWords
 shown-length s = simp length-append (omega (arith, direct-length (s .direct), follow-length (s .follow)))
 
-pub shown-as : (s : Snapshot) (room : List ℕ) → length room ≡ 90
-    → placed 51 (followWords (s .follow)) (placed 26 (directWords (s .direct)) (placed 19 (delayWords (s .rtt)) (placed 16 (lossWords s) (placed 0 (repliesWords (s .replies)) room))))
+pub shown-as : (s : Snapshot) (room : List ℕ) → length room ≡ 91
+    → placed 90 (evictedWords (s .replies)) (placed 51 (followWords (s .follow)) (placed 26 (directWords (s .direct)) (placed 19 (delayWords (s .rtt)) (placed 16 (lossWords s) (placed 0 (repliesWords (s .replies)) room)))))
     ≡ shownWords s
 unfolding shownWords
 shown-as s room e =
-    placed-next 26 25 (directWords (s .direct)) (followWords (s .follow)) (placed 19 (delayWords (s .rtt)) (placed 16 (lossWords s) (placed 0 (repliesWords (s .replies)) room))) (direct-length (s .direct))
-    ∙ placed-next 19 7 (delayWords (s .rtt)) (directWords (s .direct) ++ followWords (s .follow)) (placed 16 (lossWords s) (placed 0 (repliesWords (s .replies)) room)) refl
-    ∙ placed-next 16 3 (lossWords s) (delayWords (s .rtt) ++ (directWords (s .direct) ++ followWords (s .follow))) (placed 0 (repliesWords (s .replies)) room) refl
-    ∙ placed-next 0 16 (repliesWords (s .replies)) (lossWords s ++ (delayWords (s .rtt) ++ (directWords (s .direct) ++ followWords (s .follow)))) room refl
+    placed-next 51 39 (followWords (s .follow)) (evictedWords (s .replies)) (placed 26 (directWords (s .direct)) (placed 19 (delayWords (s .rtt)) (placed 16 (lossWords s) (placed 0 (repliesWords (s .replies)) room)))) (follow-length (s .follow))
+    ∙ placed-next 26 25 (directWords (s .direct)) (followWords (s .follow) ++ evictedWords (s .replies)) (placed 19 (delayWords (s .rtt)) (placed 16 (lossWords s) (placed 0 (repliesWords (s .replies)) room))) (direct-length (s .direct))
+    ∙ placed-next 19 7 (delayWords (s .rtt)) (directWords (s .direct) ++ (followWords (s .follow) ++ evictedWords (s .replies))) (placed 16 (lossWords s) (placed 0 (repliesWords (s .replies)) room)) refl
+    ∙ placed-next 16 3 (lossWords s) (delayWords (s .rtt) ++ (directWords (s .direct) ++ (followWords (s .follow) ++ evictedWords (s .replies)))) (placed 0 (repliesWords (s .replies)) room) refl
+    ∙ placed-next 0 16 (repliesWords (s .replies)) (lossWords s ++ (delayWords (s .rtt) ++ (directWords (s .direct) ++ (followWords (s .follow) ++ evictedWords (s .replies))))) room refl
     ∙ placed-all (shownWords s) room (shown-length s ∙ sym e)

@@ -1,4 +1,4 @@
--- A snapshot as the 90 words that a host is shown. A flag is 0 or 1; a value that is absent is a flag 0 and zeros; an f64 is its bits
+-- A snapshot as the 91 words that a host is shown. A flag is 0 or 1; a value that is absent is a flag 0 and zeros; an f64 is its bits
 -- (`toBits` is the logic's own). Assumes nothing.
 use mathlib.Core.Bool.{Bool}
 use mathlib.Core.List.{List, [], _∷_, _++_}
@@ -157,9 +157,15 @@ qualityWords q = qualityCountWords q ++ (estimateWords (q .sender) ++ (estimateW
 unfoldable pub followWords : FollowUpSummary → List ℕ
 followWords f = followCountWords (f .counts) ++ (delayWords (f .delay) ++ qualityWords (f .quality))
 
+-- ---- word 90
+
+-- the probes evicted unanswered
+abbrev pub evictedWords : Replies → List ℕ
+evictedWords r = r .evicted .unanswered ∷ []
+
 -- ---- the whole
 
--- replies, loss, round trip, direct counters, follow-ups: 90 words
+-- replies, loss, round trip, direct counters, follow-ups, the probes evicted unanswered: 91 words
 unfoldable pub shownWords : Snapshot → List ℕ
 shownWords s =
-    repliesWords (s .replies) ++ (lossWords s ++ (delayWords (s .rtt) ++ (directWords (s .direct) ++ followWords (s .follow))))
+    repliesWords (s .replies) ++ (lossWords s ++ (delayWords (s .rtt) ++ (directWords (s .direct) ++ (followWords (s .follow) ++ evictedWords (s .replies)))))

@@ -4,7 +4,7 @@ ghost use Prim.Native.Nat.{_+_, _≤_};
 ghost use lib.ListN.{length};
 ghost use lib.Seq.{sets};
 ghost use Rattle.clock_quality.specs.declared.LastEstimate.the-variants.{Seen};
-ghost use Rattle.host_shown.specs.Words.{pointWords, repliesWords, lossWords, delayWords, directCountWords, spanWords, directWords};
+ghost use Rattle.host_shown.specs.Words.{pointWords, repliesWords, evictedWords, lossWords, delayWords, directCountWords, spanWords, directWords};
 ghost use Rattle.host_shown.specs.Words.{followCountWords, estimateWords, qualityCountWords, largestWords, qualityWords, followWords, shownWords};
 
 mod values;
@@ -77,6 +77,15 @@ fn place_replies(room: &mut [u64], replies: Replies)
         evicted.replies,
     ];
     place(room, 0, &words);
+}
+
+fn place_evicted(room: &mut [u64], replies: Replies)
+    requires { ⌜ 91 ≤ length (now room) ⌝ }
+    ensures { λ _. ⌜ now (room .exit) ≡ sets (now (room .entry)) 90 (evictedWords replies) ⌝ }
+{
+    let evicted = replies.evicted;
+    let words = [evicted.unanswered];
+    place(room, 90, &words);
 }
 
 fn place_delay(room: &mut [u64], at: usize, delay: DelaySummary)
@@ -284,7 +293,7 @@ fn place_loss(room: &mut [u64], snapshot: Snapshot)
 }
 
 // How many words a snapshot has.
-pub const SHOWN_WORDS: usize = 90;
+pub const SHOWN_WORDS: usize = 91;
 
 // The whole snapshot over the words of a room.
 pub fn show(shown: &mut [u64; SHOWN_WORDS], snapshot: Snapshot)
@@ -299,4 +308,5 @@ pub fn show(shown: &mut [u64; SHOWN_WORDS], snapshot: Snapshot)
     place_delay(shown, 19, rtt);
     place_direct(shown, direct);
     place_follow(shown, follow);
+    place_evicted(shown, replies);
 }

@@ -1,4 +1,4 @@
-// `snapshot` of src/sender/measurements.rs for a host: `MeasurementSummary` and document 01's thousandths in 90 words.
+// `snapshot` of src/sender/measurements.rs for a host: `MeasurementSummary` and document 01's thousandths in 91 words.
 ghost use mathlib.Core.Path.{_≡_};
 ghost use Rattle.host_snapshot.specs.Snapshot.{left, snapshotLeaves};
 use host_ledger::LEDGER_WORDS;
@@ -25,7 +25,7 @@ use host_shown::SHOWN_WORDS;
 // 80 follow_up.quality.reflector.seen, 81 follow_up.quality.reflector.synchronized, 82 follow_up.quality.reflector.ptp,
 // 83 follow_up.quality.reflector.scale, 84 follow_up.quality.reflector.multiplier, 85 follow_up.quality.reflector.error_known,
 // 86 follow_up.quality.reflector.error (f64), 87 follow_up.quality.reflector.received, 88 follow_up.quality.largest_known,
-// 89 follow_up.quality.largest (f64).
+// 89 follow_up.quality.largest (f64), 90 evicted_unanswered.
 #[no_mangle]
 pub extern "C" fn ambrulicciu_snapshot(
     ledger: &[u64; LEDGER_WORDS],

@@ -15,7 +15,7 @@ use probe_queue::Probe;
 fn finish(
     ledger: &mut [u64; LEDGER_WORDS],
     monitor: &mut [u64; 12],
-    answer: &mut [u64; 5],
+    answer: &mut [u64; 6],
     given: WatchedAccept,
 ) -> u8
     ensures { λ r. ⌜ (r ≡ acceptNumber given) × (now (ledger .exit) ≡ ledgerAfter (now (ledger .entry)) given) × (now (monitor .exit) ≡ monitorAfter (now (monitor .entry)) given) × (now (answer .exit) ≡ answerAfter (now (answer .entry)) given) ⌝ }
@@ -47,7 +47,7 @@ pub extern "C" fn ambrulicciu_watched_accept(
     pending: u32,
     time: u64,
     tag: u64,
-    answer: &mut [u64; 5],
+    answer: &mut [u64; 6],
 ) -> u8
     ensures { λ r. ⌜ left r (now (ledger .exit)) (now (monitor .exit)) (now (keys .exit)) (now (slots .exit)) (now (probes .exit)) (now (links .exit)) (now (queue .exit)) (now (answer .exit)) ≡ watchedAcceptTo (now (ledger .entry)) (now (monitor .entry)) (now (keys .entry)) (now (slots .entry)) (now (probes .entry)) (now (links .entry)) (now (queue .entry)) sender reflector t3 pending time tag (now (answer .entry)) ⌝ }
 {

@@ -15,14 +15,14 @@ use Rattle.host_monitor_words.specs.Words.{monitorAt}
 use Rattle.host_watched_sent.specs.Calls.{left, ledgerAfter, monitorAfter, ended, watchedSentTo}
 
 pub sent-ends :
-    (ledger monitor : List ℕ) (probes links : List (List ℕ)) (queue : List Probe) (sequence ordinal time tag : ℕ)
+    (ledger monitor : List ℕ) (probes links : List (List ℕ)) (queue : List Probe) (sequence ordinal train time tag : ℕ)
     (l : Ledger) (m : Monitor) (s : SentProbe) (a : WatchedAnswer) (probes′ links′ : List (List ℕ)) (queue′ : List Probe) (r : ℕ) (ledger′ monitor′ : List ℕ)
-    → l ≡ ledgerAt ledger → m ≡ monitorAt monitor → s ≡ probeOf sequence ordinal time tag
+    → l ≡ ledgerAt ledger → m ≡ monitorAt monitor → s ≡ probeOf sequence ordinal train time tag
     → sentResult a probes′ links′ queue′ ≡ sentTo l m probes links queue s
     → (r ≡ number a) × (ledger′ ≡ ledgerAfter ledger a) × (monitor′ ≡ monitorAfter monitor a)
-    → left r ledger′ monitor′ probes′ links′ queue′ ≡ watchedSentTo ledger monitor probes links queue sequence ordinal time tag
+    → left r ledger′ monitor′ probes′ links′ queue′ ≡ watchedSentTo ledger monitor probes links queue sequence ordinal train time tag
 unfolding watchedSentTo
-sent-ends ledger monitor probes links queue sequence ordinal time tag l m s a probes′ links′ queue′ r ledger′ monitor′ el em es ea er =
-    let e : sentResult a probes′ links′ queue′ ≡ sentTo (ledgerAt ledger) (monitorAt monitor) probes links queue (probeOf sequence ordinal time tag) =
+sent-ends ledger monitor probes links queue sequence ordinal train time tag l m s a probes′ links′ queue′ r ledger′ monitor′ el em es ea er =
+    let e : sentResult a probes′ links′ queue′ ≡ sentTo (ledgerAt ledger) (monitorAt monitor) probes links queue (probeOf sequence ordinal train time tag) =
     ea ∙ (λ i. sentTo (el i) (em i) probes links queue (es i)) in
     (λ i. left (er .0 i) (er .1 i) (er .2 i) probes′ links′ queue′) ∙ ap (ended ledger monitor) e

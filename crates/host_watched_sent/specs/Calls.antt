@@ -40,6 +40,6 @@ abbrev pub ended : List ℕ → List ℕ → SentResult → Left
 ended ledger monitor r = left (number (r .answer)) (ledgerAfter ledger (r .answer)) (monitorAfter monitor (r .answer)) (r .probes) (r .links) (r .queue)
 
 -- `sent` of this probe, to the ledger and the monitor that the words say
-unfoldable pub watchedSentTo : List ℕ → List ℕ → List (List ℕ) → List (List ℕ) → List Probe → (sequence ordinal time tag : ℕ) → Left
-watchedSentTo ledger monitor probes links queue sequence ordinal time tag =
-    ended ledger monitor (sentTo (ledgerAt ledger) (monitorAt monitor) probes links queue (probeOf sequence ordinal time tag))
+unfoldable pub watchedSentTo : List ℕ → List ℕ → List (List ℕ) → List (List ℕ) → List Probe → (sequence ordinal train time tag : ℕ) → Left
+watchedSentTo ledger monitor probes links queue sequence ordinal train time tag =
+    ended ledger monitor (sentTo (ledgerAt ledger) (monitorAt monitor) probes links queue (probeOf sequence ordinal train time tag))

@@ -34,14 +34,15 @@ pub extern "C" fn ambrulicciu_watched_sent(
     queue: &mut [Probe],
     sequence: u32,
     ordinal: u32,
+    train: u32,
     time: u64,
     tag: u64,
 ) -> u8
-    ensures { λ r. ⌜ left r (now (ledger .exit)) (now (monitor .exit)) (now (probes .exit)) (now (links .exit)) (now (queue .exit)) ≡ watchedSentTo (now (ledger .entry)) (now (monitor .entry)) (now (probes .entry)) (now (links .entry)) (now (queue .entry)) sequence ordinal time tag ⌝ }
+    ensures { λ r. ⌜ left r (now (ledger .exit)) (now (monitor .exit)) (now (probes .exit)) (now (links .exit)) (now (queue .exit)) ≡ watchedSentTo (now (ledger .entry)) (now (monitor .entry)) (now (probes .entry)) (now (links .entry)) (now (queue .entry)) sequence ordinal train time tag ⌝ }
 {
     let before = host_ledger::load(ledger);
     let watch = host_monitor_words::load(monitor);
-    let probe = probe_of(sequence, ordinal, time, tag);
+    let probe = probe_of(sequence, ordinal, train, time, tag);
     let answer = ledger_watched::sent(before, watch, probes, links, queue, probe);
     finish(ledger, monitor, answer)
 }

@@ -109,7 +109,7 @@ pub struct AcceptCall {
 #[derive(Clone, Copy, Debug, Default, PartialEq, Eq)]
 pub struct Call {
     pub kind: u32,
-    pub unused: u32,
+    pub train: u32,
     pub sent: SentCall,
     pub accept: AcceptCall,
     pub observation: Observation,
@@ -129,6 +129,7 @@ extern "C" {
         links_length: usize,
         sequence: u32,
         ordinal: u32,
+        train: u32,
         time: u64,
         tag: u64,
     ) -> u8;
@@ -148,7 +149,7 @@ extern "C" {
         pending: u32,
         time: u64,
         tag: u64,
-        answer: &mut [u64; 5],
+        answer: &mut [u64; 6],
     ) -> u8;
     fn ambrulicciu_observe(
         ledger: &mut [u64; LEDGER_WORDS],
@@ -184,6 +185,7 @@ extern "C" {
         queue_length: usize,
         sequence: u32,
         ordinal: u32,
+        train: u32,
         time: u64,
         tag: u64,
     ) -> u8;
@@ -206,7 +208,7 @@ extern "C" {
         pending: u32,
         time: u64,
         tag: u64,
-        answer: &mut [u64; 5],
+        answer: &mut [u64; 6],
     ) -> u8;
     fn ambrulicciu_monitor_fresh(monitor: &mut [u64; 12], threshold: u16, timeout: u64) -> u8;
     fn ambrulicciu_monitor_sent(monitor: &mut [u64; 12], queue: *mut Queued, queue_length: usize, sequence: u32, time: u64) -> u8;
@@ -270,7 +272,7 @@ extern "C" {
         shown_length: usize,
         present: &mut [u64; 1],
     ) -> u8;
-    fn ambrulicciu_log_write_sent(bytes: *mut u8, bytes_length: usize, sequence: u32, ordinal: u32, time: u64, tag: u64) -> u8;
+    fn ambrulicciu_log_write_sent(bytes: *mut u8, bytes_length: usize, sequence: u32, ordinal: u32, train: u32, time: u64, tag: u64) -> u8;
     fn ambrulicciu_log_write_accept(
         bytes: *mut u8,
         bytes_length: usize,
@@ -336,13 +338,14 @@ pub fn sent(
     links: &mut [[u16; 8]],
     sequence: u32,
     ordinal: u32,
+    train: u32,
     time: u64,
     tag: u64,
 ) -> u8 {
-    unsafe { ambrulicciu_sent(ledger, probes.as_mut_ptr(), probes.len(), links.as_mut_ptr(), links.len(), sequence, ordinal, time, tag) }
+    unsafe { ambrulicciu_sent(ledger, probes.as_mut_ptr(), probes.len(), links.as_mut_ptr(), links.len(), sequence, ordinal, train, time, tag) }
 }
 
-/// Answer: class (0 unknown, 1 duplicate, 2 unique), time, tag, 1 if there is an ordinal, ordinal.
+/// Answer: class (0 unknown, 1 duplicate, 2 unique), time, tag, 1 if there is an ordinal, ordinal, train.
 pub fn accept(
     ledger: &mut [u64; LEDGER_WORDS],
     keys: &mut [[u64; 2]],
@@ -355,7 +358,7 @@ pub fn accept(
     pending: u32,
     time: u64,
     tag: u64,
-    answer: &mut [u64; 5],
+    answer: &mut [u64; 6],
 ) -> u8 {
     unsafe {
         ambrulicciu_accept(
@@ -423,6 +426,7 @@ pub fn watched_sent(
     queue: &mut [Queued],
     sequence: u32,
     ordinal: u32,
+    train: u32,
     time: u64,
     tag: u64,
 ) -> u8 {
@@ -438,6 +442,7 @@ pub fn watched_sent(
             queue.len(),
             sequence,
             ordinal,
+            train,
             time,
             tag,
         )
@@ -458,7 +463,7 @@ pub fn watched_accept(
     pending: u32,
     time: u64,
     tag: u64,
-    answer: &mut [u64; 5],
+    answer: &mut [u64; 6],
 ) -> u8 {
     unsafe {
         ambrulicciu_watched_accept(
@@ -608,8 +613,8 @@ pub fn quantiles_percentiles(quantiles: &[u64; 4], room: &[u64], percents: &[f64
     }
 }
 
-pub fn log_write_sent(bytes: &mut [u8], sequence: u32, ordinal: u32, time: u64, tag: u64) -> u8 {
-    unsafe { ambrulicciu_log_write_sent(bytes.as_mut_ptr(), bytes.len(), sequence, ordinal, time, tag) }
+pub fn log_write_sent(bytes: &mut [u8], sequence: u32, ordinal: u32, train: u32, time: u64, tag: u64) -> u8 {
+    unsafe { ambrulicciu_log_write_sent(bytes.as_mut_ptr(), bytes.len(), sequence, ordinal, train, time, tag) }
 }
 
 pub fn log_write_accept(bytes: &mut [u8], sender: u32, reflector: u32, t3: u64, pending: u32, time: u64, tag: u64) -> u8 {

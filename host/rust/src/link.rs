@@ -27,7 +27,7 @@ pub struct Packet {
 pub enum Accepted {
     Unknown,
     Duplicate,
-    Unique(Packet, Option<u32>),
+    Unique(Packet, Option<u32>, u32),
 }
 
 /// The ledger's rooms.
@@ -121,12 +121,12 @@ impl Link {
     }
 
     /// A probe was sent.
-    pub fn sent(&mut self, sequence: u32, ordinal: u32, packet: Packet) -> Result<(), Refusal> {
+    pub fn sent(&mut self, sequence: u32, ordinal: u32, train: u32, packet: Packet) -> Result<(), Refusal> {
         let Packet { time, tag } = packet;
         let Rooms { probes, links, .. } = &mut self.rooms;
         served(match &mut self.watch {
-            None => calls::sent(&mut self.ledger, probes, links, sequence, ordinal, time, tag),
-            Some(w) => calls::watched_sent(&mut self.ledger, &mut w.monitor, probes, links, &mut w.queue, sequence, ordinal, time, tag),
+            None => calls::sent(&mut self.ledger, probes, links, sequence, ordinal, train, time, tag),
+            Some(w) => calls::watched_sent(&mut self.ledger, &mut w.monitor, probes, links, &mut w.queue, sequence, ordinal, train, time, tag),
         })
     }
 
@@ -137,7 +137,7 @@ impl Link {
         let held = pending.is_some().into();
         let Rooms { keys, slots, probes, links, .. } = &mut self.rooms;
         let ledger = &mut self.ledger;
-        let mut answer = [0; 5];
+        let mut answer = [0; 6];
         served(match &mut self.watch {
             None => calls::accept(ledger, keys, slots, probes, links, sender, reflector, t3, held, time, tag, &mut answer),
             Some(w) => {
@@ -160,11 +160,11 @@ impl Link {
                 )
             }
         })?;
-        let [class, time, tag, known, ordinal] = answer;
+        let [class, time, tag, known, ordinal, train] = answer;
         Ok(match class {
             0 => Accepted::Unknown,
             1 => Accepted::Duplicate,
-            _ => Accepted::Unique(Packet { time, tag }, (known != 0).then_some(ordinal as u32)),
+            _ => Accepted::Unique(Packet { time, tag }, (known != 0).then_some(ordinal as u32), train as u32),
         })
     }
 

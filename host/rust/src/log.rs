@@ -42,8 +42,8 @@ impl Log {
         self.bytes.extend_from_slice(&record);
     }
 
-    pub fn sent(&mut self, sequence: u32, ordinal: u32, packet: Packet) {
-        self.add(|record| calls::log_write_sent(record, sequence, ordinal, packet.time, packet.tag));
+    pub fn sent(&mut self, sequence: u32, ordinal: u32, train: u32, packet: Packet) {
+        self.add(|record| calls::log_write_sent(record, sequence, ordinal, train, packet.time, packet.tag));
     }
 
     pub fn accept(&mut self, key: Key, pending: Option<Packet>) {

@@ -122,7 +122,9 @@ pub struct Figures {
     pub round_trip: Delays,
     pub direct: Direct,
     pub follow_up: FollowUps,
+    /// Of the evicted probes, those that had no reply.
+    pub evicted_unanswered: u64,
 }
 
-const _: () = assert!(std::mem::size_of::<Figures>() == 90 * 8);
+const _: () = assert!(std::mem::size_of::<Figures>() == 91 * 8);
 const _: () = assert!(std::mem::size_of::<Quality>() == 26 * 8);

@@ -16,10 +16,13 @@ array-write-words c = search needs
 array-write-words-2 : tie.Need-array-write-words-2
 array-write-words-2 c = search needs
 
+array-write-words-3 : tie.Need-array-write-words-3
+array-write-words-3 c = search needs
+
 returns : tie.Need-returns
 returns c = sent-stored _ _ _ (c .before .before .put-long .ensures) (c .put-long2 .ensures)
 
 pub sent-words-spec : {M : Type 1} → statement M
 sent-words-spec =
     tie.close
-    (tie.spec put-long-requires put-long-requires-2 array-write-words array-write-words-2 returns)
+    (tie.spec put-long-requires put-long-requires-2 array-write-words array-write-words-2 array-write-words-3 returns)

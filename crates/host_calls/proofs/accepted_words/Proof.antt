@@ -1,5 +1,7 @@
 -- `host_calls::accepted_words` meets its contract: in each arm the class is known.
 -- Assumes nothing.
+use mathlib.Core.Path.{ap, sym, _∙_}
+use Rattle.host_calls.specs.Calls.{acceptedWords}
 use borrow.Author.Needs.{needs}
 use Rattle.host_calls.proofs.accepted_words.Statement.{statement}
 use Rattle.host_calls.proofs.accepted_words.Tie as tie
@@ -23,7 +25,7 @@ returns-2 : tie.Need-returns-2
 returns-2 c = search needs
 
 returns-3 : tie.Need-returns-3
-returns-3 c = cc
+returns-3 c = c .ordinal-words .ensures ∙ sym (ap acceptedWords (c .before .before .accepted .given .1))
 
 pub accepted-words-spec : {M : Type 1} → statement M
 accepted-words-spec =

@@ -10,8 +10,8 @@ enum-told c = search needs
 enum-known-ordinal : tie.Need-enum-known-ordinal
 enum-known-ordinal c = search needs
 
-cast-t5 : tie.Need-cast-t5
-cast-t5 c = search needs
+cast-t7 : tie.Need-cast-t7
+cast-t7 c = search needs
 
 returns : tie.Need-returns
 returns c = cc
@@ -20,4 +20,4 @@ returns-2 : tie.Need-returns-2
 returns-2 c = cc
 
 pub ordinal-words-spec : {M : Type 1} → statement M
-ordinal-words-spec = tie.close (tie.spec enum-told enum-known-ordinal cast-t5 returns returns-2)
+ordinal-words-spec = tie.close (tie.spec enum-told enum-known-ordinal cast-t7 returns returns-2)

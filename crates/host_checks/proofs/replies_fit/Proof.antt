@@ -41,6 +41,9 @@ element-copy-out-evicted c = search needs
 element-copy-out-evicted-2 : tie.Need-element-copy-out-evicted-2
 element-copy-out-evicted-2 c = search needs
 
+element-copy-out-evicted-3 : tie.Need-element-copy-out-evicted-3
+element-copy-out-evicted-3 c = search needs
+
 returns : tie.Need-returns
 unfolding repliesAt
 returns c = refl
@@ -61,4 +64,5 @@ replies-fit-spec =
     element-copy-out-numbers-2
     element-copy-out-evicted
     element-copy-out-evicted-2
+    element-copy-out-evicted-3
     returns)

@@ -52,9 +52,12 @@ element-copy-out-t43 c = search needs
 element-copy-out-t46 : tie.Need-element-copy-out-t46
 element-copy-out-t46 c = search needs
 
+element-copy-out-t49 : tie.Need-element-copy-out-t49
+element-copy-out-t49 c = search needs
+
 returns : tie.Need-returns
 unfolding repliesAt
-returns c = rw (c .before .before .before .before .before .before .before .before .before .before .before .before .before .before .reflector-of .ensures, c .before .before .before .before .before .before .before .before .before .before .before .before .reflector-of2 .ensures)
+returns c = rw (c .before .before .before .before .before .before .before .before .before .before .before .before .before .before .before .reflector-of .ensures, c .before .before .before .before .before .before .before .before .before .before .before .before .before .reflector-of2 .ensures)
 
 pub replies-of-spec : {M : Type 1} → statement M
 replies-of-spec =
@@ -76,4 +79,5 @@ replies-of-spec =
     element-copy-out-t39
     element-copy-out-t43
     element-copy-out-t46
+    element-copy-out-t49
     returns)

@@ -24,7 +24,7 @@ unfolding acceptedWords
 returns c =
     let next = c .before .before .before .before .before .before .before .args .next in
     let replies = c .store-replies .ensures in
-    (replies .0 ∙ ap (λ (x : List ℕ). sets x 11 (repliesWords (next .counts .replies))) (c .before .before .store-tables .ensures), replies .1)
+    (replies .0 ∙ ap (λ (x : List ℕ). set (sets x 11 (repliesWords (next .counts .replies))) 72 (next .counts .replies .evicted .unanswered)) (c .before .before .store-tables .ensures), replies .1)
 
 pub store-accepted-spec : {M : Type 1} → statement M
 store-accepted-spec =

@@ -54,6 +54,9 @@ element-write-state-13 c = search needs
 element-write-state-14 : tie.Need-element-write-state-14
 element-write-state-14 c = search needs
 
+element-write-state-15 : tie.Need-element-write-state-15
+element-write-state-15 c = search needs
+
 returns : tie.Need-returns
 unfolding repliesWords
 returns c =
@@ -81,4 +84,5 @@ store-replies-spec =
     element-write-state-12
     element-write-state-13
     element-write-state-14
+    element-write-state-15
     returns)

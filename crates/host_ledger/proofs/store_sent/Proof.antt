@@ -20,6 +20,9 @@ element-write-state-4 c = search needs
 element-write-state-5 : tie.Need-element-write-state-5
 element-write-state-5 c = search needs
 
+element-write-state-6 : tie.Need-element-write-state-6
+element-write-state-6 c = search needs
+
 returns : tie.Need-returns
 unfolding sentWords
 returns c = refl
@@ -33,4 +36,5 @@ store-sent-spec =
     element-write-state-3
     element-write-state-4
     element-write-state-5
+    element-write-state-6
     returns)

@@ -19,8 +19,11 @@ place-direct-requires c κs = search needs
 place-follow-requires : tie.Need-place-follow-requires
 place-follow-requires c κs = search needs
 
+place-evicted-requires : tie.Need-place-evicted-requires
+place-evicted-requires c κs = search needs
+
 returns : tie.Need-returns
-returns c = rw (c .place-follow .ensures, c .before .before .place-direct .ensures, c .before .before .before .before .place-delay .ensures, c .before .before .before .before .before .before .place-loss .ensures, c .before .before .before .before .before .before .before .before .place-replies .ensures) (shown-as (c .before .before .before .before .before .before .before .before .before .before .before .before .before .before .args .snapshot) (c .before .before .before .before .before .before .before .before .before .before .before .before .before .before .args .shown .now) (search (needs, c .before .before .before .before .before .before .before .before .before .before .before .before .before .before .good)))
+returns c = rw (c .place-evicted .ensures, c .before .before .place-follow .ensures, c .before .before .before .before .place-direct .ensures, c .before .before .before .before .before .before .place-delay .ensures, c .before .before .before .before .before .before .before .before .place-loss .ensures, c .before .before .before .before .before .before .before .before .before .before .place-replies .ensures) (shown-as (c .before .before .before .before .before .before .before .before .before .before .before .before .before .before .before .before .args .snapshot) (c .before .before .before .before .before .before .before .before .before .before .before .before .before .before .before .before .args .shown .now) (search (needs, c .before .before .before .before .before .before .before .before .before .before .before .before .before .before .before .before .good .0)))
 
 pub show-spec : {M : Type 1} → statement M
 show-spec =
@@ -31,4 +34,5 @@ show-spec =
     place-delay-requires
     place-direct-requires
     place-follow-requires
+    place-evicted-requires
     returns)

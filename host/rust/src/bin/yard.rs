@@ -106,9 +106,11 @@ impl Host {
 
     fn sent(&mut self, sequence: u32, ordinal: u32, now: u64) {
         let packet = Packet { time: now, tag: u64::from(ordinal) };
+        // A train passes during each ten probes out of thirty.
+        let train = if ordinal % 30 < 10 { 4000 + ordinal / 30 } else { 0 };
         self.waiting.insert(sequence, packet);
-        self.log.sent(sequence, ordinal, packet);
-        let result = self.link.sent(sequence, ordinal, packet);
+        self.log.sent(sequence, ordinal, train, packet);
+        let result = self.link.sent(sequence, ordinal, train, packet);
         self.count(result);
     }
 
@@ -116,7 +118,7 @@ impl Host {
         let pending = self.waiting.remove(&reply.key.sender);
         self.log.accept(reply.key, pending);
         match self.link.accept(reply.key, pending) {
-            Ok(Accepted::Unique(packet, ordinal)) => self.observed(reply, packet, ordinal),
+            Ok(Accepted::Unique(packet, ordinal, _)) => self.observed(reply, packet, ordinal),
             Ok(_) => {}
             Err(_) => self.turned_away += 1,
         }
