@@ -18,12 +18,12 @@ const FULL: u64 = 5000;
 
 struct Ours {
     link: Link,
-    answer: [u64; 5],
+    answer: [u64; 6],
 }
 
 impl Ours {
     fn new() -> Ours {
-        Ours { link: Link::new(1, &SECRET), answer: [0; 5] }
+        Ours { link: Link::new(1, &SECRET), answer: [0; 6] }
     }
 
     fn watched() -> Ours {
@@ -33,9 +33,9 @@ impl Ours {
     fn sent(&mut self, sequence: u32, ordinal: u32, tag: u64) {
         let Link { ledger, rooms, watch } = &mut self.link;
         let number = match watch {
-            None => calls::sent(ledger, &mut rooms.probes, &mut rooms.links, sequence, ordinal, tag, tag),
+            None => calls::sent(ledger, &mut rooms.probes, &mut rooms.links, sequence, ordinal, 0, tag, tag),
             Some(w) => {
-                calls::watched_sent(ledger, &mut w.monitor, &mut rooms.probes, &mut rooms.links, &mut w.queue, sequence, ordinal, tag, tag)
+                calls::watched_sent(ledger, &mut w.monitor, &mut rooms.probes, &mut rooms.links, &mut w.queue, sequence, ordinal, 0, tag, tag)
             }
         };
         assert_eq!(number, 0);

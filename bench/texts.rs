@@ -7,7 +7,7 @@ pub fn rows(table: &mut Table) {
     let mut record = [0; 96];
     let told = Observation::of(Key { sender: 7, reflector: 7, t3: 5 }, 50).told();
     table.alone("`log_write_sent`", 20_000, || {
-        calls::log_write_sent(black_box(&mut record), black_box(7), 1, 100, 5);
+        calls::log_write_sent(black_box(&mut record), black_box(7), 1, 0, 100, 5);
     });
     table.alone("`log_write_accept`", 20_000, || {
         calls::log_write_accept(black_box(&mut record), black_box(7), 7, 5, 1, 100, 5);
@@ -36,8 +36,8 @@ fn made() -> (Vec<u8>, Link) {
     let mut link = Link::new(1, &[1; 8]);
     for n in 1..=227u32 {
         let (key, packet) = (Key { sender: n, reflector: n, t3: n.into() }, Packet { time: n.into(), tag: 0 });
-        log.sent(n, n, packet);
-        link.sent(n, n, packet).expect("served");
+        log.sent(n, n, 0, packet);
+        link.sent(n, n, 0, packet).expect("served");
         log.accept(key, Some(packet));
         assert!(matches!(link.accept(key, Some(packet)), Ok(Accepted::Unique(..))));
         let observation = Observation::of(key, 20_000_000);

@@ -5,6 +5,7 @@ pub mod logs;
 mod monitor;
 mod numbers;
 mod quantiles;
+mod trains;
 
 use crate::part::Part;
 

@@ -33,6 +33,7 @@ const ROUND_TRIPS: usize = 25;
 const WINDOW: usize = 38;
 const SEEN: usize = 43;
 const FOLLOW_DELAYS: usize = 50;
+const UNANSWERED: usize = 72;
 /// Words of the monitor.
 const TRANSMITTING: usize = 7;
 const QUEUE_RING: usize = 8;
@@ -50,6 +51,7 @@ fn count_word(which: u64) -> usize {
         34..=36 => 29 + which,
         28 => ROUND_TRIPS,
         31 => FOLLOW_DELAYS,
+        37 => UNANSWERED,
         _ => panic!("no count {which}"),
     }
 }
@@ -115,7 +117,7 @@ fn made(link: &mut Link, call: &Call) -> Reply {
                 time: call[2],
                 tag: call[3],
             };
-            reply.refusal = number(&link.sent(call[1] as u32, call[4] as u32, packet));
+            reply.refusal = number(&link.sent(call[1] as u32, call[4] as u32, call[5] as u32, packet));
         }
         ACCEPT => {
             let pending = (call[3] != 0).then_some(Packet {
@@ -258,7 +260,7 @@ impl Mend {
 fn shown(link: &Link, call: &Call, reply: &Reply) -> Answer {
     let figures = link.snapshot();
     let mut words = Vec::with_capacity(120);
-    shown_answer(link, reply, &mut words);
+    shown_answer(link, reply, &figures, &mut words);
     shown_replies(&figures, &mut words);
     shown_delays(link, &figures, &mut words);
     shown_follow(&figures, &mut words);
@@ -274,11 +276,11 @@ fn shown(link: &Link, call: &Call, reply: &Reply) -> Answer {
     words.try_into().expect("120 words")
 }
 
-fn shown_answer(link: &Link, reply: &Reply, words: &mut Vec<u64>) {
-    let (class, packet, ordinal) = match reply.accepted {
-        None | Some(Accepted::Unknown) => (0, Packet::default(), None),
-        Some(Accepted::Duplicate) => (1, Packet::default(), None),
-        Some(Accepted::Unique(packet, ordinal)) => (2, packet, ordinal),
+fn shown_answer(link: &Link, reply: &Reply, figures: &Figures, words: &mut Vec<u64>) {
+    let (class, packet, ordinal, train) = match reply.accepted {
+        None | Some(Accepted::Unknown) => (0, Packet::default(), None, 0),
+        Some(Accepted::Duplicate) => (1, Packet::default(), None, 0),
+        Some(Accepted::Unique(packet, ordinal, train)) => (2, packet, ordinal, train),
     };
     words.extend([
         reply.refusal,
@@ -290,7 +292,8 @@ fn shown_answer(link: &Link, reply: &Reply, words: &mut Vec<u64>) {
     ]);
     words.extend([link.ledger[COPIES], link.ledger[CALLS]]);
     words.extend([link.ledger[AWAITS], u64::from(link.needs_burst_wait())]);
-    words.extend([0; 6]);
+    words.extend([train.into(), figures.evicted_unanswered]);
+    words.extend([0; 4]);
 }
 
 fn number_of(value: Maybe<u64>) -> u64 {
@@ -452,7 +455,7 @@ fn ring(words: &[u64], at: usize) -> impl DoubleEndedIterator<Item = usize> {
 }
 
 fn probe_words(row: &[u64; 4]) -> [u64; 5] {
-    let ordinal = row[1].checked_sub(1).map(|o| o as u32);
+    let ordinal = (row[0] >> 48 != 0).then_some(row[1] as u32);
     [
         flagged(Some(row[0] as u32)),
         row[0] >> 32 & 0xffff,

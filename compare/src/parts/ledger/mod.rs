@@ -8,7 +8,8 @@ mod scripts;
 mod shown;
 
 use super::{
-    numbers::Ends, CAPACITY, COUNTS_FULL, COUNT_BOUND, DEADLINE_PASSES, NOT_AWAITING, OUT_OF_RANGE,
+    numbers::Ends, trains::{oldest, Trains},
+    CAPACITY, COUNTS_FULL, COUNT_BOUND, DEADLINE_PASSES, NOT_AWAITING, OUT_OF_RANGE,
     QUEUE_FULL, SUM_BOUND, WRONG_ROOM,
 };
 use crate::{
@@ -23,7 +24,7 @@ use shown::{flagged, WORDS};
 
 /// Copies, 0 or 1 for a monitor, its threshold, its timeout, four words of the port's hash.
 pub const FRESH: u64 = 0;
-/// Sequence, time, tag, ordinal.
+/// Sequence, time, tag, ordinal, train.
 pub const SENT: u64 = 1;
 /// Sender and reflector, T3, 0 or 1 for a pending packet, its time, its tag.
 pub const ACCEPT: u64 = 2;
@@ -91,6 +92,7 @@ struct Reply {
     time: u64,
     tag: u64,
     ordinal: u64,
+    train: u64,
 }
 
 fn refused(refusal: u64) -> Reply {
@@ -104,6 +106,7 @@ struct Booked {
     ledger: Ledger,
     monitor: Option<(u16, u64)>,
     calls: u64,
+    trains: Trains,
     freed: std::collections::HashSet<u32>,
     unobserved: std::collections::HashSet<(u32, u32, u64)>,
     broken: bool,
@@ -153,6 +156,7 @@ impl Booked {
             ledger: Ledger::fresh(copies, monitor),
             monitor,
             calls: 0,
+            trains: Trains::default(),
             freed: Default::default(),
             unobserved: Default::default(),
             broken: false,
@@ -193,6 +197,7 @@ impl Original for Booked {
                         self.ends.counts[call[1] as usize - 34] = call[2];
                         self.ends = self.ends.loaded(self.invalid());
                     }
+                    37 => self.trains.unanswered = call[2],
                     count => {
                         self.ledger.load(count, call[2]);
                         self.ends = self.ends.loaded(self.invalid());
@@ -239,6 +244,7 @@ impl Booked {
         let counts = self.ledger.counts();
         let sums = self.ledger.sums();
         self.calls >= MOST_CALLS
+            || self.trains.unanswered >= COUNT_BOUND
             || counts.iter().any(|c| *c >= COUNT_BOUND)
             || self.ends.counts.iter().any(|c| *c >= COUNT_BOUND)
             || sums
@@ -275,12 +281,17 @@ impl Booked {
         }
         let held = self.ledger.holds(sequence);
         let evicted = self.ledger.snapshot().probes_evicted;
+        let first = oldest(&self.ledger);
         self.ledger.sent(sequence, time, call[3], call[4] as u32);
         self.calls += 1;
+        self.trains.remembered(sequence, call[5] as u32);
+        let gone = self.trains.gone(first, &self.ledger);
         let evicts = self.ledger.snapshot().probes_evicted > evicted;
         cover.reached_if(held, "sent: a held sequence again");
         cover.reached_if(!held, "sent: a new sequence");
         cover.reached_if(evicts, "sent: evicts a probe");
+        cover.reached_if(gone == Some(false), "sent: evicts an unanswered probe");
+        cover.reached_if(gone == Some(true), "sent: evicts an answered probe");
         self.shown(Reply::default(), call)
     }
 
@@ -303,6 +314,7 @@ impl Booked {
             .then(|| self.ledger.keys().next())
             .flatten();
         let slot = evicted.and_then(|k| self.ledger.slot(k.1));
+        let oldest = oldest(&self.ledger);
         self.calls += 1;
         let Some((time, tag, ordinal)) = self.ledger.accept(key, pending) else {
             let after = self.ledger.snapshot();
@@ -316,10 +328,17 @@ impl Booked {
             return self.shown(reply, call);
         };
         let after = self.ledger.snapshot();
+        if held.is_none() {
+            self.trains.remembered(key.0, 0);
+        }
+        let gone = self.trains.gone(oldest, &self.ledger);
+        let train = self.trains.of(key.0);
         self.unobserved.insert(key);
         cover.reached_if(held.is_none(), "accept: unheld probe with a pending packet");
         let evicts = after.probes_evicted > before.probes_evicted;
         cover.reached_if(evicts, "accept: that evicts a probe");
+        cover.reached_if(gone == Some(false), "accept: that evicts an unanswered probe");
+        cover.reached_if(train != 0, "accept: a train");
         let replaces = held.zip(pending).is_some_and(|(h, p)| (h.1, h.2) != p);
         cover.reached_if(replaces, "accept: pending packet replaces the stored one");
         let first = after.answered_probes > before.answered_probes;
@@ -344,6 +363,7 @@ impl Booked {
             time,
             tag,
             ordinal: flagged(ordinal),
+            train: train.into(),
             ..Reply::default()
         };
         self.shown(reply, call)
@@ -452,8 +472,8 @@ fn show(call: &Call) -> String {
             call[1], call[2], call[3], call[4]
         ),
         SENT => format!(
-            "sent {} at {} tag {} ordinal {}",
-            call[1], call[2], call[3], call[4]
+            "sent {} at {} tag {} ordinal {} train {}",
+            call[1], call[2], call[3], call[4], call[5]
         ),
         ACCEPT => format!("accept {:?} pending {:?}", key(call), &call[3..6]),
         OBSERVE => {

@@ -6,7 +6,7 @@ use crate::{
     sender::measurements::{MeasurementSummary, Told},
 };
 
-pub const LINES: [&str; 81] = [
+pub const LINES: [&str; 85] = [
     "fresh: copies 0 counts as 1",
     "fresh: copies above 1",
     "fresh: with a monitor",
@@ -14,6 +14,8 @@ pub const LINES: [&str; 81] = [
     "sent: a new sequence",
     "sent: a held sequence again",
     "sent: evicts a probe",
+    "sent: evicts an unanswered probe",
+    "sent: evicts an answered probe",
     "sent: refused 5",
     "sent: refused 5 for the queue",
     "sent: refused 6",
@@ -23,6 +25,8 @@ pub const LINES: [&str; 81] = [
     "accept: unknown",
     "accept: unheld probe with a pending packet",
     "accept: that evicts a probe",
+    "accept: that evicts an unanswered probe",
+    "accept: a train",
     "accept: pending packet replaces the stored one",
     "accept: first reply",
     "accept: first reply, late",

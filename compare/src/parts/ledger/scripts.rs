@@ -49,11 +49,14 @@ impl<'a> Draw<'a> {
         self.script.push(call);
     }
     fn sent(&mut self, sequence: u32, ordinal: u32) {
+        // A third of the probes have no train.
+        let train = sequence.wrapping_mul(0x9e37_79b9) ^ ordinal.wrapping_add(1);
         let told = [
             u64::from(sequence),
             self.now,
             self.now ^ 0x5a5a,
             u64::from(ordinal),
+            u64::from(if train % 3 == 0 { 0 } else { train }),
         ];
         self.push(call(SENT, &told));
     }
@@ -473,7 +476,7 @@ fn bounds(random: &mut Random) -> Script {
     let fresh = fresh(random, 3, [monitor, 2, 5]);
     let mut draw = Draw::new(random, fresh, true);
     let mut i = 0;
-    for which in 0..=36 {
+    for which in 0..=37 {
         let sum = matches!(which, 29 | 30 | 32 | 33);
         let bound = match which {
             0 => MOST_CALLS,

@@ -25,8 +25,8 @@ pub const WORDS: [&str; 120] = [
     "calls served",
     "awaiting",
     "needs_burst_wait",
-    "",
-    "",
+    "accept: train",
+    "probes evicted unanswered",
     "",
     "",
     "",
@@ -176,7 +176,7 @@ impl Booked {
         words.add(&[answered, u64::from(self.ledger.copies()), self.calls]);
         words.add(&[u64::from(self.ledger.awaiting().is_some())]);
         words.add(&[u64::from(self.ledger.needs_burst_wait())]);
-        words.add(&[0; 6]);
+        words.add(&[r.train, self.trains.unanswered, 0, 0, 0, 0]);
         words.at(16);
     }
 

@@ -194,7 +194,7 @@ fn junk() -> calls::Call {
     let half = UNSET as u32;
     calls::Call {
         kind: half,
-        unused: half,
+        train: half,
         sent: calls::SentCall {
             time: UNSET,
             tag: UNSET,
@@ -243,6 +243,7 @@ fn call_of(r: &Record) -> calls::Call {
     };
     match r.kind() {
         SENT => {
+            call.train = n(28);
             call.sent = calls::SentCall {
                 time: r.number(12, 8),
                 tag: r.number(20, 8),
@@ -297,7 +298,7 @@ fn written(settings: Settings, records: &[Record]) -> Result<(), String> {
         let mut bytes = [0x5a; RECORD];
         let (s, a) = (&call.sent, &call.accept);
         let answer = match r.kind() {
-            SENT => calls::log_write_sent(&mut bytes, s.sequence, s.ordinal, s.time, s.tag),
+            SENT => calls::log_write_sent(&mut bytes, s.sequence, s.ordinal, call.train, s.time, s.tag),
             ACCEPT => {
                 let t3 = a.t3;
                 calls::log_write_accept(
@@ -409,7 +410,7 @@ fn tell(log: &mut Log, call: &calls::Call) {
     let (s, a) = (&call.sent, &call.accept);
     let (time, tag) = (s.time, s.tag);
     match call.kind as u8 {
-        SENT => log.sent(s.sequence, s.ordinal, Packet { time, tag }),
+        SENT => log.sent(s.sequence, s.ordinal, call.train, Packet { time, tag }),
         ACCEPT => log.accept(key(a.sender, a.reflector, a.t3), packet(a)),
         OBSERVE => log.observe(&observation(&call.observation)),
         ADVANCE => log.advance(call.now),
@@ -435,7 +436,7 @@ fn played(settings: Settings, records: &[Record], text: &str) -> Result<(), Stri
         let (s, a) = (&call.sent, &call.accept);
         let (time, tag) = (s.time, s.tag);
         let answer = match r.kind() {
-            SENT => link.sent(s.sequence, s.ordinal, Packet { time, tag }),
+            SENT => link.sent(s.sequence, s.ordinal, call.train, Packet { time, tag }),
             ACCEPT => link
                 .accept(key(a.sender, a.reflector, a.t3), packet(a))
                 .map(|_| ()),

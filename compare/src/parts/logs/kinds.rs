@@ -179,7 +179,16 @@ impl<'a> Draw<'a> {
         self.records.push(record);
     }
     fn sent(&mut self, sequence: u32, ordinal: u32) {
-        let values = [sequence.into(), ordinal.into(), self.now, self.now ^ 0x5a5a];
+        // A third of the probes have no train.
+        let train = sequence.wrapping_mul(0x9e37_79b9) ^ ordinal.wrapping_add(1);
+        let train = if train % 3 == 0 { 0 } else { train };
+        let values = [
+            sequence.into(),
+            ordinal.into(),
+            self.now,
+            self.now ^ 0x5a5a,
+            train.into(),
+        ];
         self.push(Record::new(SENT, 0, &values));
     }
     fn accept(&mut self, key: (u32, u32, u64), pending: bool) {

@@ -2,6 +2,7 @@
 use super::{
     super::{
         ledger::{OFFSET_LIMIT, REFERENCE_LIMIT, TIME_LIMIT},
+        trains::{oldest, Trains},
         CAPACITY, DEADLINE_PASSES, NOT_AWAITING, OUT_OF_RANGE, QUEUE_FULL,
     },
     record::{
@@ -22,6 +23,7 @@ pub struct Link {
     monitor: Option<u64>,
     played: u64,
     turned_away: u64,
+    trains: Trains,
 }
 
 impl Link {
@@ -32,6 +34,7 @@ impl Link {
             monitor: monitor.map(|m| m.1),
             played: 0,
             turned_away: 0,
+            trains: Trains::default(),
         }
     }
 
@@ -65,14 +68,18 @@ impl Link {
             return QUEUE_FULL;
         }
         let (sequence, ordinal) = (r.number(4, 4) as u32, r.number(8, 4) as u32);
+        let first = oldest(&self.ledger);
         self.ledger.sent(sequence, time, r.number(20, 8), ordinal);
+        self.trains.gone(first, &self.ledger);
         0
     }
 
     fn accept(&mut self, r: &Record) -> u64 {
         let pending = r.has(PENDING);
         let pending = pending.then(|| (r.number(20, 8), r.number(28, 8)));
+        let first = oldest(&self.ledger);
         self.ledger.accept(key(r), pending);
+        self.trains.gone(first, &self.ledger);
         0
     }
 
@@ -154,6 +161,7 @@ impl Link {
                 shown(min),
                 shown(max)
             ),
+            format!("evicted unanswered {}", self.trains.unanswered),
         ];
         lines.map(|line| line + "\n").concat()
     }

@@ -25,7 +25,8 @@ pub const UNKNOWN_MODE: u8 = 128;
 /// A field: its first byte, how many it has, and the flag without which it is 0 (0: none).
 type Field = (usize, usize, u8);
 
-const SENT_FIELDS: [Field; 4] = [(4, 4, 0), (8, 4, 0), (12, 8, 0), (20, 8, 0)];
+/// The last is the train of document 02, Q-3.
+const SENT_FIELDS: [Field; 5] = [(4, 4, 0), (8, 4, 0), (12, 8, 0), (20, 8, 0), (28, 4, 0)];
 const ACCEPT_FIELDS: [Field; 5] = [
     (4, 4, 0),
     (8, 4, 0),
@@ -214,13 +215,19 @@ pub fn list(bytes: &[u8]) -> Option<String> {
 fn line(r: &Record) -> String {
     let n = |at, size| r.number(at, size);
     match r.kind() {
-        SENT => format!(
-            "sent {} ordinal {} at {} tag {}",
-            n(4, 4),
-            n(8, 4),
-            n(12, 8),
-            n(20, 8)
-        ),
+        SENT => {
+            let probe = format!(
+                "sent {} ordinal {} at {} tag {}",
+                n(4, 4),
+                n(8, 4),
+                n(12, 8),
+                n(20, 8)
+            );
+            match n(28, 4) {
+                0 => probe,
+                train => format!("{probe} train {train}"),
+            }
+        }
         ACCEPT => {
             let key = format!("accept {} {} {}", n(4, 4), n(8, 4), n(12, 8));
             if r.has(PENDING) {
