@@ -1,0 +1,5 @@
+pub mod Kept
+pub mod Fresh
+pub mod Output
+pub mod Cuts
+pub mod Examples
