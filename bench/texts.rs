@@ -20,6 +20,13 @@ pub fn rows(table: &mut Table) {
     table.alone("`log_check`, 681 records", 20, || {
         calls::log_check(black_box(&log), black_box(&mut settings));
     });
+    let (mut room, mut cut) = (vec![0; 65536], [0; 3]);
+    table.alone("`log_trim`, 681 records and a whole trailer", 20, || {
+        calls::log_trim(black_box(&log), 1, 0, 0, black_box(&mut room), &mut cut);
+    });
+    table.alone("`log_trim`, 681 records, the trailer cut off", 20, || {
+        calls::log_trim(black_box(&log[..log.len() - 1]), 1, 0, 0, black_box(&mut room), &mut cut);
+    });
     let (mut text, mut length, mut rooms, mut queue) = ([0; 1024], [0], Rooms::new(), vec![Queued::default(); ROWS]);
     let Rooms { keys, slots, probes, offsets, links } = &mut rooms;
     table.alone("`report_log`, 681 records", 5, || {

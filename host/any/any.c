@@ -596,6 +596,49 @@ static void try_logs(void) {
     done("log_first_bad", ambrulicciu_log_first_bad(log, size, answer), "97");
 }
 
+/* A log that may have lost its tail, in a room that may be short. */
+static void try_trim(void) {
+    size_t size;
+    uint8_t *log = log_of(&size);
+    if (drawn() % 2)
+        size = drawn() % (size + 1);
+    size_t room = drawn() % 4 ? size + 24 + drawn() % 24 : drawn() % (size + 24);
+    uint8_t *bytes = lend(room, 0);
+    ambrulicciu_cut *answer = lend(sizeof *answer, 0);
+    ready();
+    done("log_trim", ambrulicciu_log_trim(log, size, (uint16_t)number(), (uint16_t)number(), number(), bytes, room, answer), "9c");
+}
+
+/* Of one that is trimmed: its records are those of the log, it is checked as a log of what was kept, and given back as it is. */
+static void try_trimmed(void) {
+    static uint8_t log[AMBRULICCIU_LOG], bytes[AMBRULICCIU_LOG], again[AMBRULICCIU_LOG];
+    size_t size;
+    uint8_t *drawn_log = log_of(&size);
+    if (size > AMBRULICCIU_LOG)
+        size = AMBRULICCIU_LOG;
+    memcpy(log, drawn_log, size);
+    free(lent[0].bytes);
+    free(lent[0].before);
+    lent_count = 0;
+    if (drawn() % 2)
+        size = drawn() % (size + 1);
+    ambrulicciu_cut cut, back;
+    ambrulicciu_settings settings;
+    uint16_t copies = (uint16_t)number(), threshold = (uint16_t)number();
+    uint64_t timeout = number();
+    int bad = ambrulicciu_log_trim(log, size, copies, threshold, timeout, bytes, sizeof bytes, &cut);
+    size_t length = (size_t)cut.stop + AMBRULICCIU_TRAILER;
+    bad = bad || cut.stop != AMBRULICCIU_RECORD * cut.kept || cut.stop > size || memcmp(bytes, log, (size_t)cut.stop) != 0;
+    bad = bad || ambrulicciu_log_check(bytes, length, &settings) || settings.count != cut.kept;
+    int whole = !bad && size == length && memcmp(bytes, log, size) == 0; /* or settings that happen to be its own */
+    bad = bad || (!whole && (cut.stop + cut.dropped != size || settings.copies != copies || settings.threshold != threshold || settings.timeout != timeout));
+    bad = bad || ambrulicciu_log_trim(bytes, length, (uint16_t)number(), (uint16_t)number(), number(), again, sizeof again, &back);
+    if (bad || back.kept != cut.kept || back.stop != cut.stop || back.dropped || memcmp(again, bytes, length) != 0) {
+        fprintf(stderr, "any: log_trim of %u bytes makes no log of what is there\n", (unsigned)size);
+        exit(1);
+    }
+}
+
 /* A record of any call, read and written again: the same bytes. */
 static void try_again(void) {
     uint8_t log[AMBRULICCIU_RECORD + AMBRULICCIU_TRAILER], again[AMBRULICCIU_RECORD];
@@ -645,7 +688,7 @@ static void try_reports(void) {
 
 int main(int argc, char **argv) {
     static void (*const tries[])(void) = {try_version, try_fresh, try_sent, try_accept, try_observe, try_answered, try_reads, try_watched_sent,
-                                          try_watched_accept, try_monitor, try_estimates, try_quality, try_quantiles, try_bits, try_writers, try_logs, try_again, try_reports};
+                                          try_watched_accept, try_monitor, try_estimates, try_quality, try_quantiles, try_bits, try_writers, try_logs, try_trim, try_trimmed, try_again, try_reports};
     long rounds = argc > 1 ? atol(argv[1]) : 500;
     seed = argc > 2 ? strtoull(argv[2], NULL, 10) : 1;
     for (long round = 0; round < rounds; round++)

@@ -3,14 +3,13 @@
 -- that document 01 answers with 8." What a log is, and a bad record, are those of link_log. Assumes nothing.
 use mathlib.Core.Bool.{Bool, false, cond}
 use mathlib.Core.List.{List, _++_}
-use Prim.Native.Nat.{ℕ, zero, suc, _+_, _-_, _*_, _/_}
-use lib.Dec.{eqb, ltb}
-use lib.ListN.{length, take, drop, replicate}
-use Rattle.scope_requests.specs.Refusals.{shortRoom}
+use Prim.Native.Nat.{ℕ, _-_, _*_, _/_}
+use lib.Dec.{eqb}
+use lib.ListN.{length, take, replicate}
 use Rattle.link_log.specs.declared.Settings.{Settings}
 use Rattle.link_log.specs.declared.Log.{Log}
 use Rattle.link_log.specs.declared.Log.the-variants as log
-use Rattle.link_log.specs.Logs.{mostBytes, tooLong, settingsOf, firstBad, logOf, trailerOver}
+use Rattle.link_log.specs.Logs.{settingsOf, firstBad, logOf, trailerOver}
 
 -- ---- what is kept
 
@@ -51,14 +50,3 @@ outputOf bs copies threshold timeout = cond (whole bs) bs (take (stopOf bs) bs +
 unfoldable pub settingsFor : List ℕ → (copies threshold timeout : ℕ) → Settings
 settingsFor bs copies threshold timeout =
     cond (whole bs) (settingsOf bs) (record { copies = copies; threshold = threshold; timeout = timeout; count = keptOf bs; start = 0 })
-
--- ---- the call
-
--- "Refusals: 9 as before; then 12 when the output room is short"
-unfoldable pub refusalOf : (bs room : List ℕ) → ℕ
-refusalOf bs room = cond (ltb mostBytes (length bs)) tooLong (cond (ltb (length room) (stopOf bs + 24)) shortRoom 0)
-
--- at 0 the log over the start of the lent bytes, and those behind it as they were; a refusal writes nothing
-abbrev pub roomAfter : ℕ → (output room : List ℕ) → List ℕ
-roomAfter zero output room = output ++ drop (length output) room
-roomAfter (suc n) output room = room

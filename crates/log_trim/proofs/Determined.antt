@@ -8,9 +8,9 @@ use borrow.Fn.World as World
 use borrow.Fn.Kinds as Kinds'
 use denote.Triple.Clauses as Clauses
 use denote.Ref.{now}
-use Rattle.log_cut.specs.Cut.{outputOf, refusalOf, roomAfter}
+use Rattle.log_cut.specs.Cut.{outputOf}
 use Rattle.log_trim.specs.declared.Trimmed.the-variants as trimmed
-use Rattle.log_trim.specs.Trimmed.{Left, cutOf, answerBy, trimTo}
+use Rattle.log_trim.specs.Trimmed.{Left, cutOf, refusalOf, roomAfter, answerBy, trimTo}
 use Rattle.log_trim.proofs.trim as trim
 use Rattle.log_trim.proofs.trim.Kinds as trim-kinds
 use Rattle.log_trim.proofs.trim.Reads as trim-reads

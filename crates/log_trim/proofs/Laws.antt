@@ -15,13 +15,13 @@ use Rattle.link_log.specs.declared.Log.{Log}
 use Rattle.link_log.specs.Logs.{mostBytes, countOf, firstBad, logOf, Wrote, wrote, trailerOver, trailerTo}
 use Rattle.link_log.proofs.Laws.{write-done}
 use Rattle.link_log.proofs.Whole.{trailer-whole}
-use Rattle.log_cut.specs.Cut.{keptOf, stopOf, wholeBy, whole, droppedOf, trailerOf, outputOf, refusalOf, roomAfter}
+use Rattle.log_cut.specs.Cut.{keptOf, stopOf, wholeBy, whole, droppedOf, trailerOf, outputOf}
 use Rattle.log_cut.proofs.Kept.{keeps, Whole, whole-is, whole-keeps}
 use Rattle.log_cut.proofs.Fresh.{trailer-length}
 use Rattle.log_cut.proofs.Output.{output-whole, output-cut, output-length, dropped-whole, dropped-cut}
 use Rattle.log_trim.specs.declared.Cut.{Cut}
 use Rattle.log_trim.specs.declared.Trimmed.the-variants as trimmed
-use Rattle.log_trim.specs.Trimmed.{left, cutOf, answerBy, trimTo}
+use Rattle.log_trim.specs.Trimmed.{left, cutOf, refusalOf, roomAfter, answerBy, trimTo}
 
 -- ---- what is kept
 

@@ -290,6 +290,16 @@ extern "C" {
     fn ambrulicciu_log_check(log: *const u8, log_length: usize, answer: &mut [u64; 4]) -> u8;
     fn ambrulicciu_log_first_bad(log: *const u8, log_length: usize, answer: &mut [u64; 1]) -> u8;
     fn ambrulicciu_log_read(log: *const u8, log_length: usize, at: u32, call: &mut Call) -> u8;
+    fn ambrulicciu_log_trim(
+        log: *const u8,
+        log_length: usize,
+        copies: u16,
+        threshold: u16,
+        timeout: u64,
+        bytes: *mut u8,
+        bytes_length: usize,
+        answer: &mut [u64; 3],
+    ) -> u8;
     fn ambrulicciu_report_log(
         log: *const u8,
         log_length: usize,
@@ -648,6 +658,11 @@ pub fn log_first_bad(log: &[u8], answer: &mut [u64; 1]) -> u8 {
 
 pub fn log_read(log: &[u8], at: u32, call: &mut Call) -> u8 {
     unsafe { ambrulicciu_log_read(log.as_ptr(), log.len(), at, call) }
+}
+
+/// Answer: kept, stop, dropped.
+pub fn log_trim(log: &[u8], copies: u16, threshold: u16, timeout: u64, bytes: &mut [u8], answer: &mut [u64; 3]) -> u8 {
+    unsafe { ambrulicciu_log_trim(log.as_ptr(), log.len(), copies, threshold, timeout, bytes.as_mut_ptr(), bytes.len(), answer) }
 }
 
 pub fn report_log(

@@ -20,7 +20,7 @@ mod shown;
 pub use bits::{bit_errors, bit_observation, pattern_of, BitErrors, BitObservation, BitSummary, Item};
 pub use estimate::{Estimate, Invalid, Parts};
 pub use link::{report_of_log, Accepted, Key, Link, Packet, Rooms, Session, State, Watch};
-pub use log::{Log, Settings};
+pub use log::{Cut, Log, Settings};
 pub use observation::{Counters, FollowUp, Format, Observation};
 pub use quality::ClockQuality;
 pub use quantiles::{Quantiles, Value};

@@ -17,6 +17,14 @@ pub struct Settings {
     pub timeout: u64,
 }
 
+/// What was kept of a log that was cut short: how many records, the byte behind the last of them, and how many bytes were dropped.
+#[derive(Clone, Copy, Debug, PartialEq, Eq)]
+pub struct Cut {
+    pub kept: u64,
+    pub stop: u64,
+    pub dropped: u64,
+}
+
 /// A log that is being written.
 #[derive(Clone, Debug)]
 pub struct Log {
@@ -84,5 +92,15 @@ impl Log {
         served(calls::log_check(bytes, &mut answer))?;
         let [count, copies, threshold, timeout] = answer;
         Ok((Settings { copies: copies as u16, threshold: threshold as u16, timeout }, count))
+    }
+
+    /// A log of what is left of one that was cut short, with these settings. A whole log is given back as it is. Refused with `TooLong` only.
+    pub fn trim(bytes: &[u8], settings: Settings) -> Result<(Vec<u8>, Cut), Refusal> {
+        let Settings { copies, threshold, timeout } = settings;
+        let (mut log, mut answer) = (vec![0; bytes.len() + TRAILER], [0; 3]);
+        served(calls::log_trim(bytes, copies, threshold, timeout, &mut log, &mut answer))?;
+        let [kept, stop, dropped] = answer;
+        log.truncate(stop as usize + TRAILER);
+        Ok((log, Cut { kept, stop, dropped }))
     }
 }

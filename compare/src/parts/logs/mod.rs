@@ -9,6 +9,8 @@ mod kinds;
 mod original;
 mod record;
 mod shipped;
+#[cfg(feature = "host")]
+pub mod trim;
 
 use std::{
     collections::BTreeMap,

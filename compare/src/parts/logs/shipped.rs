@@ -30,7 +30,7 @@ impl Ends {
 }
 
 /// The logs of a folder, by name.
-fn logs(folder: &str) -> Vec<PathBuf> {
+pub fn logs(folder: &str) -> Vec<PathBuf> {
     let entries = fs::read_dir(folder).unwrap_or_else(|e| panic!("{folder}: {e}"));
     let mut paths: Vec<PathBuf> = entries.map(|e| e.unwrap().path()).collect();
     paths.retain(|path| path.extension().is_some_and(|e| e == "log"));
