@@ -559,7 +559,7 @@ static uint8_t *log_of(size_t *size) {
     uint32_t count = (uint32_t)(drawn() % 6);
     size_t before = drawn() % 40;
     if (drawn() % 6 == 0) {
-        *size = drawn() % 3 ? drawn() % 300 : AMBRULICCIU_LOG + drawn() % 3;
+        *size = drawn() % 2 ? drawn() % 300 : AMBRULICCIU_LOG + drawn() % 4;
         return lend(*size, 1);
     }
     *size = before + AMBRULICCIU_RECORD * count + AMBRULICCIU_TRAILER;

@@ -9,8 +9,9 @@ use super::{
 use crate::{cover::Cover, random::Random};
 use ambrulicciu::{calls, report_of_log, Log, Rooms};
 use std::{
-    collections::HashSet,
+    collections::{hash_map::DefaultHasher, HashSet},
     fs::{self, File},
+    hash::{Hash, Hasher},
     process::{Command, Stdio},
 };
 
@@ -75,8 +76,8 @@ fn same<T: PartialEq + std::fmt::Debug>(what: &str, expected: T, shown: T) -> Re
 struct Held {
     rooms: Rooms,
     queue: Vec<calls::Queued>,
-    /// Logs that were written: each is reported once.
-    reported: HashSet<Vec<u8>>,
+    /// The hashes of logs that were written: each is reported once.
+    reported: HashSet<u64>,
     logs: u64,
     whole: u64,
     none: u64,
@@ -137,12 +138,12 @@ impl Held {
         }
         self.whole += u64::from(left.log == bytes);
         self.none += u64::from(left.kept == 0);
-        if self.reported.contains(&left.log) {
+        let mut hash = DefaultHasher::new();
+        left.log.hash(&mut hash);
+        if !self.reported.insert(hash.finish()) {
             return Ok(());
         }
-        self.report(&left, settings)?;
-        self.reported.insert(left.log);
-        Ok(())
+        self.report(&left, settings)
     }
 
     /// What was written is accepted, is reported as the original does, and is given back as it is, whatever the settings.
