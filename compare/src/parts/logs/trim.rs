@@ -12,7 +12,7 @@ use std::{
     collections::{hash_map::DefaultHasher, HashSet},
     fs::{self, File},
     hash::{Hash, Hasher},
-    process::{Command, Stdio},
+    process::{self, Command, Stdio},
 };
 
 const TOO_LONG: u8 = 9;
@@ -21,7 +21,6 @@ const SECRET: [u32; 8] = [2, 3, 5, 7, 11, 13, 17, 19];
 /// What the lent bytes and words hold before.
 const BEFORE: u8 = 0x5a;
 const WORD: u64 = 0x5a5a;
-const CUT: &str = "compare/target/cut.log";
 
 /// What is left of a log.
 #[derive(Debug, PartialEq)]
@@ -173,7 +172,9 @@ impl Held {
 
 /// The same by the programs: what `linktrim` writes and says, and what `linkreport` prints of it.
 fn by_programs(start: &str, bytes: &[u8], settings: Settings) -> Result<(), String> {
-    fs::write(CUT, bytes).expect(CUT);
+    // Of each process its own: several may run at a time.
+    let cut = format!("compare/target/cut-{}.log", process::id());
+    fs::write(&cut, bytes).expect(&cut);
     let words = [
         settings.copies.to_string(),
         settings.threshold.to_string(),
@@ -182,9 +183,10 @@ fn by_programs(start: &str, bytes: &[u8], settings: Settings) -> Result<(), Stri
     let run = Command::new(start)
         .arg("linktrim")
         .args(words)
-        .stdin(Stdio::from(File::open(CUT).expect(CUT)))
+        .stdin(Stdio::from(File::open(&cut).expect(&cut)))
         .output()
         .unwrap_or_else(|e| panic!("{start}: {e}"));
+    fs::remove_file(&cut).expect(&cut);
     let (line, log) = match left_of(bytes, settings) {
         Some(left) => (
             format!(
@@ -288,7 +290,15 @@ pub fn play(start: &str, folder: &str, seed: u64, all: bool) -> bool {
             held.hold(&[&bytes[..], &bytes[..]].concat(), OPERATOR)
                 .map_err(what)?;
             let middle = RECORD * (bytes.len() / RECORD / 2);
-            for end in [bytes.len(), bytes.len() - 1, bytes.len() - TRAILER, middle, middle + 50, 23, 0] {
+            for end in [
+                bytes.len(),
+                bytes.len() - 1,
+                bytes.len() - TRAILER,
+                middle,
+                middle + 50,
+                23,
+                0,
+            ] {
                 by_programs(start, &bytes[..end], OPERATOR).map_err(what)?;
                 programs += 1;
             }
@@ -309,7 +319,10 @@ pub fn play(start: &str, folder: &str, seed: u64, all: bool) -> bool {
                 let both = [&before[..], bytes].concat();
                 for log in [bytes, &bytes[..end], &both] {
                     if failed.is_none() {
-                        failed = held.hold(log, settings).err().map(|e| format!("{kind}: {e}"));
+                        failed = held
+                            .hold(log, settings)
+                            .err()
+                            .map(|e| format!("{kind}: {e}"));
                     }
                 }
                 before.clone_from(bytes);
