@@ -8,10 +8,10 @@ use native.Mathlib.Nat.{le-refl, le-antisymm, le-trans, le-of-eq, add-zero, add-
 use native.Mathlib.Numerals.{add-one}
 use native.Mathlib.Omega.{arith}
 use borrow.Author.Tests.{lt-ltb, le-ltb, ltb-true, ltb-false, eq-eqb, eqb-true, eqb-false}
-use lib.ListN.{length, getD, take, drop, set, replicate, take-append-drop, length-drop, length-replicate, replicate-append-replicate, drop-of-length-le}
-use lib.Seq.{take-suc, drop-cons, drop-drop, getD-drop, set-at}
+use lib.ListN.{length, getD, take, drop, set, replicate, take-append-drop, length-replicate, replicate-append-replicate, drop-of-length-le}
+use lib.Seq.{take-suc, drop-cons, set-at}
 use lib.Dec.{ltb, eqb}
-use Rattle.histogram.specs.Histogram.{total, either, bucketAt, bumped}
+use Rattle.histogram.specs.Histogram.{total, either, bucketAt, leftAt}
 
 pub total-append : (a b : List ℕ) → total (a ++ b) ≡ total a + total b
 unfolding total
@@ -99,26 +99,31 @@ at-next b i left h l =
     grouped : (i x : ℕ) → i + (1 + x) ≡ i + 1 + x
     grouped i x = omega arith
 
--- a whole block is passed by its sum
-pub at-block : (b : List ℕ) (i left k : ℕ) → i + k ≤ length b → total (take k (drop i b)) ≤ left → i + bucketAt (drop i b) left ≡ i + k + bucketAt (drop (i + k) b) (left - total (take k (drop i b)))
-at-block b i left k h l =
-    ap (λ (x : ℕ). i + x) (at-past k (drop i b) left (omega (arith, length-drop i b)) l)
-    ∙ ap (λ (x : List ℕ). i + (k + bucketAt x (left - total (take k (drop i b))))) (drop-drop k i b)
-    ∙ sym (add-assoc i k (bucketAt (drop (i + k) b) (left - total (take k (drop i b)))))
-
 -- past the last bucket nothing is left to walk
 pub at-end : (b : List ℕ) (i left : ℕ) → length b ≤ i → i + bucketAt (drop i b) left ≡ i
 unfolding bucketAt
 at-end b i left h = ap (λ (x : List ℕ). i + bucketAt x left) (drop-of-length-le b h) ∙ add-zero i
 
--- one bucket more in the sum of a block, and it stays below the sum of all
-pub block-next : (b : List ℕ) (from j : ℕ) → j < 64 → from + 64 ≤ length b → total (take (j + 1) (drop from b)) ≡ total (take j (drop from b)) + getD b (from + j) 0
-block-next b from j l h =
-    total-next j (drop from b) (omega (arith, length-drop from b)) ∙ ap (λ (x : ℕ). total (take j (drop from b)) + x) (getD-drop from b j 0)
+-- what is left of the rank, by the same steps
+pub left-first : (n : ℕ) (ns : List ℕ) (r : ℕ) → r < n → leftAt (n ∷ ns) r ≡ r
+unfolding leftAt
+left-first n ns r h = ap (λ (t : Bool). either t r (leftAt ns (r - n))) (lt-ltb r n h)
 
-pub block-fits : (b : List ℕ) (from j : ℕ) → j < 64 → from + 64 ≤ length b → total (take j (drop from b)) + getD b (from + j) 0 ≤ total b
-block-fits b from j l h =
-    le-trans (le-of-eq (sym (block-next b from j l h))) (le-trans (total-take-le (j + 1) (drop from b)) (total-drop-le from b))
+pub left-later : (n : ℕ) (ns : List ℕ) (r : ℕ) → n ≤ r → leftAt (n ∷ ns) r ≡ leftAt ns (r - n)
+unfolding leftAt
+left-later n ns r h = ap (λ (t : Bool). either t r (leftAt ns (r - n))) (le-ltb r n h)
+
+pub left-here : (b : List ℕ) (i left : ℕ) → i < length b → left < getD b i 0 → leftAt (drop i b) left ≡ left
+left-here b i left h l = ap (λ (x : List ℕ). leftAt x left) (drop-cons b i 0 h) ∙ left-first (getD b i 0) (drop (suc i) b) left l
+
+pub left-next : (b : List ℕ) (i left : ℕ) → i < length b → getD b i 0 ≤ left → leftAt (drop i b) left ≡ leftAt (drop (i + 1) b) (left - getD b i 0)
+left-next b i left h l =
+    ap (λ (x : List ℕ). leftAt x left) (drop-cons b i 0 h) ∙ left-later (getD b i 0) (drop (suc i) b) left l
+    ∙ ap (λ (x : ℕ). leftAt (drop x b) (left - getD b i 0)) (sym (add-one i))
+
+pub left-end : (b : List ℕ) (i left : ℕ) → length b ≤ i → leftAt (drop i b) left ≡ left
+unfolding leftAt
+left-end b i left h = ap (λ (x : List ℕ). leftAt x left) (drop-of-length-le b h)
 
 -- one more bucket cleared
 pub cleared-next : (b : List ℕ) (i : ℕ) → i < length b → set (replicate i 0 ++ drop i b) i 0 ≡ replicate (i + 1) 0 ++ drop (i + 1) b

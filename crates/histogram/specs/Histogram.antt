@@ -1,4 +1,4 @@
--- A histogram: a list of counts, one for each bucket. Assumes nothing.
+-- A histogram: a list of counts, one for each bucket, or one for each block of buckets. Assumes nothing.
 use mathlib.Core.Bool.{Bool, true, false}
 use mathlib.Core.List.{List, [], _∷_}
 use Prim.Native.Nat.{ℕ, _+_, _-_}
@@ -19,6 +19,11 @@ either false a b = b
 unfoldable pub bucketAt : List ℕ → ℕ → ℕ
 bucketAt [] r = 0
 bucketAt (n ∷ ns) r = either (ltb r n) 0 (1 + bucketAt ns (r - n))
+
+-- what is left of a rank in its bucket: the rank less what the buckets before it have
+unfoldable pub leftAt : List ℕ → ℕ → ℕ
+leftAt [] r = r
+leftAt (n ∷ ns) r = either (ltb r n) r (leftAt ns (r - n))
 
 -- one sample more in a bucket
 abbrev pub bumped : List ℕ → ℕ → List ℕ

@@ -1,12 +1,10 @@
-// The bucket part of a quantile room: what `Storage::Histogram` of src/stats/quantiles.rs is. The walk of `percentiles` goes by the
-// sums of 64 buckets, which the compiler turns into vector code, and bucket by bucket only inside the block that has the rank.
+// Counts in a row: the buckets of a quantile room, which are what `Storage::Histogram` of src/stats/quantiles.rs is, those of one block, or
+// the totals of all blocks.
 ghost use mathlib.Core.Path.{_≡_};
-ghost use Prim.Native.Nat.{_+_, _<_, _≤_, _^_};
-ghost use lib.ListN.{length, getD, take, drop, replicate};
+ghost use Prim.Native.Nat.{_≤_};
+ghost use lib.ListN.{length, replicate};
 ghost use lib.Dec.{eqb};
-ghost use Rattle.histogram.specs.Histogram.{total, bucketAt, bumped};
-
-const BLOCK: usize = 64;
+ghost use Rattle.histogram.specs.Histogram.{total, bucketAt, leftAt};
 
 // Every bucket 0.
 pub fn clear(buckets: &mut [u64])
@@ -17,15 +15,6 @@ pub fn clear(buckets: &mut [u64])
         buckets[i] = 0;
         i += 1;
     }
-}
-
-// One sample more in a bucket.
-pub fn bump(buckets: &mut [u64], place: usize)
-    requires { ⌜ (place < length (now buckets)) × (getD (now buckets) place 0 + 1 < 2 ^ 64) ⌝ }
-    ensures { λ r. ⌜ now (buckets .exit) ≡ bumped (now (buckets .entry)) place ⌝ }
-{
-    let n = buckets[place];
-    buckets[place] = n + 1;
 }
 
 // Whether the buckets have `count` samples, all together. Halves of 32 bits are summed, so that nothing wraps: a sum that
@@ -46,52 +35,25 @@ pub fn total_is(buckets: &[u64], count: u64) -> bool
     (carried == count / 4294967296) & (low % 4294967296 == count % 4294967296)
 }
 
-// How many samples the 64 buckets from `from` on have.
-fn block_total(buckets: &[u64], from: usize) -> u64
-    requires { ⌜ (from + 64 ≤ length (now buckets)) × (total (now buckets) < 2 ^ 64) ⌝ }
-    ensures { λ r. ⌜ r ≡ total (take 64 (drop from (now (buckets .entry)))) ⌝ }
-{
-    let mut sum: u64 = 0;
-    let mut j = 0;
-    while j < BLOCK {
-        sum += buckets[from + j];
-        j += 1;
-    }
-    sum
+// The bucket of a rank, and what is left of the rank in it.
+pub struct Found {
+    pub place: usize,
+    pub left: u64,
 }
 
-// The bucket of a rank among those from `from` on.
-fn walk(buckets: &[u64], from: usize, rank: u64) -> usize
-    requires { ⌜ from ≤ length (now buckets) ⌝ }
-    ensures { λ r. ⌜ r ≡ from + bucketAt (drop from (now (buckets .entry))) rank ⌝ }
+// The bucket of a rank among these; or their number where they have too few.
+pub fn find(buckets: &[u64], rank: u64) -> Found
+    ensures { λ r. ⌜ (r .place ≡ bucketAt (now (buckets .entry)) rank) × (r .left ≡ leftAt (now (buckets .entry)) rank) ⌝ }
 {
     let mut left = rank;
-    let mut i = from;
+    let mut i = 0;
     while i < buckets.len() {
         let here = buckets[i];
         if left < here {
-            return i;
+            return Found { place: i, left };
         }
         left -= here;
         i += 1;
     }
-    i
-}
-
-// The bucket of a rank.
-pub fn bucket_at(buckets: &[u64], rank: u64) -> usize
-    requires { ⌜ total (now buckets) < 2 ^ 64 ⌝ }
-    ensures { λ r. ⌜ r ≡ bucketAt (now (buckets .entry)) rank ⌝ }
-{
-    let mut left = rank;
-    let mut i = 0;
-    while buckets.len() - i >= BLOCK {
-        let n = block_total(buckets, i);
-        if left < n {
-            return walk(buckets, i, left);
-        }
-        left -= n;
-        i += BLOCK;
-    }
-    walk(buckets, i, left)
+    Found { place: i, left }
 }

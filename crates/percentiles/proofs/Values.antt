@@ -15,9 +15,8 @@ use Rattle.exact_rank.specs.Rank.{atRank}
 use Rattle.buckets.specs.Buckets.{pick}
 use Rattle.buckets.specs.Signed.{bucketCount, order, valueOf}
 use Rattle.buckets.proofs.SignedFacts.{pick-below, pick-above}
-use Rattle.histogram.specs.Histogram.{total, bucketAt}
 use Rattle.quantiles.specs.declared.Quantiles.{Quantiles}
-use Rattle.percentiles.specs.Percentiles.{spoilt, clamped, histogramValue, valueAt, percentile}
+use Rattle.percentiles.specs.Percentiles.{bucketOf, clamped, histogramValue, valueAt, percentile}
 
 module _ (s : Bool) (x low high : ℕ) where
   pub clamp-low : order s x < order s low → low ≡ clamped s x low high
@@ -36,7 +35,7 @@ module _ (s : Bool) (x low high : ℕ) where
 
 -- a histogram's value by whether the rank is the first, or the last
 by-rank : Quantiles → List ℕ → ℕ → Bool → Bool → ℕ
-by-rank q room r first last = pick first (q .min) (pick last (q .max) (clamped (q .signed) (valueOf (q .signed) (bucketAt (drop 4096 room) r)) (q .min) (q .max)))
+by-rank q room r first last = pick first (q .min) (pick last (q .max) (clamped (q .signed) (valueOf (q .signed) (bucketOf q room r)) (q .min) (q .max)))
 
 by-rank-is : (q : Quantiles) (room : List ℕ) (r : ℕ) (first last : Bool) → eqb r 0 ≡ first → eqb r (q .count - 1) ≡ last → by-rank q room r first last ≡ histogramValue q room r
 unfolding histogramValue by-rank
@@ -51,7 +50,7 @@ module _ (q : Quantiles) (room : List ℕ) (r : ℕ) where
   unfolding by-rank
   shows-max n e = by-rank-is q room r false true (ne-eqb r 0 n) (eq-eqb r (q .count - 1) e)
 
-  pub shows-bucket : (r ≡ 0 → ⊥) → (r ≡ q .count - 1 → ⊥) → clamped (q .signed) (valueOf (q .signed) (bucketAt (drop 4096 room) r)) (q .min) (q .max) ≡ histogramValue q room r
+  pub shows-bucket : (r ≡ 0 → ⊥) → (r ≡ q .count - 1 → ⊥) → clamped (q .signed) (valueOf (q .signed) (bucketOf q room r)) (q .min) (q .max) ≡ histogramValue q room r
   unfolding by-rank
   shows-bucket n m = by-rank-is q room r false false (ne-eqb r 0 n) (ne-eqb r (q .count - 1) m)
 
@@ -86,44 +85,3 @@ pub shown-all : (f : Float → ℕ) (ps : List Float) (shown₀ : List ℕ) (i :
 shown-all f ps shown₀ i h l =
     ap (λ (s : List ℕ). map f (take i ps) ++ s) (drop-of-length-le shown₀ (subst (λ (n : ℕ). n ≤ i) (sym l) h)) ∙ append-nil (map f (take i ps))
     ∙ ap (map f) (take-all i ps h)
-
--- a histogram that is spoilt, by its tests
-or-false : (b : Bool) → b ≡ b || false
-or-false true = refl
-or-false false = refl
-
-spoilt-by : Quantiles → List ℕ → Bool → Bool → Bool
-spoilt-by q room t s = not t || (s && not (eqb (getD (drop 4096 room) 14592 0) 0))
-
-spoilt-is : (q : Quantiles) (room : List ℕ) (t s : Bool) → t ≡ eqb (total (drop 4096 room)) (q .count) → q .signed ≡ s → spoilt-by q room t s ≡ spoilt q room
-unfolding spoilt spoilt-by
-spoilt-is q room t s e f = ap (λ (b : Bool). spoilt-by q room b s) e ∙ ap (spoilt-by q room (eqb (total (drop 4096 room)) (q .count))) (sym f)
-
-pub spoilt-signed : (q : Quantiles) (room : List ℕ) (t : Bool) → q .signed ≡ true → t ≡ eqb (total (drop 4096 room)) (q .count) → not t || not (eqb (getD room 18688 0) 0) ≡ spoilt q room
-unfolding spoilt-by
-spoilt-signed q room t s e = ap (λ (x : ℕ). not t || not (eqb x 0)) (sym (getD-drop 4096 room 14592 0)) ∙ spoilt-is q room t true e s
-
-pub spoilt-unsigned : (q : Quantiles) (room : List ℕ) (t : Bool) → q .signed ≡ false → t ≡ eqb (total (drop 4096 room)) (q .count) → not t ≡ spoilt q room
-unfolding spoilt-by
-spoilt-unsigned q room t s e = or-false (not t) ∙ spoilt-is q room t false e s
-
--- the bucket sum of one that is not spoilt is the count
-pub unspoilt-total : (q : Quantiles) (room : List ℕ) → spoilt q room ≡ false → total (drop 4096 room) ≡ q .count
-unfolding spoilt
-unspoilt-total q room e = eqb-true (total (drop 4096 room)) (q .count) (sound (eqb (total (drop 4096 room)) (q .count)) (q .signed && not (eqb (getD (drop 4096 room) 14592 0) 0)) e)
-  where
-    sound : (a b : Bool) → not a || b ≡ false → a ≡ true
-    sound true b e = refl
-    sound false b e = sym e
-
--- a signed room has bucket 14,592
-pub signed-length : (s : Bool) (n : ℕ) → s ≡ true → n ≡ 4096 + bucketCount s → 18688 < n
-signed-length s n e h = above n (subst (λ (b : Bool). n ≡ 4096 + bucketCount b) e h)
-  where
-    above : (n : ℕ) → n ≡ 18689 → 18688 < n
-    above n h = omega arith
-
--- and neither kind has too many
-pub few-buckets : (s : Bool) → bucketCount s ≤ 65536
-few-buckets true = omega arith
-few-buckets false = omega arith

@@ -1,2 +1,3 @@
 pub mod Percentiles
 pub mod Fours
+pub mod Blocks

@@ -1,19 +1,19 @@
 -- `percentiles`: what a call answers and shows, for every state, room, list of percentiles and lent answer. Assumes nothing.
 use mathlib.Core.Bool.{Bool, true, false, not, _&&_, _||_}
 use mathlib.Core.List.{List, [], _∷_, map}
-use Prim.Native.Nat.{ℕ, _+_, _-_}
+use Prim.Native.Nat.{ℕ, _+_, _-_, _*_}
 use lib.Dec.{ltb, leb, eqb}
 use lib.Ieee.{Float}
-use lib.ListN.{length, getD, take}
+use lib.ListN.{length, getD, take, drop}
 use Rattle.scope.specs.Limits.{capacity}
 use Rattle.scope.specs.Refusals.{wrongRoom}
 use Rattle.rank.specs.Rank.{rankOf}
 use Rattle.exact_rank.specs.Rank.{atRank}
 use Rattle.buckets.specs.Buckets.{pick}
 use Rattle.buckets.specs.Signed.{order, valueOf}
-use Rattle.histogram.specs.Histogram.{total, bucketAt}
+use Rattle.histogram.specs.Histogram.{total, bucketAt, leftAt}
 use Rattle.quantiles.specs.declared.Quantiles.{Quantiles}
-use Rattle.quantiles.specs.State.{buckets, sized, crossed}
+use Rattle.quantiles.specs.State.{buckets, totals, sized, crossed}
 use Rattle.percentiles.specs.declared.Showing.{Showing}
 use Rattle.percentiles.specs.declared.Showing.the-variants.{Refused, Empty, Shown}
 
@@ -29,15 +29,38 @@ outcome Refused shown = record { number = wrongRoom; values = false; shown = sho
 outcome Empty shown = record { number = 0; values = false; shown = shown }
 outcome Shown shown = record { number = 0; values = true; shown = shown }
 
--- a histogram that no `record` leaves: the bucket sum is not the count, or the signed bucket 14,592 is not zero
-unfoldable pub spoilt : Quantiles → List ℕ → Bool
-spoilt q room = not (eqb (total (buckets room)) (q .count)) || (q .signed && not (eqb (getD (buckets room) 14592 0) 0))
+-- the block that holds a rank: the first with which the totals, added up, pass the rank
+abbrev pub blockAt : Quantiles → List ℕ → ℕ → ℕ
+blockAt q room r = bucketAt (totals (q .signed) room) r
+
+-- the buckets of a block: 128, or what is left
+abbrev pub block : Bool → List ℕ → ℕ → List ℕ
+block s room k = take 128 (drop (128 * k) (buckets s room))
+
+-- a block that no `record` leaves: its buckets do not add up to its total, or the signed bucket 14,592 is in it and not zero
+unfoldable pub lies : Bool → List ℕ → ℕ → Bool
+lies s room k = not (eqb (total (block s room k)) (getD (totals s room) k 0)) || ((s && eqb k 114) && not (eqb (getD (buckets s room) 14592 0) 0))
+
+-- the block of a percentile's rank is such a one, whatever the rank
+unfoldable pub anyLies : Quantiles → List ℕ → List Float → Bool
+unfolding lies
+anyLies q room [] = false
+anyLies q room (p ∷ ps) = lies (q .signed) room (blockAt q room (rankOf p (q .count))) || anyLies q room ps
+
+-- a histogram that no `record` leaves, so far as it is read: the totals do not add up to the count, or a block that is read lies
+unfoldable pub spoilt : Quantiles → List ℕ → List Float → Bool
+unfolding anyLies
+spoilt q room ps = not (eqb (total (totals (q .signed) room)) (q .count)) || anyLies q room ps
 
 -- refusal 5 of `percentiles`; a lent answer has a word for each percentile
 unfoldable pub refuses : Quantiles → List ℕ → List Float → List ℕ → Bool
 unfolding spoilt
 refuses q room ps shown =
-    not (sized (q .signed) room) || (not (eqb (length shown) (length ps)) || (crossed q || (ltb capacity (q .count) && spoilt q room)))
+    not (sized (q .signed) room) || (not (eqb (length shown) (length ps)) || (crossed q || (ltb capacity (q .count) && spoilt q room ps)))
+
+-- the bucket of a rank: its block by the totals, then the bucket by those of the block
+abbrev pub bucketOf : Quantiles → List ℕ → ℕ → ℕ
+bucketOf q room r = 128 * blockAt q room r + bucketAt (block (q .signed) room (blockAt q room r)) (leftAt (totals (q .signed) room) r)
 
 -- a word put between two others, in the order of the values
 unfoldable pub clamped : Bool → ℕ → ℕ → ℕ → ℕ
@@ -47,7 +70,7 @@ clamped s x low high = pick (ltb (order s x) (order s low)) low (pick (ltb (orde
 unfoldable pub histogramValue : Quantiles → List ℕ → ℕ → ℕ
 unfolding clamped
 histogramValue q room r =
-    pick (eqb r 0) (q .min) (pick (eqb r (q .count - 1)) (q .max) (clamped (q .signed) (valueOf (q .signed) (bucketAt (buckets room) r)) (q .min) (q .max)))
+    pick (eqb r 0) (q .min) (pick (eqb r (q .count - 1)) (q .max) (clamped (q .signed) (valueOf (q .signed) (bucketOf q room r)) (q .min) (q .max)))
 
 -- the value of a rank: up to 4,096 the sample of that rank in sorted order
 unfoldable pub valueAt : Quantiles → List ℕ → ℕ → ℕ

@@ -3,13 +3,16 @@ ghost use mathlib.Core.Path.{_≡_};
 ghost use mathlib.Core.Bool.{false};
 ghost use mathlib.Core.List.{map};
 ghost use Prim.Native.Nat.{_+_, _<_, _≤_};
-ghost use lib.ListN.{length, drop};
+ghost use lib.Dec.{eqb};
+ghost use lib.ListN.{length};
 ghost use Rattle.buckets.specs.Signed.{bucketCount, order};
 ghost use Rattle.exact_rank.specs.Rank.{atRanks, Ranks};
-ghost use Rattle.histogram.specs.Histogram.{total};
-ghost use Rattle.quantiles.specs.State.{crossed};
-ghost use Rattle.percentiles.specs.Percentiles.{outcome, spoilt, clamped, histogramValue, percentile, percentilesOf};
+ghost use Rattle.histogram.specs.Histogram.{total, bucketAt, leftAt};
+ghost use Rattle.quantiles.specs.State.{blockCount, roomSize, totals, crossed};
+ghost use Rattle.percentiles.specs.Percentiles.{outcome, blockAt, lies, anyLies, spoilt, bucketOf, clamped, histogramValue, percentile, percentilesOf};
+ghost use Rattle.percentiles.specs.Blocks.{blockEnd};
 ghost use Rattle.percentiles.specs.Fours.{orLast, rankAt, fourRanks, putFour};
+use histogram::Found;
 use quantiles::Quantiles;
 
 // The answer of `percentiles`: refusal 5; no samples, so no values; or the values, in the lent answer.
@@ -19,16 +22,76 @@ pub enum Showing {
     Shown,
 }
 
-// Whether a histogram is one that no `record` leaves.
-fn is_spoilt(q: Quantiles, room: &[u64]) -> bool
-    requires { ⌜ length (now room) ≡ 4096 + bucketCount (q .signed) ⌝ }
-    ensures { λ r. ⌜ r ≡ spoilt q (now (room .entry)) ⌝ }
+// Whether the totals add up to the count.
+fn totals_are(q: Quantiles, room: &[u64]) -> bool
+    requires { ⌜ length (now room) ≡ roomSize (q .signed) ⌝ }
+    ensures { λ r. ⌜ r ≡ eqb (total (totals (q .signed) (now (room .entry)))) (q .count) ⌝ }
 {
-    let counted = histogram::total_is(&room[scope::CAPACITY..], q.count);
-    if q.signed {
-        return !counted | (room[18688] != 0);
+    let start = quantiles::totals_start(q.signed);
+    histogram::total_is(&room[start..], q.count)
+}
+
+// The block that holds a rank.
+fn held(signed: bool, room: &[u64], rank: u64) -> Found
+    requires { ⌜ length (now room) ≡ roomSize signed ⌝ }
+    ensures { λ r. ⌜ (r .place ≡ bucketAt (totals signed (now (room .entry))) rank) × (r .left ≡ leftAt (totals signed (now (room .entry))) rank) ⌝ }
+{
+    let start = quantiles::totals_start(signed);
+    histogram::find(&room[start..], rank)
+}
+
+// The word behind a block that begins at a word: 128 on, or where the buckets end.
+fn block_end(signed: bool, from: usize) -> usize
+    requires { ⌜ from < 4096 + bucketCount signed ⌝ }
+    ensures { λ r. ⌜ (r ≡ blockEnd signed from) × (from < r) × (r ≤ 4096 + bucketCount signed) ⌝ }
+{
+    let start = quantiles::totals_start(signed);
+    if from + 128 < start {
+        from + 128
+    } else {
+        start
     }
-    !counted
+}
+
+// Whether a block is one that no `record` leaves.
+fn block_lies(signed: bool, room: &[u64], k: usize) -> bool
+    requires { ⌜ (length (now room) ≡ roomSize signed) × (k < blockCount signed) ⌝ }
+    ensures { λ r. ⌜ r ≡ lies signed (now (room .entry)) k ⌝ }
+{
+    let from = 4096 + 128 * k;
+    let end = block_end(signed, from);
+    let at = quantiles::totals_start(signed) + k;
+    let whole = histogram::total_is(&room[from..end], room[at]);
+    if signed & (k == 114) {
+        return !whole | (room[18688] != 0);
+    }
+    !whole
+}
+
+// Whether the block that holds a rank is.
+fn rank_lies(q: Quantiles, room: &[u64], rank: u64) -> bool
+    requires { ⌜ (length (now room) ≡ roomSize (q .signed)) × (total (totals (q .signed) (now room)) ≡ q .count) × (rank < q .count) ⌝ }
+    ensures { λ r. ⌜ r ≡ lies (q .signed) (now (room .entry)) (blockAt q (now (room .entry)) rank) ⌝ }
+{
+    let found = held(q.signed, room, rank);
+    block_lies(q.signed, room, found.place)
+}
+
+// Whether that of one of the percentiles is.
+fn any_lies(q: Quantiles, room: &[u64], ps: &[f64]) -> bool
+    requires { ⌜ (length (now room) ≡ roomSize (q .signed)) × (total (totals (q .signed) (now room)) ≡ q .count) × (4096 < q .count) ⌝ }
+    ensures { λ r. ⌜ r ≡ anyLies q (now (room .entry)) (now (ps .entry)) ⌝ }
+{
+    let mut i = 0;
+    while i < ps.len() {
+        let p = ps[i];
+        let rank = rank::rank(p, q.count);
+        if rank_lies(q, room, rank) {
+            return true;
+        }
+        i += 1;
+    }
+    false
 }
 
 // `clamp`, in the order of the values.
@@ -45,9 +108,21 @@ fn clamp(signed: bool, word: u64, low: u64, high: u64) -> u64
     word
 }
 
+// The bucket of a rank whose block does not lie.
+fn place_of(q: Quantiles, room: &[u64], rank: u64) -> usize
+    requires { ⌜ (length (now room) ≡ roomSize (q .signed)) × (total (totals (q .signed) (now room)) ≡ q .count) × (rank < q .count) × (lies (q .signed) (now room) (blockAt q (now room) rank) ≡ false) ⌝ }
+    ensures { λ r. ⌜ (r ≡ bucketOf q (now (room .entry)) rank) × (r < bucketCount (q .signed)) ⌝ }
+{
+    let found = held(q.signed, room, rank);
+    let from = 4096 + 128 * found.place;
+    let end = block_end(q.signed, from);
+    let inner = histogram::find(&room[from..end], found.left);
+    128 * found.place + inner.place
+}
+
 // The value that a histogram shows for a rank.
 fn histogram_value(q: Quantiles, room: &[u64], rank: u64) -> u64
-    requires { ⌜ (length (now room) ≡ 4096 + bucketCount (q .signed)) × (total (drop 4096 (now room)) ≡ q .count) × (rank < q .count) ⌝ }
+    requires { ⌜ (length (now room) ≡ roomSize (q .signed)) × (total (totals (q .signed) (now room)) ≡ q .count) × (rank < q .count) × (lies (q .signed) (now room) (blockAt q (now room) rank) ≡ false) ⌝ }
     ensures { λ r. ⌜ r ≡ histogramValue q (now (room .entry)) rank ⌝ }
 {
     if rank == 0 {
@@ -56,7 +131,7 @@ fn histogram_value(q: Quantiles, room: &[u64], rank: u64) -> u64
     if rank == q.count - 1 {
         return q.max;
     }
-    let place = histogram::bucket_at(&room[scope::CAPACITY..], rank);
+    let place = place_of(q, room, rank);
     clamp(q.signed, buckets::shown_by(q.signed, place), q.min, q.max)
 }
 
@@ -132,9 +207,9 @@ fn show_exact(q: Quantiles, room: &[u64], ps: &[f64], shown: &mut [u64])
     }
 }
 
-// The percentiles of buckets that hold the count.
+// The percentiles of totals that hold the count, and of blocks that do not lie.
 fn show_buckets(q: Quantiles, room: &[u64], ps: &[f64], shown: &mut [u64])
-    requires { ⌜ (length (now room) ≡ 4096 + bucketCount (q .signed)) × (4096 < q .count) × (total (drop 4096 (now room)) ≡ q .count) × (length (now shown) ≡ length (now ps)) ⌝ }
+    requires { ⌜ (length (now room) ≡ roomSize (q .signed)) × (4096 < q .count) × (spoilt q (now room) (now ps) ≡ false) × (length (now shown) ≡ length (now ps)) ⌝ }
     ensures { λ r. ⌜ now (shown .exit) ≡ map (percentile q (now (room .entry))) (now (ps .entry)) ⌝ }
 {
     let mut i = 0;
@@ -148,10 +223,13 @@ fn show_buckets(q: Quantiles, room: &[u64], ps: &[f64], shown: &mut [u64])
 
 // The percentiles of a histogram.
 fn show_histogram(q: Quantiles, room: &[u64], ps: &[f64], shown: &mut [u64]) -> Showing
-    requires { ⌜ (length (now room) ≡ 4096 + bucketCount (q .signed)) × (length (now shown) ≡ length (now ps)) × (crossed q ≡ false) × (4096 < q .count) ⌝ }
+    requires { ⌜ (length (now room) ≡ roomSize (q .signed)) × (length (now shown) ≡ length (now ps)) × (crossed q ≡ false) × (4096 < q .count) ⌝ }
     ensures { λ r. ⌜ outcome r (now (shown .exit)) ≡ percentilesOf q (now (room .entry)) (now (ps .entry)) (now (shown .entry)) ⌝ }
 {
-    if is_spoilt(q, room) {
+    if !totals_are(q, room) {
+        return Showing::Refused;
+    }
+    if any_lies(q, room, ps) {
         return Showing::Refused;
     }
     show_buckets(q, room, ps, shown);

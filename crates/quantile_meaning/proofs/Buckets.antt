@@ -20,8 +20,7 @@ use Rattle.exact_rank.proofs.Counting.{one-below, none-below}
 use Rattle.exact_rank.proofs.Sorting.{sorted-is-counted}
 use Rattle.histogram.specs.Histogram.{total, bucketAt, bumped}
 use Rattle.histogram.proofs.Sums.{total-next, at-past, at-first}
-use Rattle.quantiles.specs.Record.{tally, filled}
-use Rattle.quantiles.proofs.Tally.{tally-length}
+use Rattle.quantiles.specs.Record.{tally, filled, filledBuckets}
 use Rattle.quantile_meaning.specs.Words.{Words, none, more}
 
 -- one sample more in a bucket is one more below every later bucket
@@ -37,14 +36,14 @@ bumped-total (n ∷ ns) (suc j) (suc i) h =
     ap (λ (x : ℕ). n + x) (bumped-total ns j i (le-of-suc-le-suc h)) ∙ sym (add-assoc n (total (take i ns)) (oneIf (ltb j i)))
     ∙ ap (λ (t : Bool). n + total (take i ns) + oneIf t) (sym (leb·suc-suc (suc j) i))
 
--- the first i buckets have the samples whose index is below i
-tally-total : (s : Bool) (vs b : List ℕ) (i : ℕ) → Words vs → length b ≡ bucketCount s → total (take i (tally s vs b)) ≡ total (take i b) + below (indexOf s) i vs
+-- the first i counts have the samples whose place is below i
+tally-total : (place : ℕ → ℕ) (n : ℕ) (vs b : List ℕ) (i : ℕ) → ((v : ℕ) → v < 2 ^ 64 → place v < n) → Words vs → length b ≡ n → total (take i (tally place vs b)) ≡ total (take i b) + below place i vs
 unfolding tally below
-tally-total s [] b i w l = sym (add-zero (total (take i b)))
-tally-total s (v ∷ vs) b i (more h w) l =
-    tally-total s vs (bumped b (indexOf s v)) i w (length-set b (indexOf s v) (getD b (indexOf s v) 0 + 1) ∙ l)
-    ∙ ap (λ (x : ℕ). x + below (indexOf s) i vs) (bumped-total b (indexOf s v) i (subst (λ (n : ℕ). indexOf s v < n) (sym l) (index-of-below s v h)))
-    ∙ add-assoc (total (take i b)) (oneIf (ltb (indexOf s v) i)) (below (indexOf s) i vs)
+tally-total place n [] b i inside w l = sym (add-zero (total (take i b)))
+tally-total place n (v ∷ vs) b i inside (more h w) l =
+    tally-total place n vs (bumped b (place v)) i inside w (length-set b (place v) (getD b (place v) 0 + 1) ∙ l)
+    ∙ ap (λ (x : ℕ). x + below place i vs) (bumped-total b (place v) i (subst (λ (m : ℕ). place v < m) (sym l) (inside v h)))
+    ∙ add-assoc (total (take i b)) (oneIf (ltb (place v) i)) (below place i vs)
 
 zeros-total : (n i : ℕ) → total (take i (replicate n 0)) ≡ 0
 unfolding total
@@ -53,17 +52,18 @@ zeros-total zero (suc i) = refl
 zeros-total (suc n) zero = refl
 zeros-total (suc n) (suc i) = zero-add (total (take i (replicate n 0))) ∙ zeros-total n i
 
-pub filled-total : (s : Bool) (vs : List ℕ) (i : ℕ) → Words vs → total (take i (filled s vs)) ≡ below (indexOf s) i vs
+pub filled-total : (place : ℕ → ℕ) (n : ℕ) (vs : List ℕ) (i : ℕ) → ((v : ℕ) → v < 2 ^ 64 → place v < n) → Words vs → total (take i (filled place n vs)) ≡ below place i vs
 unfolding filled
-filled-total s vs i w =
-    tally-total s vs (replicate (bucketCount s) 0) i w (length-replicate (bucketCount s) 0)
-    ∙ ap (λ (x : ℕ). x + below (indexOf s) i vs) (zeros-total (bucketCount s) i) ∙ none (below (indexOf s) i vs)
-  where
-    none : (x : ℕ) → 0 + x ≡ x
-    none x = omega arith
+filled-total place n vs i inside w =
+    tally-total place n vs (replicate n 0) i inside w (length-replicate n 0)
+    ∙ ap (λ (x : ℕ). x + below place i vs) (zeros-total n i) ∙ zero-add (below place i vs)
+
+-- the first i buckets have the samples whose index is below i
+buckets-total : (s : Bool) (vs : List ℕ) (i : ℕ) → Words vs → total (take i (filledBuckets s vs)) ≡ below (indexOf s) i vs
+buckets-total s vs i w = filled-total (indexOf s) (bucketCount s) vs i (index-of-below s) w
 
 -- what has a lower key has no higher count: one test for each sample
-below-by : (f g : ℕ → ℕ) (i k : ℕ) (vs : List ℕ) → Words vs → ((v : ℕ) → v < 2 ^ 64 → f v < i → g v < k) → below f i vs ≤ below g k vs
+pub below-by : (f g : ℕ → ℕ) (i k : ℕ) (vs : List ℕ) → Words vs → ((v : ℕ) → v < 2 ^ 64 → f v < i → g v < k) → below f i vs ≤ below g k vs
 unfolding below
 below-by f g i k [] w h = le-refl 0
 below-by f g i k (v ∷ vs) (more b w) h = sum (oneIf (ltb (f v) i)) (oneIf (ltb (g v) k)) (below f i vs) (below g k vs) (⊎-elim yes no (lt-or-ge (f v) i)) (below-by f g i k vs w h)
@@ -91,11 +91,11 @@ bucket-by-sums b r i h l u =
     rest t u' n e = omega (arith, total-next i b h)
 
 -- every sample of a sorted list of words is a word: it is looked up among them
-pub bucket-of-rank : (s : Bool) (vs : List ℕ) (r x : ℕ) → Words vs → x < 2 ^ 64 → length (filled s vs) ≡ bucketCount s → KeyOfRank (order s) vs r (order s x) → bucketAt (filled s vs) r ≡ indexOf s x
+pub bucket-of-rank : (s : Bool) (vs : List ℕ) (r x : ℕ) → Words vs → x < 2 ^ 64 → length (filledBuckets s vs) ≡ bucketCount s → KeyOfRank (order s) vs r (order s x) → bucketAt (filledBuckets s vs) r ≡ indexOf s x
 bucket-of-rank s vs r x w h n k =
-    bucket-by-sums (filled s vs) r (indexOf s x) (subst (λ (m : ℕ). indexOf s x < m) (sym n) (index-of-below s x h))
-    (le-trans (le-of-eq (filled-total s vs (indexOf s x) w)) (le-trans (below-by (indexOf s) (order s) (indexOf s x) (order s x) vs w lower) (k .fewBelow)))
-    (lt-of-lt-of-le (k .enoughThrough) (le-trans (below-by (order s) (indexOf s) (order s x + 1) (indexOf s x + 1) vs w upper) (le-of-eq (sym (filled-total s vs (indexOf s x + 1) w)))))
+    bucket-by-sums (filledBuckets s vs) r (indexOf s x) (subst (λ (m : ℕ). indexOf s x < m) (sym n) (index-of-below s x h))
+    (le-trans (le-of-eq (buckets-total s vs (indexOf s x) w)) (le-trans (below-by (indexOf s) (order s) (indexOf s x) (order s x) vs w lower) (k .fewBelow)))
+    (lt-of-lt-of-le (k .enoughThrough) (le-trans (below-by (order s) (indexOf s) (order s x + 1) (indexOf s x + 1) vs w upper) (le-of-eq (sym (buckets-total s vs (indexOf s x + 1) w)))))
   where
     lower : (v : ℕ) → v < 2 ^ 64 → indexOf s v < indexOf s x → order s v < order s x
     lower v b l = lt-of-not-le (λ (g : order s x ≤ order s v). not-le-of-lt l (index-of-monotone s x v h b g))
@@ -129,8 +129,3 @@ word-at (x ∷ xs) (suc i) (more h w) = word-at xs i w
 
 pub sorted-word : (key : ℕ → ℕ) (vs : List ℕ) (r : ℕ) → Words vs → getD (sorted key vs) r 0 < 2 ^ 64
 sorted-word key vs r w = word-at (sorted key vs) r (sorted-words key vs w)
-
--- the buckets are as many as they are
-pub filled-length : (s : Bool) (vs : List ℕ) → length (filled s vs) ≡ bucketCount s
-unfolding filled
-filled-length s vs = tally-length s vs (replicate (bucketCount s) 0) ∙ length-replicate (bucketCount s) 0

@@ -17,14 +17,13 @@ use Rattle.buckets.proofs.Facts.{lt-or-ge}
 use Rattle.buckets.proofs.SignedFacts.{pick-below, pick-above}
 use Rattle.histogram.specs.Histogram.{bumped}
 use Rattle.quantiles.specs.declared.Quantiles.{Quantiles}
-use Rattle.quantiles.specs.State.{crossed}
-use Rattle.quantiles.specs.Record.{Outcome, taken, tally, filled, grown, recorded}
-use Rattle.quantiles.proofs.Parts.{joined-samples, joined-buckets, joined-length}
-use Rattle.quantiles.proofs.Tally.{tally-snoc, tally-le, zeros}
-use Rattle.quantiles.proofs.Ways.{way-exact, way-first, way-later}
+use Rattle.quantiles.specs.State.{blockCount, roomSize, samples, buckets, totals, blockOf, crossed}
+use Rattle.quantiles.specs.Record.{Outcome, taken, filled, filledBuckets, filledTotals, counted, grown, recorded}
+use Rattle.quantiles.proofs.Parts.{three-buckets, three-totals, three-length, samples-length}
+use Rattle.quantiles.proofs.Tally.{parts-in, filled-snoc, filled-length, filled-le}
+use Rattle.quantiles.proofs.Ways.{first-room, later-room, way-exact, way-first, way-later}
 use Rattle.quantile_meaning.specs.Words.{Words, none, more}
 use Rattle.quantile_meaning.specs.Grown.{Kept, fresh, recordAll}
-use Rattle.quantile_meaning.proofs.Buckets.{filled-length}
 
 -- each sample lies between the minimum and the maximum
 pub data Around (s : Bool) (low high : ℕ) : List ℕ → Type 0 where
@@ -33,11 +32,12 @@ pub data Around (s : Bool) (low high : ℕ) : List ℕ → Type 0 where
 
 -- what a state and a room hold of the samples
 pub record Holds (vs : List ℕ) (q : Quantiles) (room : List ℕ) : Type 0 where
-  pub sized : length room ≡ 4096 + bucketCount (q .signed)
+  pub sized : length room ≡ roomSize (q .signed)
   pub count : q .count ≡ length vs
   pub around : Around (q .signed) (q .min) (q .max) vs
   pub exact : length vs ≤ 4096 → take (length vs) room ≡ vs
-  pub counted : 4096 < length vs → drop 4096 room ≡ filled (q .signed) vs
+  pub counted : 4096 < length vs → buckets (q .signed) room ≡ filledBuckets (q .signed) vs
+  pub totalled : 4096 < length vs → totals (q .signed) room ≡ filledTotals (q .signed) vs
 
 -- a wider range, and one sample more
 widened : (s : Bool) (low high low' high' : ℕ) (vs : List ℕ) → order s low' ≤ order s low → order s high ≤ order s high' → Around s low high vs → Around s low' high' vs
@@ -83,25 +83,13 @@ grown-around q v (x ∷ xs) e w =
     some n e = omega arith
 
 -- a state that holds samples has no minimum above its maximum
-not-crossed : (vs : List ℕ) (q : Quantiles) → q .count ≡ length vs → Around (q .signed) (q .min) (q .max) vs → crossed q ≡ false
+pub not-crossed : (vs : List ℕ) (q : Quantiles) → q .count ≡ length vs → Around (q .signed) (q .min) (q .max) vs → crossed q ≡ false
 not-crossed [] q e w = ap (λ (t : Bool). t && ltb (order (q .signed) (q .max)) (order (q .signed) (q .min))) (le-ltb 0 (q .count) (le-of-eq e))
 not-crossed (v ∷ vs) q e (around-more a b w) = ap (λ (t : Bool). ltb 0 (q .count) && t) (le-ltb (order (q .signed) (q .max)) (order (q .signed) (q .min)) (le-trans a b)) ∙ nothing (ltb 0 (q .count))
   where
     nothing : (t : Bool) → t && false ≡ false
     nothing true = refl
     nothing false = refl
-
-filled-snoc : (s : Bool) (vs : List ℕ) (v : ℕ) → filled s (vs ++ (v ∷ [])) ≡ bumped (filled s vs) (indexOf s v)
-unfolding filled
-filled-snoc s vs v = tally-snoc s vs v (replicate (bucketCount s) 0)
-
--- no bucket has more than there are samples
-filled-le : (s : Bool) (vs : List ℕ) (k : ℕ) → getD (filled s vs) k 0 ≤ length vs
-unfolding filled
-filled-le s vs k = plain (getD (tally s vs (replicate (bucketCount s) 0)) k 0) (getD (replicate (bucketCount s) 0) k 0) (tally-le s vs (replicate (bucketCount s) 0) k) (zeros (bucketCount s) k)
-  where
-    plain : (x z : ℕ) → x ≤ z + length vs → z ≡ 0 → x ≤ length vs
-    plain x z l e = omega arith
 
 snoc-length : (vs : List ℕ) (v : ℕ) → length (vs ++ (v ∷ [])) ≡ length vs + 1
 snoc-length vs v = length-append vs (v ∷ [])
@@ -137,6 +125,7 @@ step vs q room v small h = ⊎-elim exactly (λ g. ⊎-elim first later (eq-or-a
         around = grown-around q v vs (h .count) (h .around);
         exact = λ m. kept;
         counted = λ m. absurd (never (length vs) (length (vs ++ (v ∷ []))) (snoc-length vs v) l m);
+        totalled = λ m. absurd (never (length vs) (length (vs ++ (v ∷ []))) (snoc-length vs v) l m);
       },
     )
       where
@@ -150,40 +139,57 @@ step vs q room v small h = ⊎-elim exactly (λ g. ⊎-elim first later (eq-or-a
             ∙ take-suc-set room (length vs) v (omega (arith, within))
             ∙ ap (λ (x : List ℕ). x ++ (v ∷ [])) (h .exact (le-of-lt l))
 
-    late : (next : List ℕ) (b : List ℕ) → 4096 ≤ length vs → next ≡ take 4096 room ++ bumped b (indexOf (q .signed) v) → b ≡ filled (q .signed) vs → Holds (vs ++ (v ∷ [])) (grown q v) next
-    late next b g e f = record {
+    late : (next b t : List ℕ) → 4096 ≤ length vs → next ≡ counted (q .signed) (samples room) b t v → b ≡ filledBuckets (q .signed) vs → t ≡ filledTotals (q .signed) vs → Holds (vs ++ (v ∷ [])) (grown q v) next
+    late next b t g e f d = record {
       sized =
-          ap length e ∙ joined-length 4096 room (bumped b (indexOf (q .signed) v)) within
-          ∙ ap (λ (n : ℕ). 4096 + n) (bumped-length b (indexOf (q .signed) v) ∙ ap length f ∙ filled-length (q .signed) vs);
+          ap length e ∙ three-length 4096 (bucketCount (q .signed)) (take 4096 room) (bumped b (indexOf (q .signed) v)) (bumped t (blockOf (q .signed) v)) many wide
+          ∙ ap (λ (n : ℕ). 4096 + bucketCount (q .signed) + n) (bumped-length t (blockOf (q .signed) v) ∙ ap length d ∙ filled-length (blockOf (q .signed)) (blockCount (q .signed)) vs);
       count = counts;
       around = grown-around q v vs (h .count) (h .around);
       exact = λ m. absurd (never (length vs) (length (vs ++ (v ∷ []))) (snoc-length vs v) g m);
-      counted = λ m. ap (drop 4096) e ∙ joined-buckets 4096 room (bumped b (indexOf (q .signed) v)) within ∙ ap (λ (x : List ℕ). bumped x (indexOf (q .signed) v)) f ∙ sym (filled-snoc (q .signed) vs v);
+      counted =
+          λ m. ap (λ (l : List ℕ). take (bucketCount (q .signed)) (drop 4096 l)) e
+          ∙ three-buckets 4096 (bucketCount (q .signed)) (take 4096 room) (bumped b (indexOf (q .signed) v)) (bumped t (blockOf (q .signed) v)) many wide
+          ∙ ap (λ (x : List ℕ). bumped x (indexOf (q .signed) v)) f ∙ sym (filled-snoc (indexOf (q .signed)) (bucketCount (q .signed)) vs v);
+      totalled =
+          λ m. ap (drop (4096 + bucketCount (q .signed))) e
+          ∙ three-totals 4096 (bucketCount (q .signed)) (take 4096 room) (bumped b (indexOf (q .signed) v)) (bumped t (blockOf (q .signed) v)) many wide
+          ∙ ap (λ (x : List ℕ). bumped x (blockOf (q .signed) v)) d ∙ sym (filled-snoc (blockOf (q .signed)) (blockCount (q .signed)) vs v);
     }
       where
         never : (n m : ℕ) → m ≡ n + 1 → 4096 ≤ n → m ≤ 4096 → ⊥
         never n m e a b = omega arith
 
+        many : length (take 4096 room) ≡ 4096
+        many = samples-length 4096 (bucketCount (q .signed)) room (parts-in (q .signed) (length room) (h .sized))
+
+        wide : length (bumped b (indexOf (q .signed) v)) ≡ bucketCount (q .signed)
+        wide = bumped-length b (indexOf (q .signed) v) ∙ ap length f ∙ filled-length (indexOf (q .signed)) (bucketCount (q .signed)) vs
+
     first : length vs ≡ 4096 → (next : List ℕ) × (taken (grown q v) next ≡ recorded q room v) × Holds (vs ++ (v ∷ [])) (grown q v) next
     first l = (
-      take 4096 room ++ bumped (filled (q .signed) (take 4096 room)) (indexOf (q .signed) v),
+      first-room q room v,
       way-first q room v (grown q v) (h .sized) fine (h .count ∙ l) refl,
-      late (take 4096 room ++ bumped (filled (q .signed) (take 4096 room)) (indexOf (q .signed) v)) (filled (q .signed) (take 4096 room)) (le-of-eq (sym l)) refl
-          (ap (filled (q .signed)) (ap (λ (n : ℕ). take n room) (sym l) ∙ h .exact (le-of-eq l))),
+      late (first-room q room v) (filledBuckets (q .signed) (take 4096 room)) (filledTotals (q .signed) (take 4096 room)) (le-of-eq (sym l)) refl (ap (filledBuckets (q .signed)) kept) (ap (filledTotals (q .signed)) kept),
     )
+      where
+        kept : take 4096 room ≡ vs
+        kept = ap (λ (n : ℕ). take n room) (sym l) ∙ h .exact (le-of-eq l)
 
     later : 4096 < length vs → (next : List ℕ) × (taken (grown q v) next ≡ recorded q room v) × Holds (vs ++ (v ∷ [])) (grown q v) next
     later l = (
-      take 4096 room ++ bumped (drop 4096 room) (indexOf (q .signed) v),
-      way-later q room v (grown q v) (h .sized) fine (subst (λ (n : ℕ). 4096 < n) (sym (h .count)) l) (not-full (h .counted l)) (λ e. top (q .count) (h .count) e) refl,
-      late (take 4096 room ++ bumped (drop 4096 room) (indexOf (q .signed) v)) (drop 4096 room) (le-of-lt l) refl (h .counted l),
+      later-room q room v,
+      way-later q room v (grown q v) (h .sized) fine (subst (λ (n : ℕ). 4096 < n) (sym (h .count)) l)
+          (not-full (indexOf (q .signed)) (bucketCount (q .signed)) (buckets (q .signed) room) (indexOf (q .signed) v) (h .counted l))
+          (not-full (blockOf (q .signed)) (blockCount (q .signed)) (totals (q .signed) room) (blockOf (q .signed) v) (h .totalled l)) (λ e. top (q .count) (h .count) e) refl,
+      late (later-room q room v) (buckets (q .signed) room) (totals (q .signed) room) (le-of-lt l) refl (h .counted l) (h .totalled l),
     )
       where
         top : (n : ℕ) → n ≡ length vs → n ≡ 2 ^ 64 - 1 → ⊥
         top n e f = omega arith
 
-        not-full : drop 4096 room ≡ filled (q .signed) vs → getD (drop 4096 room) (indexOf (q .signed) v) 0 ≡ 2 ^ 64 - 1 → ⊥
-        not-full e f = full (getD (filled (q .signed) vs) (indexOf (q .signed) v) 0) (sym (ap (λ (b : List ℕ). getD b (indexOf (q .signed) v) 0) e) ∙ f) (filled-le (q .signed) vs (indexOf (q .signed) v))
+        not-full : (place : ℕ → ℕ) (n : ℕ) (b : List ℕ) (k : ℕ) → b ≡ filled place n vs → getD b k 0 ≡ 2 ^ 64 - 1 → ⊥
+        not-full place n b k e f = full (getD (filled place n vs) k 0) (sym (ap (λ (x : List ℕ). getD x k 0) e) ∙ f) (filled-le place n vs k)
           where
             full : (x : ℕ) → x ≡ 2 ^ 64 - 1 → x ≤ length vs → ⊥
             full x e l = omega arith

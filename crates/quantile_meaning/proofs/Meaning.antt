@@ -13,11 +13,12 @@ use Rattle.buckets.proofs.SignedFacts.{shown-of-near}
 use Rattle.exact_rank.specs.Rank.{sorted}
 use Rattle.exact_rank.proofs.Sorting.{sorted-is-counted}
 use Rattle.histogram.specs.Histogram.{bucketAt}
-use Rattle.quantiles.specs.Record.{filled}
+use Rattle.quantiles.specs.Record.{filledBuckets}
+use Rattle.quantiles.proofs.Tally.{filled-length}
 use Rattle.percentiles.specs.Percentiles.{clamped}
 use Rattle.percentiles.proofs.Values.{clamp-low, clamp-high, clamp-between}
 use Rattle.quantile_meaning.specs.Words.{Words}
-use Rattle.quantile_meaning.proofs.Buckets.{bucket-of-rank, sorted-word, filled-length}
+use Rattle.quantile_meaning.proofs.Buckets.{bucket-of-rank, sorted-word}
 
 -- a value that is clamped between two around x comes no farther from x
 pub clamped-near : (s : Bool) (x y low high : ℕ) → order s low ≤ order s x → order s x ≤ order s high → gap s x (clamped s y low high) ≤ gap s x y
@@ -48,13 +49,13 @@ abbrev pub sampleOf : Bool → List ℕ → ℕ → ℕ
 sampleOf s vs r = getD (sorted (order s) vs) r 0
 
 -- the buckets that count a list of samples show, for a rank, the bucket of the sample that has the rank in sorted order
-pub bucket-of-sample : (s : Bool) (vs : List ℕ) (r : ℕ) → Words vs → r < length vs → bucketAt (filled s vs) r ≡ indexOf s (sampleOf s vs r)
-bucket-of-sample s vs r w l = bucket-of-rank s vs r (sampleOf s vs r) w (sorted-word (order s) vs r w) (filled-length s vs) (sorted-is-counted (order s) vs r l)
+pub bucket-of-sample : (s : Bool) (vs : List ℕ) (r : ℕ) → Words vs → r < length vs → bucketAt (filledBuckets s vs) r ≡ indexOf s (sampleOf s vs r)
+bucket-of-sample s vs r w l = bucket-of-rank s vs r (sampleOf s vs r) w (sorted-word (order s) vs r w) (filled-length (indexOf s) (bucketCount s) vs) (sorted-is-counted (order s) vs r l)
 
 -- so the value shown, clamped to a minimum and a maximum around that sample, is within 1/128 of it
 pub within-one-part-in-128 : (s : Bool) (vs : List ℕ) (r low high : ℕ) → Words vs → r < length vs
     → order s low ≤ order s (sampleOf s vs r) → order s (sampleOf s vs r) ≤ order s high
-    → 128 * gap s (sampleOf s vs r) (clamped s (valueOf s (bucketAt (filled s vs) r)) low high) ≤ magnitude s (sampleOf s vs r)
+    → 128 * gap s (sampleOf s vs r) (clamped s (valueOf s (bucketAt (filledBuckets s vs) r)) low high) ≤ magnitude s (sampleOf s vs r)
 within-one-part-in-128 s vs r low high w l a b =
     subst (λ (i : ℕ). 128 * gap s (sampleOf s vs r) (clamped s (valueOf s i) low high) ≤ magnitude s (sampleOf s vs r)) (sym (bucket-of-sample s vs r w l))
     (near (sampleOf s vs r) (sorted-word (order s) vs r w) a b)

@@ -21,7 +21,7 @@ use Rattle.buckets.specs.Signed.{bucketCount, magnitude, order, gap, valueOf}
 use Rattle.buckets.proofs.Facts.{lt-or-ge}
 use Rattle.histogram.specs.Histogram.{bucketAt}
 use Rattle.quantiles.specs.declared.Quantiles.{Quantiles}
-use Rattle.quantiles.specs.Record.{filled, grown}
+use Rattle.quantiles.specs.Record.{grown}
 use Rattle.quantile_meaning.proofs.Growth.{Around, around-none, around-more}
 
 -- a word is one of the samples

@@ -12,15 +12,17 @@ use Rattle.rank.specs.Rank.{rankOf, rank-below}
 use Rattle.exact_rank.specs.Rank.{sorted, atRank}
 use Rattle.exact_rank.proofs.Sorting.{length-sorted}
 use Rattle.scope.specs.Refusals.{wrongRoom}
-use Rattle.buckets.specs.Signed.{bucketCount, magnitude, order, gap, indexOf, valueOf}
+use Rattle.quantiles.specs.State.{roomSize}
+use Rattle.buckets.specs.Signed.{magnitude, order, gap, indexOf, valueOf}
 use Rattle.histogram.specs.Histogram.{bucketAt}
 use Rattle.quantiles.specs.declared.Quantiles.{Quantiles}
-use Rattle.quantiles.specs.Record.{Outcome, still, taken, filled, grown, stored, refuses, pickOutcome, recorded}
+use Rattle.quantiles.specs.Record.{Outcome, still, taken, grown, stored, refuses, pickOutcome, recorded}
 use Rattle.percentiles.specs.Percentiles.{clamped, histogramValue, valueAt, percentile}
 use Rattle.percentiles.proofs.Values.{shows-sample, shows-histogram, shows-bucket}
 use Rattle.quantile_meaning.specs.Words.{Words, none, more}
 use Rattle.quantile_meaning.specs.Grown.{Kept, fresh, recordAll}
 use Rattle.quantile_meaning.proofs.Meaning.{sampleOf, bucket-of-sample, within-one-part-in-128}
+use Rattle.quantile_meaning.proofs.Blocks.{held-bucket}
 use Rattle.quantile_meaning.proofs.Growth.{Around, around-none, around-more, Holds, step}
 
 -- what one `record` leaves, read off its outcome
@@ -59,14 +61,14 @@ kind-of [] q room = refl
 kind-of (v ∷ vs) q room = kind-of vs (recorded q room v .state) (recorded q room v .room) ∙ kind-kept q room v
 
 -- no samples yet: whatever the room held before
-pub fresh-holds : (s : Bool) (room : List ℕ) → length room ≡ 4096 + bucketCount s → Holds [] (fresh s) room
-fresh-holds s room h = record { sized = h; count = refl; around = around-none; exact = λ m. refl; counted = λ m. absurd (never m) }
+pub fresh-holds : (s : Bool) (room : List ℕ) → length room ≡ roomSize s → Holds [] (fresh s) room
+fresh-holds s room h = record { sized = h; count = refl; around = around-none; exact = λ m. refl; counted = λ m. absurd (never m); totalled = λ m. absurd (never m) }
   where
     never : 4096 < 0 → ⊥
     never m = omega arith
 
 -- a room grown from fresh holds the samples
-pub from-fresh : (s : Bool) (room vs : List ℕ) → length room ≡ 4096 + bucketCount s → length vs < 2 ^ 64 → Holds vs (recordAll (fresh s) room vs .state) (recordAll (fresh s) room vs .room)
+pub from-fresh : (s : Bool) (room vs : List ℕ) → length room ≡ roomSize s → length vs < 2 ^ 64 → Holds vs (recordAll (fresh s) room vs .state) (recordAll (fresh s) room vs .room)
 from-fresh s room vs h l = all-held vs [] (fresh s) room (omega arith) (fresh-holds s room h)
 
 -- exact mode: the sample of the percentile's rank in sorted order
@@ -87,8 +89,8 @@ histogram-percentile vs q room p h w l n m =
     ap (λ (c : ℕ). valueAt q room (rankOf p c)) (h .count)
     ∙ sym (shows-histogram q room (rankOf p (length vs)) (subst (λ (c : ℕ). 4096 < c) (sym (h .count)) l))
     ∙ sym (shows-bucket q room (rankOf p (length vs)) n (λ e. m (e ∙ ap (λ (c : ℕ). c - 1) (h .count))))
-    ∙ ap (λ (b : List ℕ). clamped (q .signed) (valueOf (q .signed) (bucketAt b (rankOf p (length vs)))) (q .min) (q .max)) (h .counted l)
-    ∙ ap (λ (i : ℕ). clamped (q .signed) (valueOf (q .signed) i) (q .min) (q .max)) (bucket-of-sample (q .signed) vs (rankOf p (length vs)) w (rank-below p (length vs) (some (length vs) l)))
+    ∙ ap (λ (i : ℕ). clamped (q .signed) (valueOf (q .signed) i) (q .min) (q .max))
+    (held-bucket vs q room (rankOf p (length vs)) h w l (rank-below p (length vs) (some (length vs) l)) ∙ bucket-of-sample (q .signed) vs (rankOf p (length vs)) w (rank-below p (length vs) (some (length vs) l)))
   where
     some : (n : ℕ) → 4096 < n → 0 < n
     some n l = omega arith

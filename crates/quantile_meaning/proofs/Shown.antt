@@ -13,15 +13,17 @@ use lib.ListN.{length, length-append}
 use Rattle.rank.specs.Rank.{rankOf, rank-below}
 use Rattle.exact_rank.specs.Counting.{KeyOfRank}
 use Rattle.exact_rank.proofs.Sorting.{sorted-is-counted}
-use Rattle.buckets.specs.Signed.{bucketCount, magnitude, order, gap, indexOf, valueOf}
+use Rattle.quantiles.specs.State.{roomSize}
+use Rattle.buckets.specs.Signed.{magnitude, order, gap, indexOf, valueOf}
 use Rattle.histogram.specs.Histogram.{bucketAt}
 use Rattle.quantiles.specs.declared.Quantiles.{Quantiles}
-use Rattle.quantiles.specs.Record.{Outcome, taken, filled, grown, recorded}
+use Rattle.quantiles.specs.Record.{Outcome, taken, grown, recorded}
 use Rattle.percentiles.specs.Percentiles.{clamped, histogramValue, valueAt, percentile}
 use Rattle.percentiles.proofs.Values.{shows-histogram, shows-min, shows-max, shows-bucket}
 use Rattle.quantile_meaning.specs.Words.{Words}
 use Rattle.quantile_meaning.specs.Grown.{Kept, fresh, recordAll}
 use Rattle.quantile_meaning.proofs.Meaning.{sampleOf, within-one-part-in-128}
+use Rattle.quantile_meaning.proofs.Blocks.{held-bucket}
 use Rattle.quantile_meaning.proofs.Growth.{Holds, step}
 use Rattle.quantile_meaning.proofs.Percentile.{after-step, fresh-holds, from-fresh, kind-of, exact-percentile}
 use Rattle.quantile_meaning.proofs.Near.{Reached, grown-reached, least-first, greatest-last, rank-low, rank-high}
@@ -72,7 +74,7 @@ near-at vs q room r h reached w l b =
     inner : (r ≡ 0 → ⊥) → (r ≡ q .count - 1 → ⊥) → 128 * gap (q .signed) (sampleOf (q .signed) vs r) (histogramValue q room r) ≤ magnitude (q .signed) (sampleOf (q .signed) vs r)
     inner n m =
         subst (λ (v : ℕ). 128 * gap (q .signed) (sampleOf (q .signed) vs r) v ≤ magnitude (q .signed) (sampleOf (q .signed) vs r)) (shows-bucket q room r n m)
-        (subst (λ (buckets : List ℕ). 128 * gap (q .signed) (sampleOf (q .signed) vs r) (clamped (q .signed) (valueOf (q .signed) (bucketAt buckets r)) (q .min) (q .max)) ≤ magnitude (q .signed) (sampleOf (q .signed) vs r)) (sym (h .counted l))
+        (subst (λ (i : ℕ). 128 * gap (q .signed) (sampleOf (q .signed) vs r) (clamped (q .signed) (valueOf (q .signed) i) (q .min) (q .max)) ≤ magnitude (q .signed) (sampleOf (q .signed) vs r)) (sym (held-bucket vs q room r h w l b))
         (within-one-part-in-128 (q .signed) vs r (q .min) (q .max) w b above under))
 
 pub histogram-near : (vs : List ℕ) (q : Quantiles) (room : List ℕ) (p : Float) → Holds vs q room → Reached vs q → Words vs → 4096 < length vs
@@ -107,7 +109,7 @@ all-reached (w ∷ ws) vs q room l h r m =
 
 -- THE THEOREM. Record the values vs, in order, from fresh, in any room of the right size. Up to 4,096 of them, the percentile p is
 -- the value that has the rank of p in sorted order. Beyond, it is within 1/128 of that value.
-pub what-a-percentile-means : (s : Bool) (room vs : List ℕ) (p : Float) → length room ≡ 4096 + bucketCount s → Words vs → length vs < 2 ^ 64
+pub what-a-percentile-means : (s : Bool) (room vs : List ℕ) (p : Float) → length room ≡ roomSize s → Words vs → length vs < 2 ^ 64
     → (length vs ≤ 4096 → percentile (recordAll (fresh s) room vs .state) (recordAll (fresh s) room vs .room) p ≡ sampleOf s vs (rankOf p (length vs)))
     × (4096 < length vs → 128 * gap s (sampleOf s vs (rankOf p (length vs))) (percentile (recordAll (fresh s) room vs .state) (recordAll (fresh s) room vs .room) p) ≤ magnitude s (sampleOf s vs (rankOf p (length vs))))
 what-a-percentile-means s room vs p h w l = (

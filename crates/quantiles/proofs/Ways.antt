@@ -11,11 +11,10 @@ use lib.ListN.{length, getD, set, take, drop}
 use Rattle.scope.specs.Limits.{capacity}
 use Rattle.scope.specs.Refusals.{wrongRoom}
 use Rattle.buckets.specs.Buckets.{pick}
-use Rattle.buckets.specs.Signed.{bucketCount, order, indexOf}
+use Rattle.buckets.specs.Signed.{order, indexOf}
 use Rattle.quantiles.specs.declared.Quantiles.{Quantiles}
-use Rattle.quantiles.specs.State.{samples, buckets, sized, crossed}
-use Rattle.quantiles.specs.Record.{Outcome, still, taken, passes, refuses, filled, pickList, stored, grown, pickOutcome, recorded}
-use Rattle.histogram.specs.Histogram.{bumped}
+use Rattle.quantiles.specs.State.{roomSize, samples, buckets, totals, blockOf, sized, crossed}
+use Rattle.quantiles.specs.Record.{Outcome, still, taken, passes, refuses, filledBuckets, filledTotals, pickList, counted, stored, grown, pickOutcome, recorded}
 
 -- the state that `grow` builds is the definition's, by the two tests for minimum and maximum
 abbrev picked : Quantiles → ℕ → Bool → Bool → Bool → Quantiles
@@ -73,46 +72,69 @@ unfolding by-tests
 refused-by q room v e = recorded-by q room v true (eqb (q .count) (2 ^ 64 - 1)) e refl
 
 -- a room of the wrong size
-pub way-size : (q : Quantiles) (room : List ℕ) (v : ℕ) → (length room ≡ 4096 + bucketCount (q .signed) → ⊥) → still wrongRoom q room ≡ recorded q room v
+pub way-size : (q : Quantiles) (room : List ℕ) (v : ℕ) → (length room ≡ roomSize (q .signed) → ⊥) → still wrongRoom q room ≡ recorded q room v
 unfolding either-refuses
 way-size q room v n =
-    refused-by q room v (refuses-by q room v false (crossed q) (passes q room v) (ne-eqb (length room) (4096 + bucketCount (q .signed)) n) refl refl)
+    refused-by q room v (refuses-by q room v false (crossed q) (passes q room v) (ne-eqb (length room) (roomSize (q .signed)) n) refl refl)
 
 -- the minimum above the maximum
-pub way-crossed : (q : Quantiles) (room : List ℕ) (v : ℕ) → length room ≡ 4096 + bucketCount (q .signed) → crossed q ≡ true → still wrongRoom q room ≡ recorded q room v
+pub way-crossed : (q : Quantiles) (room : List ℕ) (v : ℕ) → length room ≡ roomSize (q .signed) → crossed q ≡ true → still wrongRoom q room ≡ recorded q room v
 unfolding either-refuses
 way-crossed q room v h e =
-    refused-by q room v (refuses-by q room v true true (passes q room v) (eq-eqb (length room) (4096 + bucketCount (q .signed)) h) e refl)
+    refused-by q room v (refuses-by q room v true true (passes q room v) (eq-eqb (length room) (roomSize (q .signed)) h) e refl)
 
-passes-by : (q : Quantiles) (room : List ℕ) (v : ℕ) (late top : Bool) → ltb 4096 (q .count) ≡ late → eqb (getD (drop 4096 room) (indexOf (q .signed) v) 0) (2 ^ 64 - 1) ≡ top → passes q room v ≡ late && top
+-- the counts that a value has, in its bucket and in its block
+abbrev pub inBucket : Quantiles → List ℕ → ℕ → ℕ
+inBucket q room v = getD (buckets (q .signed) room) (indexOf (q .signed) v) 0
+
+abbrev pub inBlock : Quantiles → List ℕ → ℕ → ℕ
+inBlock q room v = getD (totals (q .signed) room) (blockOf (q .signed) v) 0
+
+passes-by : (q : Quantiles) (room : List ℕ) (v : ℕ) (late top high : Bool) → ltb 4096 (q .count) ≡ late → eqb (inBucket q room v) (2 ^ 64 - 1) ≡ top → eqb (inBlock q room v) (2 ^ 64 - 1) ≡ high
+    → passes q room v ≡ late && (top || high)
 unfolding passes
-passes-by q room v late top e f = ap (λ (t : Bool). t && eqb (getD (drop 4096 room) (indexOf (q .signed) v) 0) (2 ^ 64 - 1)) e ∙ ap (λ (t : Bool). late && t) f
+passes-by q room v late top high e f g =
+    ap (λ (t : Bool). t && (eqb (inBucket q room v) (2 ^ 64 - 1) || eqb (inBlock q room v) (2 ^ 64 - 1))) e ∙ ap (λ (t : Bool). late && (t || eqb (inBlock q room v) (2 ^ 64 - 1))) f
+    ∙ ap (λ (t : Bool). late && (top || t)) g
+
+or-true : (t : Bool) → true && (t || true) ≡ true
+or-true true = refl
+or-true false = refl
 
 -- a bucket that would pass u64
-pub way-passes : (q : Quantiles) (room : List ℕ) (v : ℕ) → length room ≡ 4096 + bucketCount (q .signed) → crossed q ≡ false → 4096 < q .count
-    → getD (drop 4096 room) (indexOf (q .signed) v) 0 ≡ 2 ^ 64 - 1 → still wrongRoom q room ≡ recorded q room v
+pub way-passes : (q : Quantiles) (room : List ℕ) (v : ℕ) → length room ≡ roomSize (q .signed) → crossed q ≡ false → 4096 < q .count
+    → inBucket q room v ≡ 2 ^ 64 - 1 → still wrongRoom q room ≡ recorded q room v
 unfolding either-refuses
 way-passes q room v h e l f =
     refused-by q room v
-    (refuses-by q room v true false true (eq-eqb (length room) (4096 + bucketCount (q .signed)) h) e
-    (passes-by q room v true true (lt-ltb 4096 (q .count) l) (eq-eqb (getD (drop 4096 room) (indexOf (q .signed) v) 0) (2 ^ 64 - 1) f)))
+    (refuses-by q room v true false true (eq-eqb (length room) (roomSize (q .signed)) h) e
+    (passes-by q room v true true (eqb (inBlock q room v) (2 ^ 64 - 1)) (lt-ltb 4096 (q .count) l) (eq-eqb (inBucket q room v) (2 ^ 64 - 1) f) refl))
+
+-- a block total that would
+pub way-block-passes : (q : Quantiles) (room : List ℕ) (v : ℕ) → length room ≡ roomSize (q .signed) → crossed q ≡ false → 4096 < q .count
+    → inBlock q room v ≡ 2 ^ 64 - 1 → still wrongRoom q room ≡ recorded q room v
+unfolding either-refuses
+way-block-passes q room v h e l f =
+    refused-by q room v
+    (refuses-by q room v true false true (eq-eqb (length room) (roomSize (q .signed)) h) e
+    (passes-by q room v true (eqb (inBucket q room v) (2 ^ 64 - 1)) true (lt-ltb 4096 (q .count) l) refl (eq-eqb (inBlock q room v) (2 ^ 64 - 1) f) ∙ or-true (eqb (inBucket q room v) (2 ^ 64 - 1))))
 
 -- what is served: the bucket is not full, or not in use yet
-served : (q : Quantiles) (room : List ℕ) (v : ℕ) → length room ≡ 4096 + bucketCount (q .signed) → crossed q ≡ false → passes q room v ≡ false → refuses q room v ≡ false
+served : (q : Quantiles) (room : List ℕ) (v : ℕ) → length room ≡ roomSize (q .signed) → crossed q ≡ false → passes q room v ≡ false → refuses q room v ≡ false
 unfolding either-refuses
-served q room v h e f = refuses-by q room v true false false (eq-eqb (length room) (4096 + bucketCount (q .signed)) h) e f
+served q room v h e f = refuses-by q room v true false false (eq-eqb (length room) (roomSize (q .signed)) h) e f
 
 early : (q : Quantiles) (room : List ℕ) (v : ℕ) → q .count ≤ 4096 → passes q room v ≡ false
-early q room v l = passes-by q room v false (eqb (getD (drop 4096 room) (indexOf (q .signed) v) 0) (2 ^ 64 - 1)) (le-ltb 4096 (q .count) l) refl
+early q room v l = passes-by q room v false (eqb (inBucket q room v) (2 ^ 64 - 1)) (eqb (inBlock q room v) (2 ^ 64 - 1)) (le-ltb 4096 (q .count) l) refl refl
 
-late : (q : Quantiles) (room : List ℕ) (v : ℕ) → 4096 < q .count → (getD (drop 4096 room) (indexOf (q .signed) v) 0 ≡ 2 ^ 64 - 1 → ⊥) → passes q room v ≡ false
-late q room v l n = passes-by q room v true false (lt-ltb 4096 (q .count) l) (ne-eqb (getD (drop 4096 room) (indexOf (q .signed) v) 0) (2 ^ 64 - 1) n)
+late : (q : Quantiles) (room : List ℕ) (v : ℕ) → 4096 < q .count → (inBucket q room v ≡ 2 ^ 64 - 1 → ⊥) → (inBlock q room v ≡ 2 ^ 64 - 1 → ⊥) → passes q room v ≡ false
+late q room v l n m = passes-by q room v true false false (lt-ltb 4096 (q .count) l) (ne-eqb (inBucket q room v) (2 ^ 64 - 1) n) (ne-eqb (inBlock q room v) (2 ^ 64 - 1) m)
 
 -- a count of 2^64-1
-pub way-full : (q : Quantiles) (room : List ℕ) (v : ℕ) → length room ≡ 4096 + bucketCount (q .signed) → crossed q ≡ false → 4096 < q .count
-    → (getD (drop 4096 room) (indexOf (q .signed) v) 0 ≡ 2 ^ 64 - 1 → ⊥) → q .count ≡ 2 ^ 64 - 1 → still 0 q room ≡ recorded q room v
+pub way-full : (q : Quantiles) (room : List ℕ) (v : ℕ) → length room ≡ roomSize (q .signed) → crossed q ≡ false → 4096 < q .count
+    → (inBucket q room v ≡ 2 ^ 64 - 1 → ⊥) → (inBlock q room v ≡ 2 ^ 64 - 1 → ⊥) → q .count ≡ 2 ^ 64 - 1 → still 0 q room ≡ recorded q room v
 unfolding by-tests
-way-full q room v h e l n f = recorded-by q room v false true (served q room v h e (late q room v l n)) (eq-eqb (q .count) (2 ^ 64 - 1) f)
+way-full q room v h e l n m f = recorded-by q room v false true (served q room v h e (late q room v l n m)) (eq-eqb (q .count) (2 ^ 64 - 1) f)
 
 taken-by : (q : Quantiles) (room : List ℕ) (v : ℕ) (next : Quantiles) (after : List ℕ) → refuses q room v ≡ false → (q .count ≡ 2 ^ 64 - 1 → ⊥) → next ≡ grown q v → after ≡ stored q room v
     → taken next after ≡ recorded q room v
@@ -120,9 +142,15 @@ unfolding by-tests
 taken-by q room v next after e n g s =
     ap (λ (x : Quantiles). taken x after) g ∙ ap (taken (grown q v)) s ∙ recorded-by q room v false false e (ne-eqb (q .count) (2 ^ 64 - 1) n)
 
+-- what sample 4,097 leaves, and a later one
+abbrev pub first-room : Quantiles → List ℕ → ℕ → List ℕ
+first-room q room v = counted (q .signed) (samples room) (filledBuckets (q .signed) (samples room)) (filledTotals (q .signed) (samples room)) v
+
+abbrev pub later-room : Quantiles → List ℕ → ℕ → List ℕ
+later-room q room v = counted (q .signed) (samples room) (buckets (q .signed) room) (totals (q .signed) room) v
+
 stored-by : Quantiles → List ℕ → ℕ → Bool → Bool → List ℕ
-stored-by q room v exact first =
-    pickList exact (set room (q .count) v) (samples room ++ bumped (pickList first (filled (q .signed) (samples room)) (buckets room)) (indexOf (q .signed) v))
+stored-by q room v exact first = pickList exact (set room (q .count) v) (pickList first (first-room q room v) (later-room q room v))
 
 stored-is : (q : Quantiles) (room : List ℕ) (v : ℕ) (exact first : Bool) → ltb (q .count) 4096 ≡ exact → eqb (q .count) 4096 ≡ first → stored-by q room v exact first ≡ stored q room v
 unfolding stored stored-by
@@ -132,7 +160,7 @@ not-full : (n : ℕ) → n ≤ 4096 → n ≡ 2 ^ 64 - 1 → ⊥
 not-full n l e = omega arith
 
 -- a sample of the exact mode
-pub way-exact : (q : Quantiles) (room : List ℕ) (v : ℕ) (next : Quantiles) → length room ≡ 4096 + bucketCount (q .signed) → crossed q ≡ false → q .count < 4096 → next ≡ grown q v
+pub way-exact : (q : Quantiles) (room : List ℕ) (v : ℕ) (next : Quantiles) → length room ≡ roomSize (q .signed) → crossed q ≡ false → q .count < 4096 → next ≡ grown q v
     → taken next (set room (q .count) v) ≡ recorded q room v
 unfolding stored-by
 way-exact q room v next h e l g =
@@ -140,20 +168,20 @@ way-exact q room v next h e l g =
     (stored-is q room v true (eqb (q .count) 4096) (lt-ltb (q .count) 4096 l) refl)
 
 -- sample 4,097
-pub way-first : (q : Quantiles) (room : List ℕ) (v : ℕ) (next : Quantiles) → length room ≡ 4096 + bucketCount (q .signed) → crossed q ≡ false → q .count ≡ 4096 → next ≡ grown q v
-    → taken next (take 4096 room ++ bumped (filled (q .signed) (take 4096 room)) (indexOf (q .signed) v)) ≡ recorded q room v
+pub way-first : (q : Quantiles) (room : List ℕ) (v : ℕ) (next : Quantiles) → length room ≡ roomSize (q .signed) → crossed q ≡ false → q .count ≡ 4096 → next ≡ grown q v
+    → taken next (first-room q room v) ≡ recorded q room v
 unfolding stored-by
 way-first q room v next h e l g =
-    taken-by q room v next (take 4096 room ++ bumped (filled (q .signed) (take 4096 room)) (indexOf (q .signed) v)) (served q room v h e (early q room v (le-of-eq l)))
+    taken-by q room v next (first-room q room v) (served q room v h e (early q room v (le-of-eq l)))
     (not-full (q .count) (le-of-eq l)) g (stored-is q room v false true (le-ltb (q .count) 4096 (le-of-eq (sym l))) (eq-eqb (q .count) 4096 l))
 
 -- a later sample
-pub way-later : (q : Quantiles) (room : List ℕ) (v : ℕ) (next : Quantiles) → length room ≡ 4096 + bucketCount (q .signed) → crossed q ≡ false → 4096 < q .count
-    → (getD (drop 4096 room) (indexOf (q .signed) v) 0 ≡ 2 ^ 64 - 1 → ⊥) → (q .count ≡ 2 ^ 64 - 1 → ⊥) → next ≡ grown q v
-    → taken next (take 4096 room ++ bumped (drop 4096 room) (indexOf (q .signed) v)) ≡ recorded q room v
+pub way-later : (q : Quantiles) (room : List ℕ) (v : ℕ) (next : Quantiles) → length room ≡ roomSize (q .signed) → crossed q ≡ false → 4096 < q .count
+    → (inBucket q room v ≡ 2 ^ 64 - 1 → ⊥) → (inBlock q room v ≡ 2 ^ 64 - 1 → ⊥) → (q .count ≡ 2 ^ 64 - 1 → ⊥) → next ≡ grown q v
+    → taken next (later-room q room v) ≡ recorded q room v
 unfolding stored-by
-way-later q room v next h e l n f g =
-    taken-by q room v next (take 4096 room ++ bumped (drop 4096 room) (indexOf (q .signed) v)) (served q room v h e (late q room v l n)) f g
+way-later q room v next h e l n m f g =
+    taken-by q room v next (later-room q room v) (served q room v h e (late q room v l n m)) f g
     (stored-is q room v false false (le-ltb (q .count) 4096 (le-of-lt l)) (ne-eqb (q .count) 4096 (above (q .count) l)))
   where
     above : (n : ℕ) → 4096 < n → n ≡ 4096 → ⊥

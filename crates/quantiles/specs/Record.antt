@@ -12,7 +12,7 @@ use Rattle.histogram.specs.Histogram.{bumped}
 use Rattle.quantiles.specs.declared.Quantiles.{Quantiles}
 use Rattle.quantiles.specs.declared.Recording.{Recording}
 use Rattle.quantiles.specs.declared.Recording.the-variants.{Refused, Full, Counted}
-use Rattle.quantiles.specs.State.{samples, buckets, sized, crossed}
+use Rattle.quantiles.specs.State.{blockCount, samples, buckets, totals, blockOf, sized, crossed}
 
 -- what a call leaves: the refusal's number, or 0; Rust's answer; the state; the room
 pub record Outcome : Type 0 where
@@ -36,36 +36,51 @@ outcome q Refused room = still wrongRoom q room
 outcome q Full room = still 0 q room
 outcome q (Counted next) room = taken next room
 
--- a bucket that would pass u64: the value's own, where the room is a histogram already (sample 4,097 zeroes the buckets first)
+-- a bucket or a block total that would pass u64: the value's own, where the room is a histogram already (sample 4,097 zeroes both first)
 unfoldable pub passes : Quantiles → List ℕ → ℕ → Bool
-passes q room v = ltb capacity (q .count) && eqb (getD (buckets room) (indexOf (q .signed) v) 0) (2 ^ 64 - 1)
+passes q room v =
+    ltb capacity (q .count)
+    && (eqb (getD (buckets (q .signed) room) (indexOf (q .signed) v) 0) (2 ^ 64 - 1) || eqb (getD (totals (q .signed) room) (blockOf (q .signed) v) 0) (2 ^ 64 - 1))
 
 -- refusal 5 of `record`
 unfoldable pub refuses : Quantiles → List ℕ → ℕ → Bool
 unfolding passes
 refuses q room v = not (sized (q .signed) room) || (crossed q || passes q room v)
 
--- a count for each sample
-unfoldable pub tally : Bool → List ℕ → List ℕ → List ℕ
-tally s [] b = b
-tally s (x ∷ xs) b = tally s xs (bumped b (indexOf s x))
+-- a count for each sample, at the place that it has
+unfoldable pub tally : (ℕ → ℕ) → List ℕ → List ℕ → List ℕ
+tally place [] b = b
+tally place (x ∷ xs) b = tally place xs (bumped b (place x))
 
--- zeroed, then filled
-unfoldable pub filled : Bool → List ℕ → List ℕ
+-- n counts, zeroed, then filled
+unfoldable pub filled : (ℕ → ℕ) → ℕ → List ℕ → List ℕ
 unfolding tally
-filled s xs = tally s xs (replicate (bucketCount s) 0)
+filled place n xs = tally place xs (replicate n 0)
+
+-- the buckets of samples
+abbrev pub filledBuckets : Bool → List ℕ → List ℕ
+filledBuckets s xs = filled (indexOf s) (bucketCount s) xs
+
+-- and the totals of their blocks
+abbrev pub filledTotals : Bool → List ℕ → List ℕ
+filledTotals s xs = filled (blockOf s) (blockCount s) xs
 
 -- the one list or the other, by a test
 abbrev pub pickList : Bool → List ℕ → List ℕ → List ℕ
 pickList true a b = a
 pickList false a b = b
 
--- the room with one sample more: exact up to 4,096; sample 4,097 zeroes, then fills the buckets; the samples are kept
+-- samples, and these buckets and totals with a value more
+abbrev pub counted : Bool → List ℕ → List ℕ → List ℕ → ℕ → List ℕ
+counted s samples b t v = samples ++ (bumped b (indexOf s v) ++ bumped t (blockOf s v))
+
+-- the room with one sample more: exact up to 4,096; sample 4,097 zeroes, then fills the buckets and the totals; the samples are kept
 unfoldable pub stored : Quantiles → List ℕ → ℕ → List ℕ
 unfolding filled
 stored q room v =
     pickList (ltb (q .count) capacity) (set room (q .count) v)
-    (samples room ++ bumped (pickList (eqb (q .count) capacity) (filled (q .signed) (samples room)) (buckets room)) (indexOf (q .signed) v))
+    (pickList (eqb (q .count) capacity) (counted (q .signed) (samples room) (filledBuckets (q .signed) (samples room)) (filledTotals (q .signed) (samples room)) v)
+    (counted (q .signed) (samples room) (buckets (q .signed) room) (totals (q .signed) room) v))
 
 -- the state with one sample more; the first is minimum and maximum
 unfoldable pub grown : Quantiles → ℕ → Quantiles

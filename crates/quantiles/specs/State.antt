@@ -1,8 +1,8 @@
--- The state and the room of quantiles, and which of them no call leaves. Document 01, "Estimates and percentiles" and refusal 5.
+-- The state and the room of quantiles, and which of them no call leaves. Document 01, "Estimates and percentiles" and refusal 5; document 02, Q-7.
 -- Assumes nothing.
 use mathlib.Core.Bool.{Bool, true, false, not, _&&_, _||_}
 use mathlib.Core.List.{List, [], _∷_}
-use Prim.Native.Nat.{ℕ, _+_, _-_, _^_}
+use Prim.Native.Nat.{ℕ, _+_, _-_, _/_, _^_}
 use lib.Dec.{ltb, eqb}
 use lib.ListN.{length, getD, take, drop}
 use Rattle.scope.specs.Limits.{capacity}
@@ -13,13 +13,30 @@ use Rattle.quantiles.specs.declared.Quantiles.{Quantiles}
 abbrev pub samples : List ℕ → List ℕ
 samples room = take capacity room
 
--- the words from 4,096 on: the buckets
-abbrev pub buckets : List ℕ → List ℕ
-buckets room = drop capacity room
+-- how many blocks of 128 buckets there are: 58 unsigned, 115 signed, the last signed block short
+abbrev pub blockCount : Bool → ℕ
+blockCount false = 58
+blockCount true = 115
 
--- a room of the right size has 4,096 samples and a word for each bucket
+-- how many words a room has: 4,096 samples, a word for each bucket, a word for each block
+abbrev pub roomSize : Bool → ℕ
+roomSize s = capacity + bucketCount s + blockCount s
+
+-- the words from 4,096 on: the buckets
+abbrev pub buckets : Bool → List ℕ → List ℕ
+buckets s room = take (bucketCount s) (drop capacity room)
+
+-- the words behind the buckets: the totals of the blocks
+abbrev pub totals : Bool → List ℕ → List ℕ
+totals s room = drop (capacity + bucketCount s) room
+
+-- the block of a word: that of its bucket
+abbrev pub blockOf : Bool → ℕ → ℕ
+blockOf s w = indexOf s w / 128
+
+-- a room of the right size
 abbrev pub sized : Bool → List ℕ → Bool
-sized s room = eqb (length room) (capacity + bucketCount s)
+sized s room = eqb (length room) (roomSize s)
 
 -- minimum above maximum at a count above 0; at count 0 there is neither
 abbrev pub crossed : Quantiles → Bool

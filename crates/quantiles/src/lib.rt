@@ -1,16 +1,16 @@
 // `Quantiles` of src/stats/quantiles.rs: its state by value, and `record`. `Storage` is a lent room of u64 words: 4,096 samples,
-// then the buckets. The type parameter is the flag `signed`, and an i64 is its two's complement word.
+// then the buckets, then a total for each block of 128 buckets. The type parameter is the flag `signed`, and an i64 is its two's complement word.
 ghost use mathlib.Core.Path.{_≡_};
 ghost use mathlib.Core.Bool.{false};
 ghost use mathlib.Core.List.{_++_};
-ghost use Prim.Native.Nat.{_+_, _-_, _<_, _≤_, _^_};
+ghost use Prim.Native.Nat.{_+_, _-_, _/_, _<_, _≤_, _^_};
 ghost use lib.ListN.{length, getD, set, take, drop, replicate};
 ghost use lib.Dec.{ltb};
 ghost use Rattle.buckets.specs.Buckets.{pick};
 ghost use Rattle.buckets.specs.Signed.{bucketCount, order, indexOf};
 ghost use Rattle.histogram.specs.Histogram.{bumped};
-ghost use Rattle.quantiles.specs.State.{crossed};
-ghost use Rattle.quantiles.specs.Record.{outcome, recorded, grown, filled};
+ghost use Rattle.quantiles.specs.State.{roomSize, samples, buckets as bucketsOf, totals, crossed};
+ghost use Rattle.quantiles.specs.Record.{outcome, recorded, grown, filledBuckets, filledTotals};
 
 // How many samples were recorded, and the least and the greatest of them. At count 0 there is none, whatever `min` and `max` hold.
 pub struct Quantiles {
@@ -29,6 +29,13 @@ pub enum Recording {
 
 // How many words a room has.
 pub fn room_size(signed: bool) -> usize
+    ensures { λ r. ⌜ r ≡ roomSize signed ⌝ }
+{
+    if signed { 18804 } else { 11578 }
+}
+
+// The word where the totals begin.
+pub fn totals_start(signed: bool) -> usize
     ensures { λ r. ⌜ r ≡ 4096 + bucketCount signed ⌝ }
 {
     if signed { 18689 } else { 11520 }
@@ -96,39 +103,44 @@ fn greatest(signed: bool, old: u64, value: u64) -> u64
     if was < is { value } else { old }
 }
 
-// The bucket part of the room is lent on, and zeroed.
-fn clear_buckets(room: &mut [u64])
+// The words behind the samples are lent on, and zeroed.
+fn clear_counts(room: &mut [u64])
     requires { ⌜ 4096 ≤ length (now room) ⌝ }
     ensures { λ r. ⌜ now (room .exit) ≡ take 4096 (now (room .entry)) ++ replicate (length (now (room .entry)) - 4096) 0 ⌝ }
 {
     histogram::clear(&mut room[scope::CAPACITY..]);
 }
 
-// The bucket part of the room is lent on, and has one sample more in a bucket.
-fn bump_bucket(room: &mut [u64], place: usize)
-    requires { ⌜ (4096 + place < length (now room)) × (getD (drop 4096 (now room)) place 0 + 1 < 2 ^ 64) ⌝ }
-    ensures { λ r. ⌜ now (room .exit) ≡ take 4096 (now (room .entry)) ++ bumped (drop 4096 (now (room .entry))) place ⌝ }
+// One sample more in a bucket, and in the total of its block.
+fn count_in(signed: bool, room: &mut [u64], place: usize)
+    requires { ⌜ (length (now room) ≡ roomSize signed) × (place < bucketCount signed) × (getD (bucketsOf signed (now room)) place 0 + 1 < 2 ^ 64) × (getD (totals signed (now room)) (place / 128) 0 + 1 < 2 ^ 64) ⌝ }
+    ensures { λ r. ⌜ now (room .exit) ≡ samples (now (room .entry)) ++ (bumped (bucketsOf signed (now (room .entry))) place ++ bumped (totals signed (now (room .entry))) (place / 128)) ⌝ }
 {
-    histogram::bump(&mut room[scope::CAPACITY..], place);
+    let at = scope::CAPACITY + place;
+    let block = totals_start(signed) + place / 128;
+    let n = room[at];
+    let m = room[block];
+    room[at] = n + 1;
+    room[block] = m + 1;
 }
 
-// Zeroes, then fills the buckets from the 4,096 samples.
+// Zeroes, then fills the buckets and the totals from the 4,096 samples.
 fn fill(signed: bool, room: &mut [u64])
-    requires { ⌜ length (now room) ≡ 4096 + bucketCount signed ⌝ }
-    ensures { λ r. ⌜ now (room .exit) ≡ take 4096 (now (room .entry)) ++ filled signed (take 4096 (now (room .entry))) ⌝ }
+    requires { ⌜ length (now room) ≡ roomSize signed ⌝ }
+    ensures { λ r. ⌜ now (room .exit) ≡ samples (now (room .entry)) ++ (filledBuckets signed (samples (now (room .entry))) ++ filledTotals signed (samples (now (room .entry)))) ⌝ }
 {
-    clear_buckets(room);
+    clear_counts(room);
     let mut i = 0;
     while i < scope::CAPACITY {
         let place = buckets::bucket_of(signed, room[i]);
-        bump_bucket(room, place);
+        count_in(signed, room, place);
         i += 1;
     }
 }
 
 // A sample of the exact mode: it stands behind those before it.
 fn add_sample(q: Quantiles, room: &mut [u64], value: u64) -> Recording
-    requires { ⌜ (length (now room) ≡ 4096 + bucketCount (q .signed)) × (crossed q ≡ false) × (q .count < 4096) ⌝ }
+    requires { ⌜ (length (now room) ≡ roomSize (q .signed)) × (crossed q ≡ false) × (q .count < 4096) ⌝ }
     ensures { λ r. ⌜ outcome q r (now (room .exit)) ≡ recorded q (now (room .entry)) value ⌝ }
 {
     let next = q.count as usize;
@@ -136,31 +148,35 @@ fn add_sample(q: Quantiles, room: &mut [u64], value: u64) -> Recording
     Recording::Counted(grow(q, value))
 }
 
-// Sample 4,097: the buckets are zeroed, then filled, and have it too.
+// Sample 4,097: the buckets and the totals are zeroed, then filled, and have it too.
 fn add_first(q: Quantiles, room: &mut [u64], value: u64) -> Recording
-    requires { ⌜ (length (now room) ≡ 4096 + bucketCount (q .signed)) × (crossed q ≡ false) × (q .count ≡ 4096) ⌝ }
+    requires { ⌜ (length (now room) ≡ roomSize (q .signed)) × (crossed q ≡ false) × (q .count ≡ 4096) ⌝ }
     ensures { λ r. ⌜ outcome q r (now (room .exit)) ≡ recorded q (now (room .entry)) value ⌝ }
 {
     let place = buckets::bucket_of(q.signed, value);
     fill(q.signed, room);
-    bump_bucket(room, place);
+    count_in(q.signed, room, place);
     Recording::Counted(grow(q, value))
 }
 
-// A sample of a histogram: its bucket has one more, unless the bucket or the count is full.
+// A sample of a histogram: its bucket and its block have one more, unless one of them or the count is full.
 fn add_later(q: Quantiles, room: &mut [u64], value: u64) -> Recording
-    requires { ⌜ (length (now room) ≡ 4096 + bucketCount (q .signed)) × (crossed q ≡ false) × (4096 < q .count) ⌝ }
+    requires { ⌜ (length (now room) ≡ roomSize (q .signed)) × (crossed q ≡ false) × (4096 < q .count) ⌝ }
     ensures { λ r. ⌜ outcome q r (now (room .exit)) ≡ recorded q (now (room .entry)) value ⌝ }
 {
     let place = buckets::bucket_of(q.signed, value);
     let at = scope::CAPACITY + place;
+    let block = totals_start(q.signed) + place / 128;
     if room[at] == 18446744073709551615 {
+        return Recording::Refused;
+    }
+    if room[block] == 18446744073709551615 {
         return Recording::Refused;
     }
     if q.count == 18446744073709551615 {
         return Recording::Full;
     }
-    bump_bucket(room, place);
+    count_in(q.signed, room, place);
     Recording::Counted(grow(q, value))
 }
 

@@ -29,44 +29,21 @@ returns-2 c =
     let a = c .before .before .before .before .args in
     shows-max (a .q) (now (a .room)) (a .rank) (c .before .before .if1 .left) (c .if2 .taken)
 
-sub-bucket-at : tie.Need-sub-bucket-at
-sub-bucket-at c = search needs
-
-part-bucket-at-start : tie.Need-part-bucket-at-start
-part-bucket-at-start c = search needs
-
-part-bucket-at-end : tie.Need-part-bucket-at-end
-part-bucket-at-end c = search needs
-
-below : (t n x : ℕ) → t ≡ n → x ≡ t → n < 2 ^ 64 → x < 2 ^ 64
-below t n x e f h = omega arith
-
-bucket-at-requires : tie.Need-bucket-at-requires
-bucket-at-requires c κs =
-    let a = c .before .before .before .before .before .args in
-    below (total (drop 4096 (now (a .room)))) (a .q .count) (total (take (length (now (a .room)) - 4096) (drop 4096 (now (a .room))))) (c .before .before .before .before .before .pre .1) (ap total (whole-part 4096 (now (a .room)))) (omega arith)
-
-place-below : (s : Bool) (room : List ℕ) (r place n : ℕ) → length room ≡ 4096 + bucketCount s → total (drop 4096 room) ≡ n → r < n → place ≡ bucketAt (take (length room - 4096) (drop 4096 room)) r → place < bucketCount s
-place-below s room r place n h t l e =
-    lasts (bucketAt (drop 4096 room) r) (length (drop 4096 room)) (at-below (drop 4096 room) r (subst (λ (n : ℕ). r < n) (sym t) l)) (length-drop 4096 room) (e ∙ ap (λ (b : List ℕ). bucketAt b r) (whole-part 4096 room))
-  where
-    lasts : (x y : ℕ) → x < y → y ≡ length room - 4096 → place ≡ x → place < bucketCount s
-    lasts x y k f g = omega arith
+place-of-requires : tie.Need-place-of-requires
+place-of-requires c κs = search needs
 
 shown-by-requires : tie.Need-shown-by-requires
-shown-by-requires c κs =
-    let a = c .before .before .before .before .before .before .args in
-    place-below (a .q .signed) (now (a .room)) (a .rank) (c .bucket-at .result) (a .q .count) (c .before .before .before .before .before .before .pre .0) (c .before .before .before .before .before .before .pre .1) (c .before .before .before .before .before .before .pre .2) (c .bucket-at .ensures)
+shown-by-requires c κs = search needs
 
 clamp-requires : tie.Need-clamp-requires
 clamp-requires c κs = search needs
 
 returns-3 : tie.Need-returns-3
 returns-3 c =
-    let a = c .before .before .before .before .before .before .before .before .args in
+    let a = c .before .before .before .before .before .before .before .args in
     c .clamp .ensures
-    ∙ ap (λ (x : ℕ). clamped (a .q .signed) x (a .q .min) (a .q .max)) (c .before .shown-by .ensures ∙ ap (valueOf (a .q .signed)) (c .before .before .bucket-at .ensures ∙ ap (λ (l : List ℕ). bucketAt l (a .rank)) (whole-part 4096 (now (a .room)))))
-    ∙ shows-bucket (a .q) (now (a .room)) (a .rank) (c .before .before .before .before .before .before .if1 .left) (c .before .before .before .before .if2 .left)
+    ∙ ap (λ (x : ℕ). clamped (a .q .signed) x (a .q .min) (a .q .max)) (c .before .shown-by .ensures ∙ ap (valueOf (a .q .signed)) (c .before .before .place-of .ensures .0))
+    ∙ shows-bucket (a .q) (now (a .room)) (a .rank) (c .before .before .before .before .before .if1 .left) (c .before .before .before .if2 .left)
 
 pub histogram-value-spec : {M : Type 1} → statement M
 histogram-value-spec =
@@ -75,10 +52,7 @@ histogram-value-spec =
     returns
     sub-if2
     returns-2
-    sub-bucket-at
-    part-bucket-at-start
-    part-bucket-at-end
-    bucket-at-requires
+    place-of-requires
     shown-by-requires
     clamp-requires
     returns-3)

@@ -10,7 +10,8 @@ use native.Mathlib.Omega.{arith}
 use denote.Ref.{now}
 use lib.ListN.{length, getD, take, drop, set, length-set}
 use Rattle.rank.specs.Rank.{rank-below}
-use Rattle.percentiles.specs.Percentiles.{percentile}
+use Rattle.percentiles.specs.Percentiles.{blockAt, lies, percentile}
+use Rattle.percentiles.proofs.Blocks.{unspoilt-sum, unspoilt-blocks, none-lies}
 use Rattle.percentiles.proofs.Values.{shows-histogram, shown-next, shown-all, percentile-is}
 use Rattle.percentiles.proofs.show_buckets.Statement.{statement}
 use Rattle.percentiles.proofs.show_buckets.Tie as tie
@@ -38,7 +39,13 @@ histogram-value-requires : tie.Need-histogram-value-requires Inv-loop μ-loop
 histogram-value-requires c κs =
     let a = c .before .before .before .before .before .before .before .args in
     let p = c .before .before .before .before .before .before .before .pre in
-    (p .0, p .2, subst (λ (r : ℕ). r < a .q .count) (sym (c .rank .ensures)) (rank-below (getD (now (a .ps)) (c .before .before .before .loop .i) nan) (a .q .count) (omega (arith, p .1))))
+    let i = c .before .before .before .loop .i in (
+      p .0,
+      unspoilt-sum (a .q) (now (a .room)) (now (a .ps)) (p .2),
+      subst (λ (r : ℕ). r < a .q .count) (sym (c .rank .ensures)) (rank-below (getD (now (a .ps)) i nan) (a .q .count) (omega (arith, p .1))),
+      ap (λ (r : ℕ). lies (a .q .signed) (now (a .room)) (blockAt (a .q) (now (a .room)) r)) (c .rank .ensures)
+          ∙ none-lies (a .q) (now (a .room)) (now (a .ps)) nan i (unspoilt-blocks (a .q) (now (a .room)) (now (a .ps)) (p .2)) (c .before .before .loop-test .taken),
+    )
 
 mul-shown : tie.Need-mul-shown Inv-loop μ-loop
 mul-shown c = search needs

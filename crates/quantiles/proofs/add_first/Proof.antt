@@ -2,14 +2,14 @@
 use mathlib.Core.Path.{_≡_, sym, _∙_, ap, subst}
 use mathlib.Core.List.{List, _++_}
 use Prim.Native.Nat.{ℕ, _+_, _-_, _^_, _≤_, _<_}
-use native.Mathlib.Omega.{arith}
+use native.Mathlib.Nat.{le-refl}
 use denote.Ref.{now}
 use lib.ListN.{length, getD, take, drop}
 use Rattle.buckets.specs.Signed.{indexOf}
 use Rattle.histogram.specs.Histogram.{bumped}
 use Rattle.quantiles.specs.Record.{outcome, taken, recorded, filled}
 use Rattle.quantiles.proofs.Ways.{way-first}
-use Rattle.quantiles.proofs.Tally.{full-room-length, full-room-small, full-room-next}
+use Rattle.quantiles.proofs.Tally.{filling-length, filling-small, filling-counted}
 use borrow.Author.Needs.{needs}
 use Rattle.quantiles.proofs.add_first.Statement.{statement}
 use Rattle.quantiles.proofs.add_first.Tie as tie
@@ -20,14 +20,14 @@ bucket-of-requires c κs = search needs
 fill-requires : tie.Need-fill-requires
 fill-requires c κs = search needs
 
-bump-bucket-requires : tie.Need-bump-bucket-requires
-bump-bucket-requires c κs =
+count-in-requires : tie.Need-count-in-requires
+count-in-requires c κs =
     let a = c .before .before .before .before .before .before .before .args in
     let f = c .before .before .before .fill in
-    let k = c .before .before .before .before .before .bucket-of in (
-      omega (arith, k .ensures .1, full-room-length (a .q .signed) (now (a .room)) (f .last .1 .0) (c .before .before .before .before .before .before .before .pre .0) (f .ensures)),
-      full-room-small (a .q .signed) (now (a .room)) (f .last .1 .0) (c .before .before .before .before .before .before .before .pre .0) (f .ensures) (k .result),
-    )
+    let k = c .before .before .before .before .before .bucket-of in
+    let h = c .before .before .before .before .before .before .before .pre .0 in
+    let n = filling-small (a .q .signed) (now (a .room)) (f .last .1 .0) 4096 h (f .ensures) (k .result) (le-refl 4096) in
+    (filling-length (a .q .signed) (now (a .room)) (f .last .1 .0) 4096 h (f .ensures), k .ensures .1, n .0, n .1)
 
 grow-requires : tie.Need-grow-requires
 grow-requires c κs = search needs
@@ -42,8 +42,8 @@ returns c =
     let p = c .before .before .before .before .before .before .before .before .before .before .before .pre in
     let f = c .before .before .before .before .before .before .before .fill in
     let k = c .before .before .before .before .before .before .before .before .before .bucket-of in
-    let n = c .before .before .before .bump-bucket in
-    ap (taken (c .grow .result)) (full-room-next (a .q .signed) (now (a .room)) (f .last .1 .0) (p .0) (f .ensures) (k .result) (indexOf (a .q .signed) (a .value)) (n .last .0) (k .ensures .0) (n .ensures))
+    let n = c .before .before .before .count-in in
+    ap (taken (c .grow .result)) (filling-counted (a .q .signed) (now (a .room)) (f .last .1 .0) 4096 (p .0) (f .ensures) (a .value) (k .result) (n .last .1 .0) (k .ensures .0) (n .ensures))
     ∙ way-first (a .q) (now (a .room)) (a .value) (c .grow .result) (p .0) (p .1) (p .2) (c .grow .ensures)
 
 pub add-first-spec : {M : Type 1} → statement M
@@ -52,7 +52,7 @@ add-first-spec =
     (tie.spec
     bucket-of-requires
     fill-requires
-    bump-bucket-requires
+    count-in-requires
     grow-requires
     same-length
     returns)

@@ -1,18 +1,38 @@
 -- `quantiles::add_later` meets its contract. Assumes nothing.
-use mathlib.Core.Path.{_≡_, sym, _∙_, ap, subst}
+use mathlib.Core.Path.{_≡_, sym, _∙_, ap, ap₂, subst}
+use mathlib.Core.Bool.{Bool}
 use mathlib.Core.List.{List, _++_}
-use Prim.Native.Nat.{ℕ, _+_, _-_, _^_, _≤_, _<_}
+use Prim.Native.Nat.{ℕ, _+_, _-_, _/_, _^_, _≤_, _<_}
 use native.Mathlib.Omega.{arith}
 use denote.Ref.{now}
 use lib.ListN.{length, getD, take, drop}
-use lib.Seq.{getD-drop}
-use Rattle.buckets.specs.Signed.{indexOf}
+use Rattle.buckets.specs.Signed.{bucketCount, indexOf}
 use Rattle.histogram.specs.Histogram.{bumped}
+use Rattle.quantiles.specs.State.{roomSize, samples, buckets, totals, blockOf}
 use Rattle.quantiles.specs.Record.{outcome, taken}
-use Rattle.quantiles.proofs.Ways.{way-passes, way-full, way-later}
+use Rattle.quantiles.proofs.Parts.{bucket-word, total-word}
+use Rattle.quantiles.proofs.Tally.{parts-in, total-in}
+use Rattle.quantiles.proofs.Ways.{way-passes, way-block-passes, way-full, way-later}
 use borrow.Author.Needs.{needs}
 use Rattle.quantiles.proofs.add_later.Statement.{statement}
 use Rattle.quantiles.proofs.add_later.Tie as tie
+
+-- the words that the code reads are those of the value's bucket and of its block
+module _ (s : Bool) (room : List ℕ) (v place start : ℕ) (h : length room ≡ roomSize s) (is : place ≡ indexOf s v) (below : place < bucketCount s) (at : start ≡ 4096 + bucketCount s) where
+  bucket-is : getD (buckets s room) place 0 ≡ getD room (4096 + place) 0
+  bucket-is = bucket-word 4096 (bucketCount s) room (parts-in s (length room) h) place below
+
+  total-is : getD (totals s room) (place / 128) 0 ≡ getD room (start + place / 128) 0
+  total-is = total-word 4096 (bucketCount s) room (parts-in s (length room) h) (place / 128) ∙ ap (λ (k : ℕ). getD room (k + place / 128) 0) (sym at)
+
+  value-bucket : getD (buckets s room) (indexOf s v) 0 ≡ getD room (4096 + place) 0
+  value-bucket = ap (λ (k : ℕ). getD (buckets s room) k 0) (sym is) ∙ bucket-is
+
+  value-total : getD (totals s room) (blockOf s v) 0 ≡ getD room (start + place / 128) 0
+  value-total = ap (λ (k : ℕ). getD (totals s room) (k / 128) 0) (sym is) ∙ total-is
+
+up : (x y : ℕ) → y ≡ x → x < 2 ^ 64 → (x ≡ 2 ^ 64 - 1 → ⊥) → y + 1 < 2 ^ 64
+up x y e l n = omega arith
 
 bucket-of-requires : tie.Need-bucket-of-requires
 bucket-of-requires c κs = search needs
@@ -20,49 +40,70 @@ bucket-of-requires c κs = search needs
 add-at : tie.Need-add-at
 add-at c = search needs
 
+totals-start-requires : tie.Need-totals-start-requires
+totals-start-requires c κs = search needs
+
+add-block : tie.Need-add-block
+add-block c = search needs
+
 mul-if1 : tie.Need-mul-if1
 mul-if1 c = search needs
 
 slice-read-if1 : tie.Need-slice-read-if1
 slice-read-if1 c = search needs
 
--- the count at the value's place in the room is that of its bucket
-at-bucket : (room : List ℕ) (place i n : ℕ) → place ≡ i → getD room (4096 + place) 0 ≡ n → getD (drop 4096 room) i 0 ≡ n
-at-bucket room place i n p e = getD-drop 4096 room i 0 ∙ ap (λ (k : ℕ). getD room (4096 + k) 0) (sym p) ∙ e
-
-off-bucket : (room : List ℕ) (place i n : ℕ) → place ≡ i → (getD room (4096 + place) 0 ≡ n → ⊥) → getD (drop 4096 room) i 0 ≡ n → ⊥
-off-bucket room place i n p f e = f (ap (λ (k : ℕ). getD room (4096 + k) 0) p ∙ sym (getD-drop 4096 room i 0) ∙ e)
-
 returns : tie.Need-returns
 unfolding outcome
 returns c =
-    let a = c .before .before .before .before .args in
-    let p = c .before .before .before .before .pre in
-    let k = c .before .before .bucket-of in
+    let a = c .before .before .before .before .before .args in
+    let p = c .before .before .before .before .before .pre in
+    let k = c .before .before .before .bucket-of in
+    let t = c .before .before .totals-start in
     way-passes (a .q) (now (a .room)) (a .value) (p .0) (p .1) (p .2)
-    (at-bucket (now (a .room)) (k .result) (indexOf (a .q .signed) (a .value)) (2 ^ 64 - 1) (k .ensures .0) (c .if1 .taken))
+    (value-bucket (a .q .signed) (now (a .room)) (a .value) (k .result) (t .result) (p .0) (k .ensures .0) (k .ensures .1) (t .ensures) ∙ c .if1 .taken)
+
+mul-if2 : tie.Need-mul-if2
+mul-if2 c = search needs
+
+slice-read-if2 : tie.Need-slice-read-if2
+slice-read-if2 c =
+    let a = c .before .before .before .before .before .before .args in
+    let k = c .before .before .before .before .bucket-of in
+    let t = c .before .before .before .totals-start in
+    total-in (a .q .signed) (k .result) (t .result) (length (now (a .room))) (c .before .before .before .before .before .before .pre .0) (t .ensures) (k .ensures .1)
 
 returns-2 : tie.Need-returns-2
 unfolding outcome
 returns-2 c =
-    let a = c .before .before .before .before .before .before .args in
-    let p = c .before .before .before .before .before .before .pre in
-    let k = c .before .before .before .before .bucket-of in
-    way-full (a .q) (now (a .room)) (a .value) (p .0) (p .1) (p .2)
-    (off-bucket (now (a .room)) (k .result) (indexOf (a .q .signed) (a .value)) (2 ^ 64 - 1) (k .ensures .0) (c .before .before .if1 .left)) (c .if2 .taken)
-
-one-more : (room : List ℕ) (place : ℕ) → getD room (4096 + place) 0 < 2 ^ 64 → (getD room (4096 + place) 0 ≡ 2 ^ 64 - 1 → ⊥) → getD (drop 4096 room) place 0 + 1 < 2 ^ 64
-one-more room place l n = subst (λ (x : ℕ). x + 1 < 2 ^ 64) (sym (getD-drop 4096 room place 0)) (up (getD room (4096 + place) 0) l n)
-  where
-    up : (x : ℕ) → x < 2 ^ 64 → (x ≡ 2 ^ 64 - 1 → ⊥) → x + 1 < 2 ^ 64
-    up x l n = omega arith
-
-bump-bucket-requires : tie.Need-bump-bucket-requires
-bump-bucket-requires c κs =
     let a = c .before .before .before .before .before .before .before .args in
-    let k = c .before .before .before .before .before .bucket-of in (
-      omega (arith, k .ensures .1, c .before .before .before .before .before .before .before .pre .0),
-      one-more (now (a .room)) (k .result) (c .before .before .before .before .slice-known2 .given (4096 + k .result) .fits) (c .before .before .before .if1 .left),
+    let p = c .before .before .before .before .before .before .before .pre in
+    let k = c .before .before .before .before .before .bucket-of in
+    let t = c .before .before .before .before .totals-start in
+    way-block-passes (a .q) (now (a .room)) (a .value) (p .0) (p .1) (p .2)
+    (value-total (a .q .signed) (now (a .room)) (a .value) (k .result) (t .result) (p .0) (k .ensures .0) (k .ensures .1) (t .ensures) ∙ c .if2 .taken)
+
+returns-3 : tie.Need-returns-3
+unfolding outcome
+returns-3 c =
+    let a = c .before .before .before .before .before .before .before .before .before .args in
+    let p = c .before .before .before .before .before .before .before .before .before .pre in
+    let k = c .before .before .before .before .before .before .before .bucket-of in
+    let t = c .before .before .before .before .before .before .totals-start in
+    way-full (a .q) (now (a .room)) (a .value) (p .0) (p .1) (p .2)
+    (λ e. c .before .before .before .before .if1 .left (sym (value-bucket (a .q .signed) (now (a .room)) (a .value) (k .result) (t .result) (p .0) (k .ensures .0) (k .ensures .1) (t .ensures)) ∙ e))
+    (λ e. c .before .before .if2 .left (sym (value-total (a .q .signed) (now (a .room)) (a .value) (k .result) (t .result) (p .0) (k .ensures .0) (k .ensures .1) (t .ensures)) ∙ e))
+    (c .if3 .taken)
+
+count-in-requires : tie.Need-count-in-requires
+count-in-requires c κs =
+    let a = c .before .before .before .before .before .before .before .before .before .before .args in
+    let p = c .before .before .before .before .before .before .before .before .before .before .pre in
+    let k = c .before .before .before .before .before .before .before .before .bucket-of in
+    let t = c .before .before .before .before .before .before .before .totals-start in (
+      p .0,
+      k .ensures .1,
+      up (getD (now (a .room)) (4096 + k .result) 0) _ (bucket-is (a .q .signed) (now (a .room)) (a .value) (k .result) (t .result) (p .0) (k .ensures .0) (k .ensures .1) (t .ensures)) (c .before .before .before .before .before .before .slice-known2 .given (4096 + k .result) .fits) (c .before .before .before .before .before .if1 .left),
+      up (getD (now (a .room)) (t .result + k .result / 128) 0) _ (total-is (a .q .signed) (now (a .room)) (a .value) (k .result) (t .result) (p .0) (k .ensures .0) (k .ensures .1) (t .ensures)) (c .before .before .before .before .slice-known3 .given (t .result + k .result / 128) .fits) (c .before .before .before .if2 .left),
     )
 
 grow-requires : tie.Need-grow-requires
@@ -71,16 +112,19 @@ grow-requires c κs = search needs
 same-length : tie.Need-same-length
 same-length c = search needs
 
-returns-3 : tie.Need-returns-3
+returns-4 : tie.Need-returns-4
 unfolding outcome
-returns-3 c =
-    let a = c .before .before .before .before .before .before .before .before .before .before .before .args in
-    let p = c .before .before .before .before .before .before .before .before .before .before .before .pre in
-    let k = c .before .before .before .before .before .before .before .before .before .bucket-of in
-    let n = c .before .before .before .bump-bucket in
-    ap (taken (c .grow .result)) (n .ensures ∙ ap (λ (i : ℕ). take 4096 (now (a .room)) ++ bumped (drop 4096 (now (a .room))) i) (k .ensures .0))
+returns-4 c =
+    let a = c .before .before .before .before .before .before .before .before .before .before .before .before .before .before .args in
+    let p = c .before .before .before .before .before .before .before .before .before .before .before .before .before .before .pre in
+    let k = c .before .before .before .before .before .before .before .before .before .before .before .before .bucket-of in
+    let t = c .before .before .before .before .before .before .before .before .before .before .before .totals-start in
+    let n = c .before .before .before .count-in in
+    ap (taken (c .grow .result)) (n .ensures ∙ ap (λ (i : ℕ). samples (now (a .room)) ++ (bumped (buckets (a .q .signed) (now (a .room))) i ++ bumped (totals (a .q .signed) (now (a .room))) (i / 128))) (k .ensures .0))
     ∙ way-later (a .q) (now (a .room)) (a .value) (c .grow .result) (p .0) (p .1) (p .2)
-    (off-bucket (now (a .room)) (k .result) (indexOf (a .q .signed) (a .value)) (2 ^ 64 - 1) (k .ensures .0) (c .before .before .before .before .before .before .before .if1 .left)) (c .before .before .before .before .before .if2 .left) (c .grow .ensures)
+    (λ e. c .before .before .before .before .before .before .before .before .before .if1 .left (sym (value-bucket (a .q .signed) (now (a .room)) (a .value) (k .result) (t .result) (p .0) (k .ensures .0) (k .ensures .1) (t .ensures)) ∙ e))
+    (λ e. c .before .before .before .before .before .before .before .if2 .left (sym (value-total (a .q .signed) (now (a .room)) (a .value) (k .result) (t .result) (p .0) (k .ensures .0) (k .ensures .1) (t .ensures)) ∙ e))
+    (c .before .before .before .before .before .if3 .left) (c .grow .ensures)
 
 pub add-later-spec : {M : Type 1} → statement M
 add-later-spec =
@@ -88,11 +132,16 @@ add-later-spec =
     (tie.spec
     bucket-of-requires
     add-at
+    totals-start-requires
+    add-block
     mul-if1
     slice-read-if1
     returns
+    mul-if2
+    slice-read-if2
     returns-2
-    bump-bucket-requires
+    returns-3
+    count-in-requires
     grow-requires
     same-length
-    returns-3)
+    returns-4)

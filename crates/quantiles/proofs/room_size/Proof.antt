@@ -1,16 +1,16 @@
 -- `quantiles::room_size` meets its contract. Assumes nothing.
 use mathlib.Core.Path.{_≡_, refl, sym, subst}
 use mathlib.Core.Bool.{Bool}
-use Prim.Native.Nat.{ℕ, _+_}
-use Rattle.buckets.specs.Signed.{bucketCount}
+use Prim.Native.Nat.{ℕ}
+use Rattle.quantiles.specs.State.{roomSize}
 use Rattle.quantiles.proofs.room_size.Statement.{statement}
 use Rattle.quantiles.proofs.room_size.Tie as tie
 
 returns : tie.Need-returns
-returns c = subst (λ (s : Bool). _≡_ {A = ℕ} 18689 (4096 + bucketCount s)) (sym (c .if1 .taken)) refl
+returns c = subst (λ (s : Bool). _≡_ {A = ℕ} 18804 (roomSize s)) (sym (c .if1 .taken)) refl
 
 returns-2 : tie.Need-returns-2
-returns-2 c = subst (λ (s : Bool). _≡_ {A = ℕ} 11520 (4096 + bucketCount s)) (sym (c .if1 .left)) refl
+returns-2 c = subst (λ (s : Bool). _≡_ {A = ℕ} 11578 (roomSize s)) (sym (c .if1 .left)) refl
 
 pub room-size-spec : {M : Type 1} → statement M
 room-size-spec = tie.close (tie.spec returns returns-2)

@@ -1,4 +1,4 @@
--- `quantiles::clear_buckets` meets its contract. Assumes nothing.
+-- `quantiles::clear_counts` meets its contract. Assumes nothing.
 use mathlib.Core.Path.{_≡_, _∙_, ap}
 use mathlib.Core.List.{List, _++_}
 use Prim.Native.Nat.{ℕ, _-_}
@@ -6,8 +6,8 @@ use denote.Ref.{now}
 use lib.ListN.{length, take, drop, replicate, length-drop}
 use Rattle.quantiles.proofs.Parts.{whole-part, part-back}
 use borrow.Author.Needs.{needs}
-use Rattle.quantiles.proofs.clear_buckets.Statement.{statement}
-use Rattle.quantiles.proofs.clear_buckets.Tie as tie
+use Rattle.quantiles.proofs.clear_counts.Statement.{statement}
+use Rattle.quantiles.proofs.clear_counts.Tie as tie
 
 sub-clear : tie.Need-sub-clear
 sub-clear c = search needs
@@ -31,7 +31,7 @@ returns c =
     ∙ ap (λ (b : List ℕ). take 4096 (now (a .room)) ++ b)
     (c .before .before .clear .ensures ∙ ap (λ (n : ℕ). replicate n 0) (ap length (whole-part 4096 (now (a .room))) ∙ length-drop 4096 (now (a .room))))
 
-pub clear-buckets-spec : {M : Type 1} → statement M
-clear-buckets-spec =
+pub clear-counts-spec : {M : Type 1} → statement M
+clear-counts-spec =
     tie.close
     (tie.spec sub-clear part-clear-start part-clear-end clear-requires same-length returns)
