@@ -1,4 +1,4 @@
-// The digests of a room: of the samples in their order, or of each bucket that is not empty with its place.
+// The digests of a room: of the samples in their order, or of each bucket and each total that is not empty with its place.
 use quantiles::Quantiles;
 use script::Digest;
 

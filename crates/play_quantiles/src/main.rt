@@ -1,5 +1,7 @@
 // Plays a script of calls on the quantiles, and writes each answer with the state that it leaves.
 // compare/src/parts/quantiles plays the same script on the original, and says what each word is.
+ghost use Prim.Native.Nat.{_≤_};
+
 mod digests;
 
 use percentiles::Showing;
@@ -85,7 +87,35 @@ fn put(room: &mut [u64], at: usize, word: u64) {
     }
 }
 
-fn load_bucket(room: &mut [u64], bucket: u64, count: u64) {
+fn word(room: &[u64], at: usize) -> u64 {
+    if at < room.len() { room[at] } else { 0 }
+}
+
+// The word where the totals begin.
+fn totals(signed: bool) -> usize
+    ensures { λ r. ⌜ r ≤ 18689 ⌝ }
+{
+    if signed { 18689 } else { 11520 }
+}
+
+// A bucket is made to hold a count, and the total of its block goes with it.
+fn load_bucket(state: Quantiles, room: &mut [u64], bucket: u64, count: u64) {
+    let place = (bucket % 16384) as usize;
+    let at = 4096 + place;
+    let block = totals(state.signed) + place / 128;
+    let more = std::num::wrapping_sub_u64(count, word(room, at));
+    let total = std::num::wrapping_add_u64(word(room, block), more);
+    put(room, at, count);
+    put(room, block, total);
+}
+
+// A total is made to hold a count, whatever its buckets hold.
+fn load_total(state: Quantiles, room: &mut [u64], block: u64, count: u64) {
+    put(room, totals(state.signed) + (block % 128) as usize, count);
+}
+
+// A bucket is made to hold a count, whatever the total of its block is.
+fn spoil_bucket(room: &mut [u64], bucket: u64, count: u64) {
     put(room, 4096 + (bucket % 16384) as usize, count);
 }
 
@@ -120,7 +150,15 @@ fn play(state: Quantiles, room: &mut [u64], call: Call) -> Outcome {
         return load(state, room, call);
     }
     if operation == 4 {
-        load_bucket(room, call.a, call.b);
+        load_bucket(state, room, call.a, call.b);
+        return left(state);
+    }
+    if operation == 7 {
+        load_total(state, room, call.a, call.b);
+        return left(state);
+    }
+    if operation == 8 {
+        spoil_bucket(room, call.a, call.b);
         return left(state);
     }
     if operation == 5 {
@@ -163,7 +201,7 @@ fn turn(state: Quantiles, room: &mut [u64]) -> After {
 
 fn main() {
     let mut state = quantiles::fresh(false);
-    let mut room = [0u64; 18689];
+    let mut room = [0u64; 18804];
     let mut turns = u64::MAX;
     while turns > 0 {
         match turn(state, &mut room) {

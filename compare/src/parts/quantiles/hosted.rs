@@ -1,6 +1,7 @@
 //! The same scripts through the library that hosts link, in this process: the port's side of part `host_quantiles`.
 use super::{
-    BUCKET, DIGEST, FRESH, LOAD, PART, PERCENTILE, PERCENTILE_SHORT, RECORD, RECORD_SHORT,
+    BLOCK, BUCKET, DIGEST, FRESH, LOAD, PART, PERCENTILE, PERCENTILE_SHORT, RECORD, RECORD_SHORT,
+    SPOILT, TOTAL,
 };
 use crate::{digest::Digest, part::Part};
 use ambrulicciu::{calls, Value};
@@ -38,7 +39,7 @@ impl Series {
     /// The refusal, whether it was recorded or shows a value, and the value.
     fn play(&mut self, call: &[u64]) -> [u64; 3] {
         let lent = self.room.len()
-            - if call[0] >= RECORD_SHORT {
+            - if matches!(call[0], RECORD_SHORT | PERCENTILE_SHORT) {
                 call[2] as usize
             } else {
                 0
@@ -53,15 +54,19 @@ impl Series {
             }
             PERCENTILE | PERCENTILE_SHORT => {
                 let asked = f64::from_bits(call[1]);
-                // Several at once, as many as the last digit says, are each as alone; one that is not is made a difference.
+                // Several at once, as many as the last digit says, are each as alone, and all are refused where one is; what is not so is
+                // made a difference.
                 let percents = [asked, 50.0, 99.0, 0.0, asked, 100.0, 12.5, 99.9, 50.0];
                 let percents = &percents[..1 + (call[1] ^ self.words[1]) as usize % 9];
                 let (number, present, shown) = self.percentiles(lent, percents);
-                for (percent, value) in percents.iter().zip(&shown) {
-                    if (number, present, vec![*value]) != self.percentiles(lent, &[*percent]) {
-                        return [u64::MAX; 3];
-                    }
+                let alone: Vec<_> = percents.iter().map(|p| self.percentiles(lent, &[*p])).collect();
+                let refused = alone.iter().map(|a| a.0).max().unwrap();
+                let as_alone = || alone.iter().zip(&shown).all(|(a, v)| (present, vec![*v]) == (a.1, a.2.clone()));
+                let untouched = present == 0 && shown.iter().all(|v| *v == JUNK);
+                if number != refused || !(if refused == 0 { as_alone() } else { untouched }) {
+                    return [u64::MAX; 3];
                 }
+                let (number, present, shown) = alone[0].clone();
                 // What has no value is left as it was, and shown as 0.
                 let first = if present == 1 {
                     shown[0]
@@ -74,10 +79,26 @@ impl Series {
                 self.room[4096..].fill(0);
                 self.words[1..].copy_from_slice(&call[1..4]);
             }
-            BUCKET => self.room[4096 + call[1] as usize] = call[2],
+            BUCKET => {
+                let (bucket, totals) = (call[1] as usize, self.totals());
+                let more = call[2].wrapping_sub(self.room[4096 + bucket]);
+                let total = &mut self.room[totals + bucket / BLOCK];
+                *total = total.wrapping_add(more);
+                self.room[4096 + bucket] = call[2];
+            }
+            TOTAL => {
+                let at = self.totals() + call[1] as usize;
+                self.room[at] = call[2];
+            }
+            SPOILT => self.room[4096 + call[1] as usize] = call[2],
             _ => panic!("no operation {}", call[0]),
         }
         [0; 3]
+    }
+
+    /// Where the totals begin: behind 7,424 buckets, or 14,593.
+    fn totals(&self) -> usize {
+        4096 + if self.words[0] != 0 { 14_593 } else { 7424 }
     }
 
     /// The refusal, whether there are values, and the values.
@@ -97,7 +118,7 @@ impl Series {
         (number.into(), present[0], shown)
     }
 
-    /// Of the samples in their order, or of each bucket that is not empty with its place.
+    /// Of the samples in their order, or of each bucket and each total that is not empty with its place.
     fn digest(&self) -> Digest {
         let count = self.words[1] as usize;
         if self.words[1] <= 4096 {

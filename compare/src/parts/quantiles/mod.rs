@@ -19,11 +19,15 @@ const RECORD: u64 = 1;
 const PERCENTILE: u64 = 2;
 /// Count, minimum, maximum: a histogram as a host could hand it over, its buckets empty.
 const LOAD: u64 = 3;
-/// Bucket, count.
+/// Bucket, count; the total of its block goes with it.
 const BUCKET: u64 = 4;
 /// Value or percentile, and by how many words the room is short.
 const RECORD_SHORT: u64 = 5;
 const PERCENTILE_SHORT: u64 = 6;
+/// Block, count: its total alone, whatever its buckets hold.
+const TOTAL: u64 = 7;
+/// Bucket, count: alone, whatever the total of its block is.
+const SPOILT: u64 = 8;
 /// A call whose last word is 1 answers with the digests of samples or buckets too.
 const DIGEST: usize = 7;
 
@@ -34,7 +38,7 @@ pub const PART: Part = Part {
     call_words: 8,
     answer_words: 8,
     lines: &LINES,
-    fresh: || Box::new(Both::Unsigned(Series::fresh())),
+    fresh: || Box::new(Played::fresh(false)),
     scripts: scripts::scripts,
     sample: scripts::sample,
     show,
@@ -50,7 +54,7 @@ pub const PART: Part = Part {
     ],
 };
 
-const LINES: [&str; 35] = [
+const LINES: [&str; 40] = [
     "fresh: unsigned",
     "fresh: signed",
     "record: exact",
@@ -66,6 +70,7 @@ const LINES: [&str; 35] = [
     "record: false at count 2^64-1",
     "record: refused 5, minimum above maximum",
     "record: refused 5, a bucket would pass u64",
+    "record: refused 5, a block total would pass u64",
     "record: refused 5, room short",
     "percentile: empty",
     "percentile: exact",
@@ -81,8 +86,12 @@ const LINES: [&str; 35] = [
     "percentile: subnormal",
     "percentile: rank exactly between two",
     "percentile: refused 5, minimum above maximum",
-    "percentile: refused 5, buckets do not add up to the count",
+    "percentile: refused 5, totals do not add up to the count",
+    "percentile: refused 5, totals add up to the count modulo 2^64 only",
+    "percentile: refused 5, buckets of the block do not add up to its total",
     "percentile: refused 5, signed bucket 14,592",
+    "percentile: served, a block that no rank reads lies",
+    "percentile: first or last rank of a block",
     "percentile: refused 5, room short",
     "percentile: signed histogram",
     "percentile: unsigned histogram",
@@ -92,6 +101,15 @@ enum Both {
     Unsigned(Series<u64>),
     Signed(Series<i64>),
 }
+
+/// The original, and the totals of the blocks, which it does not have: kept here by plain sums.
+struct Played {
+    series: Both,
+    totals: Vec<u64>,
+}
+
+/// Buckets of a block.
+const BLOCK: usize = 128;
 
 /// What both widths have, with values as words.
 macro_rules! each {
@@ -103,42 +121,43 @@ macro_rules! each {
     };
 }
 
-impl Original for Both {
+impl Original for Played {
     fn play(&mut self, call: &mut Call, cover: &mut Cover) -> Answer {
         match call[0] {
             FRESH => {
                 let signed = call[1] != 0;
-                *self = if signed {
-                    Both::Signed(Series::fresh())
-                } else {
-                    Both::Unsigned(Series::fresh())
-                };
+                *self = Played::fresh(signed);
                 cover.reached_if(signed, "fresh: signed");
                 cover.reached_if(!signed, "fresh: unsigned");
-                self.shown(0, false, 0, call)
             }
-            RECORD => self.record(call, cover),
-            PERCENTILE => self.percentile(call, cover),
+            RECORD => return self.record(call, cover),
+            PERCENTILE => return self.percentile(call, cover),
             LOAD => {
-                match self {
+                match &mut self.series {
                     Both::Unsigned(s) => s.load(call[1], call[2], call[3]),
                     Both::Signed(s) => s.load(call[1], call[2] as i64, call[3] as i64),
                 }
-                self.shown(0, false, 0, call)
+                self.totals.fill(0);
             }
             BUCKET => {
-                each!(self, s => s.load_bucket(call[1] as usize, call[2]));
-                self.shown(0, false, 0, call)
+                let bucket = call[1] as usize;
+                let was = self.series.buckets().map_or(0, |b| b[bucket]);
+                let total = &mut self.totals[bucket / BLOCK];
+                *total = total.wrapping_add(call[2].wrapping_sub(was));
+                self.series.load_bucket(bucket, call[2]);
             }
+            TOTAL => self.totals[call[1] as usize] = call[2],
+            SPOILT => self.series.load_bucket(call[1] as usize, call[2]),
             RECORD_SHORT => {
                 cover.reached("record: refused 5, room short");
-                self.shown(WRONG_ROOM, false, 0, call)
+                return self.shown(WRONG_ROOM, false, 0, call);
             }
             _ => {
                 cover.reached("percentile: refused 5, room short");
-                self.shown(WRONG_ROOM, false, 0, call)
+                return self.shown(WRONG_ROOM, false, 0, call);
             }
         }
+        self.shown(0, false, 0, call)
     }
 }
 
@@ -179,18 +198,18 @@ impl Both {
         }
     }
 
-    fn record(&mut self, call: &Call, cover: &mut Cover) -> Answer {
-        let value = call[1];
-        let bucket = self.bucket_of(value);
-        let at = self.buckets().map(|b| b[bucket]);
-        if self.crossed() || at == Some(u64::MAX) {
-            cover.reached(if self.crossed() {
-                "record: refused 5, minimum above maximum"
-            } else {
-                "record: refused 5, a bucket would pass u64"
-            });
-            return self.shown(WRONG_ROOM, false, 0, call);
+    fn load_bucket(&mut self, bucket: usize, count: u64) {
+        each!(self, s => s.load_bucket(bucket, count))
+    }
+    fn percentile(&self, p: f64) -> Option<u64> {
+        match self {
+            Both::Unsigned(s) => s.percentile(p),
+            Both::Signed(s) => s.percentile(p).map(|v| v as u64),
         }
+    }
+
+    /// One sample more, and what it reached; `at` is what its bucket holds.
+    fn record(&mut self, value: u64, at: Option<u64>, bucket: usize, cover: &mut Cover) -> bool {
         let (min, max) = self.ends();
         let some = self.count() > 0;
         let was_exact = self.buckets().is_none();
@@ -200,7 +219,7 @@ impl Both {
         };
         if !recorded {
             cover.reached("record: false at count 2^64-1");
-            return self.shown(0, false, 0, call);
+            return false;
         }
         let (lower, higher) = (self.less(value, min), self.less(max, value));
         cover.reached_if(some && lower, "record: lower minimum");
@@ -222,7 +241,7 @@ impl Both {
             (true, false) => "record: sample 4,097 makes the histogram",
             _ => "record: histogram",
         });
-        self.shown(0, true, 0, call)
+        true
     }
 
     fn shown_of(&self, bucket: usize) -> u64 {
@@ -232,31 +251,17 @@ impl Both {
         }
     }
 
-    fn percentile(&mut self, call: &Call, cover: &mut Cover) -> Answer {
-        if let Some(line) = self.percentile_refusal() {
-            cover.reached(line);
-            return self.shown(WRONG_ROOM, false, 0, call);
+    /// What a histogram shows for a rank whose bucket is known.
+    fn shown_at(&self, bucket: usize, rank: u64) -> u64 {
+        let (min, max) = self.ends();
+        let value = self.shown_of(bucket);
+        if rank == 0 || rank != self.count() - 1 && self.less(value, min) {
+            min
+        } else if rank == self.count() - 1 || self.less(max, value) {
+            max
+        } else {
+            value
         }
-        let p = f64::from_bits(call[1]);
-        let value = match self {
-            Both::Unsigned(s) => s.percentile(p),
-            Both::Signed(s) => s.percentile(p).map(|v| v as u64),
-        };
-        self.reached_by_percentile(p, value, cover);
-        self.shown(0, value.is_some(), value.unwrap_or(0), call)
-    }
-
-    fn percentile_refusal(&self) -> Option<&'static str> {
-        if self.crossed() {
-            return Some("percentile: refused 5, minimum above maximum");
-        }
-        let buckets = self.buckets()?;
-        if matches!(self, Both::Signed(_)) && buckets[14_592] != 0 {
-            return Some("percentile: refused 5, signed bucket 14,592");
-        }
-        let sum: u128 = buckets.iter().map(|b| u128::from(*b)).sum();
-        (sum != u128::from(self.count()))
-            .then_some("percentile: refused 5, buckets do not add up to the count")
     }
 
     fn reached_by_percentile(&self, p: f64, value: Option<u64>, cover: &mut Cover) {
@@ -297,26 +302,142 @@ impl Both {
             cover.reached("percentile: histogram, bucket value");
         }
     }
+}
+
+impl Played {
+    fn fresh(signed: bool) -> Self {
+        let (series, blocks) = if signed {
+            (Both::Signed(Series::fresh()), 115)
+        } else {
+            (Both::Unsigned(Series::fresh()), 58)
+        };
+        let totals = vec![0; blocks];
+        Self { series, totals }
+    }
+
+    fn record(&mut self, call: &Call, cover: &mut Cover) -> Answer {
+        let value = call[1];
+        let bucket = self.series.bucket_of(value);
+        let at = self.series.buckets().map(|b| b[bucket]);
+        let total = self.series.buckets().map(|_| self.totals[bucket / BLOCK]);
+        if self.series.crossed() || at == Some(u64::MAX) || total == Some(u64::MAX) {
+            cover.reached(if self.series.crossed() {
+                "record: refused 5, minimum above maximum"
+            } else if at == Some(u64::MAX) {
+                "record: refused 5, a bucket would pass u64"
+            } else {
+                "record: refused 5, a block total would pass u64"
+            });
+            return self.shown(WRONG_ROOM, false, 0, call);
+        }
+        let was_exact = at.is_none();
+        let recorded = self.series.record(value, at, bucket, cover);
+        match self.series.buckets() {
+            Some(buckets) if was_exact => {
+                let sums = buckets.chunks(BLOCK).map(|block| block.iter().sum());
+                self.totals = sums.collect();
+            }
+            Some(_) if recorded => self.totals[bucket / BLOCK] += 1,
+            _ => {}
+        }
+        self.shown(0, recorded, 0, call)
+    }
+
+    fn percentile(&mut self, call: &Call, cover: &mut Cover) -> Answer {
+        let p = f64::from_bits(call[1]);
+        if self.series.crossed() {
+            cover.reached("percentile: refused 5, minimum above maximum");
+            return self.shown(WRONG_ROOM, false, 0, call);
+        }
+        let Some(buckets) = self.series.buckets() else {
+            let value = self.series.percentile(p);
+            self.series.reached_by_percentile(p, value, cover);
+            return self.shown(0, value.is_some(), value.unwrap_or(0), call);
+        };
+        match self.searched(buckets, p, cover) {
+            Err(line) => {
+                cover.reached(line);
+                self.shown(WRONG_ROOM, false, 0, call)
+            }
+            Ok(place) => {
+                let sum = |b: &[u64]| b.iter().map(|n| u128::from(*n)).sum::<u128>();
+                let sums = buckets.chunks(BLOCK).map(sum);
+                let value = if sums.eq(self.totals.iter().map(|n| u128::from(*n))) {
+                    // Nothing lies: the original's own walk over all buckets.
+                    let value = self.series.percentile(p);
+                    self.series.reached_by_percentile(p, value, cover);
+                    value
+                } else {
+                    cover.reached("percentile: served, a block that no rank reads lies");
+                    Some(self.series.shown_at(place, self.rank(p)))
+                };
+                self.shown(0, value.is_some(), value.unwrap_or(0), call)
+            }
+        }
+    }
+
+    fn rank(&self, p: f64) -> u64 {
+        let last = self.series.count() - 1;
+        (((p / 100.0) * last as f64).round() as u64).min(last)
+    }
+
+    /// The bucket of a percentile's rank by the totals, or why it is refused. Plain sums, in 128 bits.
+    fn searched(&self, buckets: &[u64], p: f64, cover: &mut Cover) -> Result<usize, &'static str> {
+        let count = self.series.count();
+        let sum: u128 = self.totals.iter().map(|n| u128::from(*n)).sum();
+        if sum != u128::from(count) {
+            return Err(if sum as u64 == count {
+                "percentile: refused 5, totals add up to the count modulo 2^64 only"
+            } else {
+                "percentile: refused 5, totals do not add up to the count"
+            });
+        }
+        let rank = self.rank(p);
+        let mut before = 0;
+        let held = |n: &u64| {
+            before += n;
+            rank < before
+        };
+        let block = self.totals.iter().position(held).unwrap();
+        let left = rank - (before - self.totals[block]);
+        let inside = buckets.chunks(BLOCK).nth(block).unwrap();
+        let sum: u128 = inside.iter().map(|n| u128::from(*n)).sum();
+        if sum != u128::from(self.totals[block]) {
+            return Err("percentile: refused 5, buckets of the block do not add up to its total");
+        }
+        if matches!(self.series, Both::Signed(_)) && block == 114 && inside[0] != 0 {
+            return Err("percentile: refused 5, signed bucket 14,592");
+        }
+        let border = left == 0 || left == self.totals[block] - 1;
+        cover.reached_if(border, "percentile: first or last rank of a block");
+        let mut passed = 0;
+        let here = |n: &u64| {
+            passed += n;
+            left < passed
+        };
+        Ok(block * BLOCK + inside.iter().position(here).unwrap())
+    }
 
     fn shown(&self, refusal: u64, flag: bool, value: u64, call: &Call) -> Answer {
-        let (min, max) = self.ends();
+        let (min, max) = self.series.ends();
         let d = if call[DIGEST] == 1 {
             self.digest()
         } else {
             Digest::default()
         };
         let flag = u64::from(flag);
-        let count = self.count();
+        let count = self.series.count();
         answer(&[refusal, flag, value, count, min, max, d.first, d.second])
     }
 
-    /// Of the samples in their order, or of each bucket that is not empty with its place.
+    /// Of the samples in their order, or of each bucket and each total that is not empty with its place.
     fn digest(&self) -> Digest {
-        if let Some(buckets) = self.buckets() {
-            let filled = buckets.iter().enumerate().filter(|(_, n)| **n > 0);
+        if let Some(buckets) = self.series.buckets() {
+            let all = buckets.iter().chain(&self.totals).enumerate();
+            let filled = all.filter(|(_, n)| **n > 0);
             return filled.fold(Digest::default(), |d, (i, n)| d.then(i as u64).then(*n));
         }
-        match self {
+        match &self.series {
             Both::Unsigned(s) => s.samples().unwrap_or(&[]).iter().copied().collect(),
             Both::Signed(s) => s
                 .samples()
@@ -343,7 +464,9 @@ fn show(call: &Call) -> String {
             "load count {} minimum {} maximum {}",
             call[1], call[2], call[3]
         ),
-        BUCKET => format!("bucket {} holds {}", call[1], call[2]),
+        BUCKET => format!("bucket {} holds {}, and its total with it", call[1], call[2]),
+        TOTAL => format!("total {} holds {}", call[1], call[2]),
+        SPOILT => format!("bucket {} alone holds {}", call[1], call[2]),
         RECORD_SHORT => format!("record {} in a room {} words short", call[1], call[2]),
         _ => format!("percentile in a room {} words short", call[2]),
     }

@@ -1,5 +1,8 @@
 //! Scripts for the quantiles.
-use super::{BUCKET, DIGEST, FRESH, LOAD, PERCENTILE, PERCENTILE_SHORT, RECORD, RECORD_SHORT};
+use super::{
+    BLOCK, BUCKET, DIGEST, FRESH, LOAD, PERCENTILE, PERCENTILE_SHORT, RECORD, RECORD_SHORT, SPOILT,
+    TOTAL,
+};
 use crate::{
     part::{call, Call, Script},
     random::Random,
@@ -143,6 +146,8 @@ pub fn scripts(random: &mut Random, long: bool) -> Vec<Script> {
         all.push(near_the_end(random, signed));
         all.push(clamped(random, signed));
         all.push(hostile(signed));
+        all.push(damaged(random, signed));
+        all.push(borders(random, signed, if long { 40_000 } else { 5000 }));
     }
     all
 }
@@ -155,6 +160,7 @@ pub fn sample(random: &mut Random) -> Vec<Script> {
         }
         all.push(near_the_end(random, signed));
         all.push(hostile(signed));
+        all.push(damaged(random, signed));
     }
     all.push(series(random, true, Kind::Narrow, 4098, 4));
     all
@@ -176,8 +182,9 @@ fn near_the_end(random: &mut Random, signed: bool) -> Script {
         script.push(call(LOAD, &[count, value, value]));
         script.push(with_digest(call(BUCKET, &[bucket, count])));
         script.extend(percentiles(random, 3));
-        // Into the full bucket, and into another.
-        for told in [value, value, 5, 6] {
+        // Into the full bucket, into another of its block, and into others.
+        let beside = Series::<u64>::shown(301);
+        for told in [value, value, beside, beside, 5, 6] {
             script.push(with_digest(call(RECORD, &[told])));
         }
         script.extend(percentiles(random, 2));
@@ -219,5 +226,95 @@ fn hostile(signed: bool) -> Script {
         script.push(with_digest(call(PERCENTILE, &[half])));
         script.push(with_digest(call(RECORD, &[4])));
     }
+    script
+}
+
+/// The percentile that has a rank among so many.
+fn of_rank(rank: u64, count: u64) -> Call {
+    call(PERCENTILE, &[(rank as f64 * 100.0 / (count - 1) as f64).to_bits()])
+}
+
+/// A series over many blocks: each rank at and beside a block's border.
+fn borders(random: &mut Random, signed: bool, length: u64) -> Script {
+    let mut script = vec![call(FRESH, &[u64::from(signed)])];
+    let mut blocks = Vec::new();
+    for _ in 0..length {
+        let value = random.sized();
+        let value = if random.chance(500) { value.wrapping_neg() } else { value };
+        script.push(call(RECORD, &[value]));
+        let bucket = if signed {
+            Series::<i64>::bucket_of(value as i64)
+        } else {
+            Series::<u64>::bucket_of(value)
+        };
+        blocks.push(bucket / BLOCK);
+    }
+    blocks.sort_unstable();
+    let border = |r: &u64| *r == 0 || blocks[*r as usize] != blocks[*r as usize - 1];
+    for r in (0..length).filter(border) {
+        for rank in r.saturating_sub(2)..(r + 2).min(length) {
+            script.push(of_rank(rank, length));
+        }
+    }
+    script.push(of_rank(length - 1, length));
+    script
+}
+
+/// A histogram of three blocks, 10,000 samples: 2,000 in the first block, 3,000, 5,000; then totals and buckets are damaged, one by one.
+fn damaged(random: &mut Random, signed: bool) -> Script {
+    let mut script = vec![call(FRESH, &[u64::from(signed)])];
+    let first = if signed { 7296 / 128 + 5 } else { 5 };
+    let ranks = [0, 1, 1999, 2000, 2001, 4999, 5000, 9998, 9999];
+    let (low, high) = if signed { (1u64.wrapping_neg(), 1 << 40) } else { (1, 1 << 40) };
+    let at = |block: u64, i: u64| (first + block) * 128 + i;
+    let loaded = |script: &mut Script| {
+        script.push(call(LOAD, &[10_000, low, high]));
+        for (block, buckets) in [[0, 900, 1100], [1, 1, 2999], [2, 4999, 1]].map(|[b, x, y]| (b, [x, y])) {
+            script.push(call(BUCKET, &[at(block, 0), buckets[0]]));
+            script.push(call(BUCKET, &[at(block, 127), buckets[1]]));
+        }
+    };
+    let asked = |script: &mut Script| script.extend(ranks.map(|r| of_rank(r, 10_000)));
+    loaded(&mut script);
+    asked(&mut script);
+    let wide = if signed { 114 } else { 57 };
+    let mut changes: Vec<Vec<Call>> = vec![
+        // One sample more or less in a block than its total says: served where no rank reads it.
+        vec![call(SPOILT, &[at(0, 0), 901])],
+        vec![call(SPOILT, &[at(1, 127), 2998])],
+        vec![call(SPOILT, &[at(2, 64), 1])],
+        // Two that are even add up.
+        vec![call(SPOILT, &[at(1, 5), 1]), call(SPOILT, &[at(1, 0), 0])],
+        // A block whose buckets add up modulo 2^64 only.
+        vec![call(SPOILT, &[at(1, 5), u64::MAX]), call(SPOILT, &[at(1, 6), 1])],
+        // Totals that do not add up, that do modulo 2^64 only, and that do with each other's samples.
+        vec![call(TOTAL, &[first + 1, 3001])],
+        vec![call(TOTAL, &[first + 1, 2999])],
+        vec![call(TOTAL, &[first + 3, u64::MAX]), call(TOTAL, &[first + 4, 1])],
+        vec![call(TOTAL, &[first, 2001]), call(TOTAL, &[first + 1, 2999])],
+        // A total without samples, and the last block's.
+        vec![call(TOTAL, &[first, 1999]), call(TOTAL, &[first + 3, 1])],
+        vec![call(TOTAL, &[first, 1999]), call(TOTAL, &[wide, 1])],
+        // The last bucket alone: it counts where its block is read.
+        vec![call(SPOILT, &[wide * 128, 1])],
+        vec![call(BUCKET, &[wide * 128, 1]), call(BUCKET, &[at(2, 127), 0])],
+    ];
+    for _ in 0..12 {
+        let bucket = call(SPOILT, &[at(random.below(4), random.below(128)), random.below(3000)]);
+        let total = call(TOTAL, &[first + random.below(4), random.below(3000)]);
+        changes.push(if random.chance(500) { vec![bucket] } else { vec![bucket, total] });
+    }
+    for change in changes {
+        loaded(&mut script);
+        script.extend(change);
+        asked(&mut script);
+        script.push(with_digest(call(RECORD, &[1 << 20])));
+        script.push(of_rank(5000, 10_001));
+    }
+    // A block's total is full, its buckets are not.
+    loaded(&mut script);
+    script.push(call(TOTAL, &[first, u64::MAX]));
+    let value = Series::<u64>::shown((at(0, 3) - if signed { 7296 } else { 0 }) as usize);
+    script.push(with_digest(call(RECORD, &[value])));
     script
 }

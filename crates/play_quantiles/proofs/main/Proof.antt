@@ -7,7 +7,7 @@ use Rattle.play_quantiles.proofs.main.Statement.{statement}
 use Rattle.play_quantiles.proofs.main.Tie as tie
 
 abbrev Inv-loop : tie.InvT-loop
-Inv-loop state₀ room₀ turns₀ state room turns = 18689 ≡ length room
+Inv-loop state₀ room₀ turns₀ state room turns = 18804 ≡ length room
 
 abbrev μ-loop : tie.MeasureT-loop
 μ-loop state₀ room₀ turns₀ state room turns = turns
