@@ -30,7 +30,7 @@
  *       links    65,536    how the tables are searched: shared by keys, probes and offsets
  *       queue    98,304    the monitor's probes that await a reply, if the link is watched
  *     together  475,872    (377,472 without a monitor); ambrulicciu_link below has them all, and a word
- *   A series of quantiles: state 32, room 92,160 (signed: 149,512). A report: a buffer of 1,024. A log: at most 65,536.
+ *   A series of quantiles: state 32, room 92,624 (signed: 150,432). A report: a buffer of 1,024. A log: at most 65,536.
  *   A summary of bit errors, one for each direction: 64.
  *   A room may hold anything when a link is made fresh: it need not be cleared.
  *
@@ -85,8 +85,8 @@ uint8_t ambrulicciu_version(uint32_t *version);
 /* ---- sizes -------------------------------------------------------------------------------------------------------------------------
  * Any other size is refused with AMBRULICCIU_WRONG_ROOM. */
 #define AMBRULICCIU_ROWS 4096                  /* scope::CAPACITY: rows of each room of a link, and of the monitor's queue */
-#define AMBRULICCIU_QUANTILES_ROOM 11520       /* words of the room of an unsigned series */
-#define AMBRULICCIU_QUANTILES_SIGNED_ROOM 18689 /* words of the room of a signed series */
+#define AMBRULICCIU_QUANTILES_ROOM 11578       /* words of the room of an unsigned series */
+#define AMBRULICCIU_QUANTILES_SIGNED_ROOM 18804 /* words of the room of a signed series */
 #define AMBRULICCIU_PERCENTILES_STACK 4096      /* bytes of stack that ambrulicciu_quantiles_percentiles takes at most, on x86-64 */
 #define AMBRULICCIU_RECORD 96                  /* bytes of a record of a log */
 #define AMBRULICCIU_TRAILER 24                 /* bytes of the trailer of a log */
@@ -418,22 +418,27 @@ uint8_t ambrulicciu_clock_quality_summary(const ambrulicciu_clock_quality *quali
  * A series of u64 values, or of i64 values as their two's complement words. Up to 4,096 samples percentiles are exact; beyond, a value
  * shown v' of v has v' at most v and 128*(v-v') at most v, and equals v below 256. Of i64 values this holds of the magnitudes, and the sign
  * is the value's: a negative value is shown at or above itself, -257 as -256, and is exact above -256. In either kind the smallest and the
- * largest sample are shown as they are. */
+ * largest sample are shown as they are.
+ * The room is one range of words: 4,096 samples; from word 4,096 on the buckets, 7,424 (signed: 14,593); behind them, from word 11,520
+ * (signed: 18,689) on, the total of each block of 128 buckets, 58 (signed: 115, the last of one bucket). Up to 4,096 samples buckets and
+ * totals may hold anything; sample 4,097 builds both. */
 
 /* No sample yet; the room may hold anything. `signed_` other than 0: i64 values. Refuses nothing. */
 uint8_t ambrulicciu_quantiles_fresh(ambrulicciu_quantiles *quantiles, uint32_t signed_);
 
 /* One sample: recorded is 1; or 0, and nothing is changed but it, at a count of 2^64-1. The room has AMBRULICCIU_QUANTILES_ROOM words, or
- * AMBRULICCIU_QUANTILES_SIGNED_ROOM. Refuses 5: a room of another size, a minimum above the maximum at a count above 0, a bucket that
- * would pass u64. */
+ * AMBRULICCIU_QUANTILES_SIGNED_ROOM. Refuses 5: a room of another size, a minimum above the maximum at a count above 0, a bucket or
+ * the total of its block that would pass u64. */
 uint8_t ambrulicciu_quantiles_record(ambrulicciu_quantiles *quantiles, uint64_t *room, size_t room_length, uint64_t value,
                                      uint64_t *recorded);
 
 /* The value of each percentile, in the same order; `shown` has as many words as there are percents. present is 0 and `shown` unchanged
  * where there is no sample. A percent that is a NaN or negative counts as 0, one above 100 as 100. Changes only `shown` and `present`.
  * The samples are only read, and not copied: it takes at most AMBRULICCIU_PERCENTILES_STACK bytes of stack.
- * Refuses 5: a room of another size, other lengths of percents and shown, a minimum above the maximum at a count above 0, buckets that do
- * not add up to the count, or a value in the bucket that signed series have no value for. Stack: 4 KB. */
+ * Beyond 4,096 samples it reads the totals and, for each percent, the buckets of the one block that holds its rank.
+ * Refuses 5: a room of another size, other lengths of percents and shown, a minimum above the maximum at a count above 0, totals that do
+ * not add up to the count, or a block that is read whose buckets do not add up to its total, or that has a value in the bucket that signed
+ * series have no value for. One such block refuses all percents. Stack: 4 KB. */
 uint8_t ambrulicciu_quantiles_percentiles(const ambrulicciu_quantiles *quantiles, const uint64_t *room, size_t room_length,
                                           const double *percents, size_t percents_length, uint64_t *shown, size_t shown_length,
                                           uint64_t *present);

@@ -406,7 +406,7 @@ static void try_quality(void) {
 }
 
 static size_t quantile_words(void) {
-    static const size_t sizes[5] = {0, AMBRULICCIU_QUANTILES_ROOM, AMBRULICCIU_QUANTILES_ROOM, AMBRULICCIU_QUANTILES_SIGNED_ROOM, 11521};
+    static const size_t sizes[5] = {0, AMBRULICCIU_QUANTILES_ROOM, AMBRULICCIU_QUANTILES_ROOM, AMBRULICCIU_QUANTILES_SIGNED_ROOM, 11579};
     return sizes[drawn() % 5];
 }
 
@@ -418,6 +418,9 @@ static ambrulicciu_quantiles *quantiles(int read_only, uint64_t *room, size_t wo
         for (uint64_t n = drawn() % 2 ? drawn() % 20 : 4090 + drawn() % 20; n > 0; n--)
             ambrulicciu_quantiles_record(q, room, words, number(), &recorded);
         spoil(q->word, 4);
+        /* a bucket or a total of a histogram, too */
+        if (words > 4096 && drawn() % 4 == 0)
+            room[4096 + drawn() % (words - 4096)] = number();
     }
     return q;
 }

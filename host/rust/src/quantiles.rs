@@ -15,7 +15,7 @@ pub trait Value: Copy {
 
 impl Value for u64 {
     const SIGNED: bool = false;
-    const ROOM: usize = 11520;
+    const ROOM: usize = 11578;
     fn word(self) -> u64 {
         self
     }
@@ -26,7 +26,7 @@ impl Value for u64 {
 
 impl Value for i64 {
     const SIGNED: bool = true;
-    const ROOM: usize = 18689;
+    const ROOM: usize = 18804;
     fn word(self) -> u64 {
         self as u64
     }
