@@ -55,6 +55,20 @@ fn one<T: Value + PartialEq + std::fmt::Debug + original_quantiles::QuantileValu
                 black_box(black_box(&original).percentiles(black_box(PERCENTS)));
             },
         );
+        if mode == "histogram" {
+            let one = [PERCENTS[3]];
+            table.row(
+                &format!("`quantiles_percentiles`, one, {mode}, {kind}"),
+                20,
+                1,
+                || {
+                    calls::quantiles_percentiles(&ours.words, &ours.room, black_box(&one), black_box(&mut shown[..1]), &mut present);
+                },
+                || {
+                    black_box(black_box(&original).percentiles(black_box(one)));
+                },
+            );
+        }
     }
     let mut ours = Quantiles::<T>::new();
     let mut original = original_quantiles::Quantiles::<T>::default();
