@@ -59,9 +59,17 @@ impl Series {
                 let percents = [asked, 50.0, 99.0, 0.0, asked, 100.0, 12.5, 99.9, 50.0];
                 let percents = &percents[..1 + (call[1] ^ self.words[1]) as usize % 9];
                 let (number, present, shown) = self.percentiles(lent, percents);
-                let alone: Vec<_> = percents.iter().map(|p| self.percentiles(lent, &[*p])).collect();
+                let alone: Vec<_> = percents
+                    .iter()
+                    .map(|p| self.percentiles(lent, &[*p]))
+                    .collect();
                 let refused = alone.iter().map(|a| a.0).max().unwrap();
-                let as_alone = || alone.iter().zip(&shown).all(|(a, v)| (present, vec![*v]) == (a.1, a.2.clone()));
+                let as_alone = || {
+                    alone
+                        .iter()
+                        .zip(&shown)
+                        .all(|(a, v)| (present, vec![*v]) == (a.1, a.2.clone()))
+                };
                 let untouched = present == 0 && shown.iter().all(|v| *v == JUNK);
                 if number != refused || !(if refused == 0 { as_alone() } else { untouched }) {
                     return [u64::MAX; 3];

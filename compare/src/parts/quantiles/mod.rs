@@ -464,7 +464,10 @@ fn show(call: &Call) -> String {
             "load count {} minimum {} maximum {}",
             call[1], call[2], call[3]
         ),
-        BUCKET => format!("bucket {} holds {}, and its total with it", call[1], call[2]),
+        BUCKET => format!(
+            "bucket {} holds {}, and its total with it",
+            call[1], call[2]
+        ),
         TOTAL => format!("total {} holds {}", call[1], call[2]),
         SPOILT => format!("bucket {} alone holds {}", call[1], call[2]),
         RECORD_SHORT => format!("record {} in a room {} words short", call[1], call[2]),
