@@ -1,10 +1,10 @@
 -- Worked examples: a search by totals, and where the blocks of a room lie. Assumes nothing.
 use mathlib.Core.Path.{_≡_, refl}
 use mathlib.Core.Bool.{true, false}
-use mathlib.Core.List.{List, [], _∷_}
+use mathlib.Core.List.{[], _∷_}
 use Prim.Native.Nat.{ℕ, _+_, _*_}
-use Rattle.histogram.specs.Histogram.{total, bucketAt, leftAt}
-use Rattle.quantiles.specs.State.{blockCount, roomSize, blockOf}
+use Rattle.histogram.specs.Histogram.{bucketAt, leftAt}
+use Rattle.quantiles.specs.State.{roomSize}
 use Rattle.percentiles.specs.Blocks.{blockEnd}
 
 -- of totals 3, 0 and 5 the third block holds rank 4, and one sample of it lies before that rank

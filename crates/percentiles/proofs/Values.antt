@@ -1,19 +1,19 @@
 -- What is shown for a rank, by its tests. Assumes nothing.
-use mathlib.Core.Path.{_≡_, refl, sym, _∙_, ap, ap₂, subst}
-use mathlib.Core.Bool.{Bool, true, false, not, _&&_, _||_}
+use mathlib.Core.Path.{_≡_, refl, sym, _∙_, ap, subst}
+use mathlib.Core.Bool.{Bool, true, false}
 use mathlib.Core.List.{List, [], _∷_, _++_, map, append-assoc, append-nil}
-use Prim.Native.Nat.{ℕ, zero, suc, _+_, _-_, _≤_, _<_}
+use Prim.Native.Nat.{ℕ, suc, _+_, _-_, _≤_, _<_}
 use native.Mathlib.Omega.{arith}
 use native.Mathlib.Numerals.{add-one}
-use borrow.Author.Tests.{lt-ltb, le-ltb, le-leb, lt-leb, eq-eqb, ne-eqb, eqb-true}
-use lib.Dec.{ltb, leb, eqb}
+use borrow.Author.Tests.{le-leb, lt-leb, eq-eqb, ne-eqb}
+use lib.Dec.{ltb, eqb}
 use lib.Ieee.{Float}
 use lib.ListN.{length, getD, set, take, drop, length-map, drop-of-length-le}
-use lib.Seq.{getD-drop, drop-cons, take-suc, take-all, set-at, length-take-le}
+use lib.Seq.{drop-cons, take-suc, take-all, set-at, length-take-le}
 use Rattle.rank.specs.Rank.{rankOf}
 use Rattle.exact_rank.specs.Rank.{atRank}
 use Rattle.buckets.specs.Buckets.{pick}
-use Rattle.buckets.specs.Signed.{bucketCount, order, valueOf}
+use Rattle.buckets.specs.Signed.{order, valueOf}
 use Rattle.buckets.proofs.SignedFacts.{pick-below, pick-above}
 use Rattle.quantiles.specs.declared.Quantiles.{Quantiles}
 use Rattle.percentiles.specs.Percentiles.{bucketOf, clamped, histogramValue, valueAt, percentile}

@@ -1,14 +1,11 @@
 -- `percentiles::any_lies` meets its contract. The loop's invariant: of the percentiles passed no block lies, so that the others decide. Assumes nothing.
-use mathlib.Core.Path.{_≡_, refl, sym, _∙_, ap, ap₂, subst}
-use mathlib.Core.Bool.{Bool, true, false, not, _&&_}
-use mathlib.Core.List.{List}
-use Prim.Native.Nat.{ℕ, _+_, _-_, _*_, _^_, _≤_, _<_}
+use mathlib.Core.Path.{_≡_, sym, _∙_, ap, subst}
+use Prim.Native.Nat.{ℕ, _-_, _≤_, _<_}
 use native.Mathlib.Omega.{arith}
 use denote.Ref.{now}
-use lib.Dec.{eqb}
-use lib.ListN.{length, getD, take, drop}
+use lib.ListN.{length, getD, drop}
 use lib.Ieee.{nan}
-use Rattle.rank.specs.Rank.{rankOf, rank-below}
+use Rattle.rank.specs.Rank.{rank-below}
 use Rattle.percentiles.specs.Percentiles.{blockAt, lies, anyLies}
 use Rattle.percentiles.proofs.Blocks.{next-lies, next-true, none-left}
 use borrow.Author.Needs.{needs}

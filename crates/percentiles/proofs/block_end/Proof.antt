@@ -1,12 +1,8 @@
 -- `percentiles::block_end` meets its contract. Assumes nothing.
-use mathlib.Core.Path.{_≡_, refl, sym, _∙_, ap, ap₂, subst}
-use mathlib.Core.Bool.{Bool, true, false, not, _&&_}
-use mathlib.Core.List.{List}
-use Prim.Native.Nat.{ℕ, _+_, _-_, _*_, _^_, _≤_, _<_}
+use mathlib.Core.Path.{sym, _∙_, subst}
+use mathlib.Core.Bool.{Bool, true, false}
+use Prim.Native.Nat.{ℕ, _+_, _^_, _≤_, _<_}
 use native.Mathlib.Omega.{arith}
-use denote.Ref.{now}
-use lib.Dec.{eqb}
-use lib.ListN.{length, getD, take, drop}
 use Rattle.buckets.specs.Signed.{bucketCount}
 use Rattle.buckets.proofs.SignedFacts.{pick-below, pick-above}
 use borrow.Author.Needs.{needs}

@@ -1,16 +1,12 @@
 -- `percentiles::block_lies` meets its contract. Assumes nothing.
-use mathlib.Core.Path.{_≡_, refl, sym, _∙_, ap, ap₂, subst}
-use mathlib.Core.Bool.{Bool, true, false, not, _&&_}
+use mathlib.Core.Path.{sym, _∙_, ap₂, subst}
 use mathlib.Core.List.{List}
-use Prim.Native.Nat.{ℕ, _+_, _-_, _*_, _^_, _≤_, _<_}
+use Prim.Native.Nat.{ℕ, _≤_}
 use native.Mathlib.Omega.{arith}
 use denote.Ref.{now}
 use lib.Dec.{eqb}
-use lib.ListN.{length, getD, take, drop}
-use Rattle.buckets.specs.Signed.{bucketCount}
+use lib.ListN.{length}
 use Rattle.histogram.specs.Histogram.{total}
-use Rattle.quantiles.specs.State.{roomSize, totals}
-use Rattle.percentiles.specs.Percentiles.{block}
 use Rattle.percentiles.proofs.Blocks.{block-from, few-below, lent-block, block-length, block-word, last-in, lies-last, lies-other}
 use borrow.Author.Needs.{needs}
 use Rattle.percentiles.proofs.block_lies.Statement.{statement}

@@ -1,12 +1,8 @@
 -- `percentiles::held` meets its contract. Assumes nothing.
-use mathlib.Core.Path.{_≡_, refl, sym, _∙_, ap, ap₂, subst}
-use mathlib.Core.Bool.{Bool, true, false, not, _&&_}
+use mathlib.Core.Path.{_∙_, ap}
 use mathlib.Core.List.{List}
-use Prim.Native.Nat.{ℕ, _+_, _-_, _*_, _^_, _≤_, _<_}
-use native.Mathlib.Omega.{arith}
+use Prim.Native.Nat.{ℕ}
 use denote.Ref.{now}
-use lib.Dec.{eqb}
-use lib.ListN.{length, getD, take, drop}
 use Rattle.histogram.specs.Histogram.{bucketAt, leftAt}
 use Rattle.percentiles.proofs.Blocks.{lent-totals}
 use borrow.Author.Needs.{needs}

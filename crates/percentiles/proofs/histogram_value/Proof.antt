@@ -1,15 +1,8 @@
 -- `percentiles::histogram_value` meets its contract. Assumes nothing.
-use mathlib.Core.Path.{_≡_, sym, _∙_, ap, subst}
-use mathlib.Core.Bool.{Bool, true, false}
-use mathlib.Core.List.{List}
-use Prim.Native.Nat.{ℕ, _+_, _-_, _^_, _≤_, _<_}
-use native.Mathlib.Omega.{arith}
+use mathlib.Core.Path.{_∙_, ap}
+use Prim.Native.Nat.{ℕ}
 use denote.Ref.{now}
-use lib.ListN.{length, getD, take, drop, length-drop}
-use Rattle.buckets.specs.Signed.{bucketCount, valueOf}
-use Rattle.histogram.specs.Histogram.{total, bucketAt}
-use Rattle.histogram.proofs.Sums.{at-below}
-use Rattle.quantiles.proofs.Parts.{whole-part}
+use Rattle.buckets.specs.Signed.{valueOf}
 use Rattle.percentiles.specs.Percentiles.{clamped}
 use Rattle.percentiles.proofs.Values.{shows-min, shows-max, shows-bucket}
 use borrow.Author.Needs.{needs}

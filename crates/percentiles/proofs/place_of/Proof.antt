@@ -1,15 +1,12 @@
 -- `percentiles::place_of` meets its contract. Assumes nothing.
-use mathlib.Core.Path.{_≡_, refl, sym, _∙_, ap, ap₂, subst}
-use mathlib.Core.Bool.{Bool, true, false, not, _&&_}
+use mathlib.Core.Path.{_∙_, ap}
+use mathlib.Core.Bool.{Bool, true, false}
 use mathlib.Core.List.{List}
-use Prim.Native.Nat.{ℕ, _+_, _-_, _*_, _^_, _≤_, _<_}
+use Prim.Native.Nat.{ℕ, _+_, _*_, _^_, _<_}
 use native.Mathlib.Omega.{arith}
 use denote.Ref.{now}
-use lib.Dec.{eqb}
-use lib.ListN.{length, getD, take, drop}
 use Rattle.buckets.specs.Signed.{bucketCount}
 use Rattle.histogram.specs.Histogram.{bucketAt}
-use Rattle.percentiles.specs.Percentiles.{block}
 use Rattle.percentiles.proofs.Blocks.{block-from, block-below, few-below, lent-block, bucket-in, bucket-is, bucket-below}
 use borrow.Author.Needs.{needs}
 use Rattle.percentiles.proofs.place_of.Statement.{statement}

@@ -1,9 +1,7 @@
 -- `percentiles::show_histogram` meets its contract. Assumes nothing.
-use mathlib.Core.Path.{_≡_, refl, sym, _∙_, ap}
-use mathlib.Core.Bool.{Bool, true, false}
+use mathlib.Core.Path.{sym, _∙_, ap}
 use mathlib.Core.List.{List}
 use Prim.Native.Nat.{ℕ}
-use native.Mathlib.Omega.{arith}
 use borrow.Author.Tests.{eqb-true, not-true, not-false}
 use denote.Ref.{now}
 use Rattle.percentiles.specs.declared.Showing.the-variants.{Shown}

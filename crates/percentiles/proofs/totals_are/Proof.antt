@@ -1,15 +1,11 @@
 -- `percentiles::totals_are` meets its contract. Assumes nothing.
-use mathlib.Core.Path.{_≡_, refl, sym, _∙_, ap, ap₂, subst}
-use mathlib.Core.Bool.{Bool, true, false, not, _&&_}
+use mathlib.Core.Path.{sym, _∙_, ap, subst}
 use mathlib.Core.List.{List}
-use Prim.Native.Nat.{ℕ, _+_, _-_, _*_, _^_, _≤_, _<_}
-use native.Mathlib.Omega.{arith}
+use Prim.Native.Nat.{ℕ, _≤_}
 use denote.Ref.{now}
 use lib.Dec.{eqb}
-use lib.ListN.{length, getD, take, drop}
-use Rattle.buckets.specs.Signed.{bucketCount}
+use lib.ListN.{length}
 use Rattle.histogram.specs.Histogram.{total}
-use Rattle.quantiles.specs.State.{totals}
 use Rattle.percentiles.proofs.Blocks.{lent-totals, totals-length, few-blocks}
 use borrow.Author.Needs.{needs}
 use Rattle.percentiles.proofs.totals_are.Statement.{statement}
