@@ -1,6 +1,14 @@
 -- The refusal numbers that document 02 adds, and its limits. Those of document 01 are in crate `scope`.
 use Prim.Native.Nat.{ℕ}
 
+-- an extension area (RFC 8972, section 4) whose header or value passes the end
+abbrev pub passesEnd : ℕ
+passesEnd = 10
+
+-- an item of type 5 or 7 with another length than 12 or 16
+abbrev pub wrongLength : ℕ
+wrongLength = 11
+
 -- a lent room that is too short for what is to be written
 abbrev pub shortRoom : ℕ
 shortRoom = 12

@@ -1,6 +1,10 @@
 // The refusal numbers that document 02 adds to those of document 01, which are in crate `scope`. A crate of its own: the whole core
 // stands on `scope`, and only what a request adds stands on this one. specs/Refusals.antt has the same names for contracts.
 
+// An extension area (RFC 8972, section 4) whose header or value passes the end.
+pub const PASSES_END: u8 = 10;
+// An item of type 5 or 7 with another length than 12 or 16.
+pub const WRONG_LENGTH: u8 = 11;
 // A lent room that is too short for what is to be written.
 pub const SHORT_ROOM: u8 = 12;
 // A pattern text that is empty, has an odd number of digits or a character that is not hexadecimal.
