@@ -1,0 +1,1 @@
+// Worked examples of the extension area: proofs/Examples.antt. No code.
