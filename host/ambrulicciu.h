@@ -70,7 +70,10 @@ extern "C" {
 #define AMBRULICCIU_TOO_LONG 9    /* link_log::TOO_LONG: more than 65,536 bytes */
 #define AMBRULICCIU_BAD_TRAILER 7 /* host_log_read::BAD_TRAILER: no trailer of a log at the end */
 #define AMBRULICCIU_BAD_RECORD 8  /* log_record::BAD_RECORD: a record that is none */
-/* Of bit errors, in this order: */
+/* Of the extension area of a packet, in this order; the first bad item decides: */
+#define AMBRULICCIU_PASSES_END 10   /* scope_requests::PASSES_END: a header or a value that passes the end */
+#define AMBRULICCIU_WRONG_LENGTH 11 /* scope_requests::WRONG_LENGTH: an item of type 5 or 7 with another length than 12 or 16 */
+/* Of bit errors, in this order; 12 also of the area's writers: */
 #define AMBRULICCIU_TOO_MUCH_PADDING 14 /* scope_requests::TOO_MUCH_PADDING: padding above 65,535 bytes, or a sample above 524,280 bits */
 #define AMBRULICCIU_BAD_PATTERN 13      /* scope_requests::BAD_PATTERN: a pattern's text that is none */
 #define AMBRULICCIU_SHORT_ROOM 12       /* scope_requests::SHORT_ROOM: a room too short for what is to be written */
@@ -514,6 +517,62 @@ uint8_t ambrulicciu_bit_summary_record(ambrulicciu_bit_summary *summary, uint64_
 
 /* Changes only `shown`. Refuses nothing. */
 uint8_t ambrulicciu_bit_summary_show(const ambrulicciu_bit_summary *summary, ambrulicciu_bit_figures *shown);
+
+/* ---- the extension area ------------------------------------------------------------------------------------------------------------
+ * Of a packet (RFC 8972, section 4): items one after the other, each a flag byte, a type byte, a 16-bit length and the value, big-endian.
+ * An item is one word, here as in ambrulicciu_bit_observation: its header's four bytes as they stand in the area, the first highest, then 32
+ * bits of where its value begins; the item starts four bytes before. (Of an area of 4 GiB or more these are the low 32 bits.) */
+#define AMBRULICCIU_ITEM_FLAGS(word) ((uint8_t)((word) >> 56))
+#define AMBRULICCIU_ITEM_TYPE(word) ((uint8_t)((word) >> 48))
+#define AMBRULICCIU_ITEM_LENGTH(word) ((uint16_t)((word) >> 32))
+#define AMBRULICCIU_ITEM_VALUE(word) ((uint32_t)(word))
+#define AMBRULICCIU_ITEM(flags, type, length, value)                                                                                       \
+    ((uint64_t)(uint8_t)(flags) << 56 | (uint64_t)(uint8_t)(type) << 48 | (uint64_t)(uint16_t)(length) << 32 | (uint32_t)(value))
+#define AMBRULICCIU_DIRECT_MEASUREMENT 5  /* type of an item; its length is 12 */
+#define AMBRULICCIU_FOLLOW_UP_TELEMETRY 7 /* its length is 16 */
+
+/* The value of a Direct Measurement item. */
+typedef struct {
+    uint32_t s_txc;
+    uint32_t r_rxc;
+    uint32_t r_txc;
+} ambrulicciu_direct_value;
+
+/* The value of a Follow-Up Telemetry item. */
+typedef struct {
+    uint64_t sequence;
+    uint64_t timestamp; /* raw */
+    uint64_t mode;      /* RFC 8972's method: 1 hardware, 2 software, 3 control plane; any other is unknown */
+} ambrulicciu_follow_value;
+
+/* The items of an area, in its order, to the start of `items`, as many as there is place for; `count` is how many there are. No byte is
+ * copied; no bytes have no items. Refuses 10: a header or a value that passes the end; then 11: type 5 or 7 with another length. */
+uint8_t ambrulicciu_area_read(const uint8_t *bytes, size_t bytes_length, uint64_t *items, size_t items_length, uint64_t *count);
+
+/* The items in a row to the start of `bytes`, with their values out of `values`; `length` is how many bytes they take, and the rest of them
+ * stays. The flag byte is written as it is; the reserved bytes of type 7 are written 0. Refuses 10: a value that passes the end of `values`;
+ * then 11: type 5 or 7 with another length; then 12: fewer bytes than the items need. */
+uint8_t ambrulicciu_area_write(const uint64_t *items, size_t items_length, const uint8_t *values, size_t values_length, uint8_t *bytes,
+                               size_t bytes_length, uint64_t *length);
+
+/* The value of an item of type 5. Changes only `counters`. Refuses 11: a length that is not the type's. */
+uint8_t ambrulicciu_counters_read(const uint8_t *value, size_t value_length, ambrulicciu_direct_value *counters);
+
+/* The value of an item of type 7; its reserved bytes are skipped. Changes only `follow`. Refuses 11: a length that is not the type's. */
+uint8_t ambrulicciu_follow_up_read(const uint8_t *value, size_t value_length, ambrulicciu_follow_value *follow);
+
+/* The value of an item of type 5, to the start of `bytes`. Refuses 12: fewer than 12 bytes. */
+uint8_t ambrulicciu_counters_write(uint8_t *bytes, size_t bytes_length, uint32_t sender, uint32_t received, uint32_t transmitted);
+
+/* The value of an item of type 7, to the start of `bytes`, its reserved bytes 0. Refuses 12: fewer than 16 bytes. */
+uint8_t ambrulicciu_follow_up_write(uint8_t *bytes, size_t bytes_length, uint32_t sequence, uint64_t timestamp, uint8_t mode);
+
+/* What a reply's area tells ambrulicciu_observe: the counters and the follow-up (flags AMBRULICCIU_COUNTERS, AMBRULICCIU_FOLLOW_UP and
+ * AMBRULICCIU_UNKNOWN_MODE, and their fields, 0 where there is none). Everything else of `observation` stays. By RFC 8972, section 4: an item
+ * with flag U is skipped, one with flag M ends the reading, and if any has flag I none counts; of two items of one type that count, the first
+ * does. A host that verifies an HMAC makes this call only where it did. Refuses 10: a header or a value that passes the end; then 11: type 5 or 7
+ * with another length. */
+uint8_t ambrulicciu_area_observation(const uint8_t *bytes, size_t bytes_length, ambrulicciu_observation *observation);
 
 /* ---- the log -----------------------------------------------------------------------------------------------------------------------
  * A log is the list of calls on one link: a record of 96 bytes for each, then a trailer of 24 bytes. The program linkreport plays it from

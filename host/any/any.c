@@ -512,6 +512,77 @@ static void try_bits(void) {
     done("bit_summary_show", ambrulicciu_bit_summary_show(summary, figures), "");
 }
 
+/* ---- the extension area */
+
+/* Items in a row, most of them whole: types 5 and 7 with their lengths and without, others, flags; the last may be cut. */
+static size_t an_area(uint8_t *to, size_t most) {
+    size_t at = 0;
+    while (at + 4 <= most && drawn() % 5) {
+        static const uint8_t types[6] = {5, 7, 5, 7, 1, 8};
+        uint8_t type = drawn() % 8 ? types[drawn() % 6] : (uint8_t)drawn();
+        size_t length = type == 5 ? 12 : type == 7 ? 16 : drawn() % 20;
+        if (drawn() % 24 == 0)
+            length = drawn() % 40;
+        if (at + 4 + length > most && drawn() % 2)
+            break;
+        to[at] = (uint8_t)(drawn() % 4 ? 0 : drawn());
+        to[at + 1] = type;
+        to[at + 2] = (uint8_t)(length / 256);
+        to[at + 3] = (uint8_t)length;
+        at += 4 + length;
+    }
+    return at > most ? most : at;
+}
+
+static void try_area(void) {
+    uint8_t plain[160];
+    for (size_t i = 0; i < sizeof plain; i++)
+        plain[i] = (uint8_t)drawn();
+    size_t size = an_area(plain, sizeof plain);
+    if (drawn() % 8 == 0)
+        size = drawn() % sizeof plain;
+    uint8_t *area = lend(size, 1);
+    memcpy(area, plain, size);
+    size_t room = drawn() % 12;
+    uint64_t *items = lend(8 * room, 0), *count = lend(8, 0);
+    ready();
+    done("area_read", ambrulicciu_area_read(area, size, items, room, count), "ab");
+    area = lend(size, 1);
+    memcpy(area, plain, size);
+    ambrulicciu_observation *observation = lend(sizeof *observation, 0);
+    ready();
+    done("area_observation", ambrulicciu_area_observation(area, size, observation), "ab");
+    size_t words = drawn() % 5, values = drawn() % 64, bytes = drawn() % 200;
+    uint64_t *rows = lend(8 * words, 1);
+    for (size_t i = 0; i < words && drawn() % 16; i++) {
+        uint64_t type = drawn() % 4 ? 5 + 2 * (drawn() % 2) : drawn() % 256;
+        uint64_t length = drawn() % 16 ? (type == 5 ? 12 : type == 7 ? 16 : drawn() % 12) : drawn() % 40;
+        rows[i] = AMBRULICCIU_ITEM(drawn(), type, length, drawn() % (values + 1));
+    }
+    uint8_t *from = lend(values, 1), *to = lend(bytes, 0);
+    uint64_t *length = lend(8, 0);
+    ready();
+    done("area_write", ambrulicciu_area_write(rows, words, from, values, to, bytes, length), "abc");
+    size = drawn() % 2 ? 12 : drawn() % 20;
+    area = lend(size, 1);
+    ambrulicciu_direct_value *direct = lend(sizeof *direct, 0);
+    ready();
+    done("counters_read", ambrulicciu_counters_read(area, size, direct), "b");
+    size = drawn() % 2 ? 16 : drawn() % 20;
+    area = lend(size, 1);
+    ambrulicciu_follow_value *follow = lend(sizeof *follow, 0);
+    ready();
+    done("follow_up_read", ambrulicciu_follow_up_read(area, size, follow), "b");
+    size = drawn() % 30;
+    to = lend(size, 0);
+    ready();
+    done("counters_write", ambrulicciu_counters_write(to, size, (uint32_t)number(), (uint32_t)number(), (uint32_t)number()), "c");
+    size = drawn() % 30;
+    to = lend(size, 0);
+    ready();
+    done("follow_up_write", ambrulicciu_follow_up_write(to, size, (uint32_t)number(), number(), (uint8_t)drawn()), "c");
+}
+
 /* ---- logs and reports */
 
 static size_t bytes_of(size_t right) {
@@ -691,7 +762,7 @@ static void try_reports(void) {
 
 int main(int argc, char **argv) {
     static void (*const tries[])(void) = {try_version, try_fresh, try_sent, try_accept, try_observe, try_answered, try_reads, try_watched_sent,
-                                          try_watched_accept, try_monitor, try_estimates, try_quality, try_quantiles, try_bits, try_writers, try_logs, try_trim, try_trimmed, try_again, try_reports};
+                                          try_watched_accept, try_monitor, try_estimates, try_quality, try_quantiles, try_bits, try_area, try_writers, try_logs, try_trim, try_trimmed, try_again, try_reports};
     long rounds = argc > 1 ? atol(argv[1]) : 500;
     seed = argc > 2 ? strtoull(argv[2], NULL, 10) : 1;
     for (long round = 0; round < rounds; round++)

@@ -34,6 +34,10 @@ pub struct Item {
 }
 
 impl Item {
+    pub fn of(word: u64) -> Item {
+        Item { flags: (word >> 56) as u8, kind: (word >> 48) as u8, length: (word >> 32) as u16, start: word as u32 }
+    }
+
     pub fn word(self) -> u64 {
         u64::from(self.flags) << 56 | u64::from(self.kind) << 48 | u64::from(self.length) << 32 | u64::from(self.start)
     }

@@ -251,6 +251,21 @@ extern "C" {
         wanted: u32,
         answer: &mut [u64; 7],
     ) -> u8;
+    fn ambrulicciu_area_read(bytes: *const u8, bytes_length: usize, items: *mut u64, items_length: usize, count: &mut [u64; 1]) -> u8;
+    fn ambrulicciu_area_write(
+        items: *const u64,
+        items_length: usize,
+        values: *const u8,
+        values_length: usize,
+        bytes: *mut u8,
+        bytes_length: usize,
+        length: &mut [u64; 1],
+    ) -> u8;
+    fn ambrulicciu_counters_read(value: *const u8, value_length: usize, counters: &mut [u32; 3]) -> u8;
+    fn ambrulicciu_follow_up_read(value: *const u8, value_length: usize, follow: &mut [u64; 3]) -> u8;
+    fn ambrulicciu_counters_write(bytes: *mut u8, bytes_length: usize, sender: u32, received: u32, transmitted: u32) -> u8;
+    fn ambrulicciu_follow_up_write(bytes: *mut u8, bytes_length: usize, sequence: u32, timestamp: u64, mode: u8) -> u8;
+    fn ambrulicciu_area_observation(bytes: *const u8, bytes_length: usize, observation: &mut Observation) -> u8;
     fn ambrulicciu_bit_summary_fresh(summary: &mut [u64; 8]) -> u8;
     fn ambrulicciu_bit_summary_record(summary: &mut [u64; 8], bits: u64, errors: u32, known: u32, burst: u32) -> u8;
     fn ambrulicciu_bit_summary_show(summary: &[u64; 8], shown: &mut BitFigures) -> u8;
@@ -565,6 +580,34 @@ pub fn clock_quality_summary(quality: &[u64; QUALITY_WORDS], shown: &mut Quality
 
 pub fn parse_pattern(text: &[u8], room: &mut [u8], length: &mut [u64; 1]) -> u8 {
     unsafe { ambrulicciu_parse_pattern(text.as_ptr(), text.len(), room.as_mut_ptr(), room.len(), length) }
+}
+
+pub fn area_read(bytes: &[u8], items: &mut [u64], count: &mut [u64; 1]) -> u8 {
+    unsafe { ambrulicciu_area_read(bytes.as_ptr(), bytes.len(), items.as_mut_ptr(), items.len(), count) }
+}
+
+pub fn area_write(items: &[u64], values: &[u8], bytes: &mut [u8], length: &mut [u64; 1]) -> u8 {
+    unsafe { ambrulicciu_area_write(items.as_ptr(), items.len(), values.as_ptr(), values.len(), bytes.as_mut_ptr(), bytes.len(), length) }
+}
+
+pub fn counters_read(value: &[u8], counters: &mut [u32; 3]) -> u8 {
+    unsafe { ambrulicciu_counters_read(value.as_ptr(), value.len(), counters) }
+}
+
+pub fn follow_up_read(value: &[u8], follow: &mut [u64; 3]) -> u8 {
+    unsafe { ambrulicciu_follow_up_read(value.as_ptr(), value.len(), follow) }
+}
+
+pub fn counters_write(bytes: &mut [u8], sender: u32, received: u32, transmitted: u32) -> u8 {
+    unsafe { ambrulicciu_counters_write(bytes.as_mut_ptr(), bytes.len(), sender, received, transmitted) }
+}
+
+pub fn follow_up_write(bytes: &mut [u8], sequence: u32, timestamp: u64, mode: u8) -> u8 {
+    unsafe { ambrulicciu_follow_up_write(bytes.as_mut_ptr(), bytes.len(), sequence, timestamp, mode) }
+}
+
+pub fn area_observation(bytes: &[u8], observation: &mut Observation) -> u8 {
+    unsafe { ambrulicciu_area_observation(bytes.as_ptr(), bytes.len(), observation) }
 }
 
 pub fn bit_errors(padding: &[u8], pattern: &[u8], counts: &mut [u64; 2]) -> u8 {

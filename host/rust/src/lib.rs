@@ -5,6 +5,7 @@
 //! [`calls`], whose functions are safe: the library is proved to touch no memory but what it is lent, whatever that holds.
 #![deny(unsafe_code)]
 
+mod area;
 mod bits;
 #[allow(unsafe_code)]
 pub mod calls;
@@ -17,6 +18,7 @@ mod quantiles;
 mod refusal;
 mod shown;
 
+pub use area::{area_items, area_of, counters_of, follow_up_of, tell_area, write_counters, write_follow_up, FollowUpValue};
 pub use bits::{bit_errors, bit_observation, pattern_of, BitErrors, BitObservation, BitSummary, Item};
 pub use estimate::{Estimate, Invalid, Parts};
 pub use link::{report_of_log, Accepted, Key, Link, Packet, Rooms, Session, State, Watch};

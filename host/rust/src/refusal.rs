@@ -14,13 +14,15 @@ pub enum Refusal {
     BadTrailer = 7,
     BadRecord = 8,
     TooLong = 9,
+    PassesEnd = 10,
+    WrongLength = 11,
     ShortRoom = 12,
     BadPattern = 13,
     TooMuchPadding = 14,
 }
 
 impl Refusal {
-    const ALL: [Refusal; 12] = [
+    const ALL: [Refusal; 14] = [
         Refusal::OutOfRange,
         Refusal::NotAwaiting,
         Refusal::QueueFull,
@@ -30,6 +32,8 @@ impl Refusal {
         Refusal::BadTrailer,
         Refusal::BadRecord,
         Refusal::TooLong,
+        Refusal::PassesEnd,
+        Refusal::WrongLength,
         Refusal::ShortRoom,
         Refusal::BadPattern,
         Refusal::TooMuchPadding,
@@ -48,6 +52,8 @@ impl fmt::Display for Refusal {
             Refusal::BadTrailer => "no trailer of a log at the end",
             Refusal::BadRecord => "a record that is none",
             Refusal::TooLong => "more than 65,536 bytes",
+            Refusal::PassesEnd => "a header or a value that passes the end of the area",
+            Refusal::WrongLength => "an item of type 5 or 7 with another length",
             Refusal::ShortRoom => "a room too short for what is to be written",
             Refusal::BadPattern => "a pattern that is no hexadecimal text",
             Refusal::TooMuchPadding => "padding above 65,535 bytes, or a sample of more bits than that",
