@@ -1,0 +1,3 @@
+mod Ways
+mod Spans
+pub mod Determined

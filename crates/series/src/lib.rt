@@ -1,0 +1,144 @@
+// What `RttCollector::record` and `OwdDirection::record` of src/stats.rs share: the quantiles of a series of samples whose sums stand beside
+// them, and a sum with one sample more.
+use delays::DelaySummary;
+use delays::Delays;
+use delays::Extreme;
+use delays::Nanoseconds;
+use delays::Sum;
+use quantiles::Quantiles;
+use quantiles::Recording;
+ghost use mathlib.Core.Path.{_≡_};
+ghost use mathlib.Core.Bool.{false};
+ghost use Prim.Native.Nat.{_^_, _<_};
+ghost use lib.IntN.{_+ℤ_};
+ghost use Rattle.delays.specs.Sums.{nanosecondsOf, valueOf, totalOf, sumOf};
+ghost use Rattle.delays.specs.Summary.{summaryOf};
+ghost use Rattle.series.specs.Series.{sumFits, outcome, recordedBeside};
+ghost use Rattle.series.specs.Shown.{spanAt, extremeOf, delaysOf};
+
+// What a sample comes to: refusal 5; refusal 4; Rust's false; or true, with the quantiles after it.
+pub enum Sampling {
+    Refused,
+    SumsFull,
+    Full,
+    Counted(Quantiles),
+}
+
+// A sum's high word at this is a magnitude of 2^126.
+const HIGH_BOUND: u64 = 4611686018427387904;
+
+const MOST: u64 = 18446744073709551615;
+
+// The sum is below its bound.
+pub fn sum_fits(sum: Sum) -> bool
+    ensures { λ r. ⌜ r ≡ sumFits sum ⌝ }
+{
+    sum.high < HIGH_BOUND
+}
+
+// A sum with one sample more, as crate delays adds it.
+pub fn sum_with(sum: Sum, ns: Nanoseconds) -> Sum
+    requires { ⌜ sum .high < 2 ^ 62 ⌝ }
+    ensures { λ r. ⌜ r ≡ sumOf (totalOf sum +ℤ valueOf ns) ⌝ }
+{
+    let before = Delays {
+        count: 0,
+        sum: sum,
+        min: Extreme::Absent,
+        max: Extreme::Absent,
+    };
+    let after = before.recorded(ns);
+    after.sum
+}
+
+// Which refusal it is where the sums have no room. The quantiles' own comes first. A histogram is asked at a full count, at which its `record`
+// changes nothing.
+fn refused_beside(q: Quantiles, room: &mut [u64], value: u64) -> Sampling
+    ensures { λ r. ⌜ outcome q r (now (room .exit)) ≡ recordedBeside false q (now (room .entry)) value ⌝ }
+{
+    if q.count <= 4096 {
+        if room.len() != quantiles::room_size(q.signed) {
+            return Sampling::Refused;
+        }
+        if quantiles::min_above_max(q) {
+            return Sampling::Refused;
+        }
+        return Sampling::SumsFull;
+    }
+    let full = Quantiles {
+        signed: q.signed,
+        count: MOST,
+        min: q.min,
+        max: q.max,
+    };
+    let answer = full.record(room, value);
+    match answer {
+        Recording::Refused => Sampling::Refused,
+        Recording::Full => Sampling::SumsFull,
+        Recording::Counted(next) => Sampling::Full,
+    }
+}
+
+// `record` of the quantiles, where `fits` says that the sums beside them have room for a sample.
+pub fn record_beside(fits: bool, q: Quantiles, room: &mut [u64], value: u64) -> Sampling
+    ensures { λ r. ⌜ outcome q r (now (room .exit)) ≡ recordedBeside fits q (now (room .entry)) value ⌝ }
+{
+    if fits {
+        let answer = q.record(room, value);
+        return match answer {
+            Recording::Refused => Sampling::Refused,
+            Recording::Full => Sampling::Full,
+            Recording::Counted(next) => Sampling::Counted(next),
+        };
+    }
+    refused_beside(q, room, value)
+}
+
+// The time span that a word of a series says.
+pub fn span_of(signed: bool, word: u64) -> Nanoseconds
+    ensures { λ r. ⌜ r ≡ nanosecondsOf (spanAt signed word) ⌝ }
+{
+    if signed {
+        if word < 9223372036854775808 {
+            return Nanoseconds {
+                negative: false,
+                magnitude: word,
+            };
+        }
+        return Nanoseconds {
+            negative: true,
+            magnitude: 18446744073709551615 - word + 1,
+        };
+    }
+    Nanoseconds {
+        negative: false,
+        magnitude: word,
+    }
+}
+
+// The smallest or the largest sample; at count 0 there is none.
+fn extreme_of(count: u64, ns: Nanoseconds) -> Extreme
+    ensures { λ r. ⌜ r ≡ extremeOf count ns ⌝ }
+{
+    if count == 0 {
+        return Extreme::Absent;
+    }
+    Extreme::At(ns)
+}
+
+// Minimum, average and maximum in ms, as crate delays shows them. Refuses nothing.
+pub fn summary(q: Quantiles, sum: Sum) -> DelaySummary
+    ensures { λ r. ⌜ r ≡ summaryOf (delaysOf q sum) ⌝ }
+{
+    let least = span_of(q.signed, q.min);
+    let most = span_of(q.signed, q.max);
+    let min = extreme_of(q.count, least);
+    let max = extreme_of(q.count, most);
+    let delays = Delays {
+        count: q.count,
+        sum: sum,
+        min: min,
+        max: max,
+    };
+    delays.summary()
+}
