@@ -1,0 +1,148 @@
+// `OwdDirection` of src/stats.rs, forward and reverse, each with its quantiles and its sum. Their two rooms lie in one lent slice: the reverse
+// part begins where the forward part ends. Its smallest and largest sample are the quantiles' own. An i64 is its two's complement word.
+use delays::Sum;
+use quantiles::Quantiles;
+use series::Sampling;
+ghost use mathlib.Core.Path.{_≡_};
+ghost use mathlib.Core.Bool.{true};
+ghost use Prim.Native.Nat.{_+_, _≤_};
+ghost use lib.ListN.{length};
+ghost use Rattle.series.specs.Series.{sumFits};
+ghost use Rattle.directions.specs.Direction.{fresh, grownOf, outcome, recordTo};
+ghost use Rattle.directions.specs.Directions.{partSize, startOf, own, recordPart, Untouched, freshBoth, outcomeBoth, recordIn};
+
+pub struct OwdDirection {
+    pub quantiles: Quantiles,
+    pub sum: Sum,
+}
+
+// What recording a sample answers: refusal 5; refusal 4; Rust's false; or true, with the direction as it then stands.
+pub enum Recording {
+    Refused,
+    SumsFull,
+    Full,
+    Counted(OwdDirection),
+}
+
+impl OwdDirection {
+    // `Default`: no samples yet. What the room holds then does not matter.
+    pub fn new() -> OwdDirection
+        ensures { λ r. ⌜ r ≡ fresh ⌝ }
+    {
+        OwdDirection {
+            quantiles: Quantiles {
+                signed: true,
+                count: 0,
+                min: 0,
+                max: 0,
+            },
+            sum: Sum {
+                negative: false,
+                high: 0,
+                low: 0,
+            },
+        }
+    }
+
+    // One sample more, once the quantiles have it.
+    fn grown(self, next: Quantiles, value: u64) -> OwdDirection
+        requires { ⌜ sumFits (self .sum) ≡ true ⌝ }
+        ensures { λ r. ⌜ r ≡ grownOf self next value ⌝ }
+    {
+        let before = self.sum;
+        let ns = series::span_of(true, value);
+        let sum = series::sum_with(before, ns);
+        OwdDirection {
+            quantiles: next,
+            sum,
+        }
+    }
+
+    // `record`: one sample more, in the room that holds the others.
+    pub fn record(self, room: &mut [u64], value: u64) -> Recording
+        ensures { λ r. ⌜ outcome self r (now (room .exit)) ≡ recordTo self (now (room .entry)) value ⌝ }
+    {
+        let quantiles = self.quantiles;
+        let sum = self.sum;
+        let fits = series::sum_fits(sum);
+        let answer = series::record_beside(fits, quantiles, room, value);
+        match answer {
+            Sampling::Refused => Recording::Refused,
+            Sampling::SumsFull => Recording::SumsFull,
+            Sampling::Full => Recording::Full,
+            Sampling::Counted(next) => {
+                let after = self.grown(next, value);
+                Recording::Counted(after)
+            }
+        }
+    }
+}
+
+// A sample of the direction whose part begins at `start`: that part is lent on.
+fn record_part(direction: OwdDirection, slice: &mut [u64], start: usize, value: u64) -> Recording
+    requires { ⌜ start + partSize ≤ length (now slice) ⌝ }
+    ensures { λ r. ⌜ (outcome direction r (now (slice .exit)) ≡ recordPart direction (now (slice .entry)) start value) × Untouched start (now (slice .entry)) (now (slice .exit)) ⌝ }
+{
+    let size = quantiles::room_size(true);
+    let end = start + size;
+    direction.record(&mut slice[start..end], value)
+}
+
+// The forward direction is T2 - T1, from sender to reflector; the reverse T4 - T3.
+pub struct Directions {
+    pub forward: OwdDirection,
+    pub reverse: OwdDirection,
+}
+
+// What a sample of one direction answers: refusal 5; refusal 4; Rust's false; or true, with both as they then stand.
+pub enum Measuring {
+    Refused,
+    SumsFull,
+    Full,
+    Counted(Directions),
+}
+
+impl Directions {
+    // No samples yet, in either.
+    pub fn new() -> Directions
+        ensures { λ r. ⌜ r ≡ freshBoth ⌝ }
+    {
+        let forward = OwdDirection::new();
+        let reverse = OwdDirection::new();
+        Directions { forward, reverse }
+    }
+
+    // A sample of the one direction or the other, in its part of the slice. The other's part is left untouched.
+    pub fn record(self, slice: &mut [u64], reverse: bool, value: u64) -> Measuring
+        ensures { λ r. ⌜ (outcomeBoth self r (now (slice .exit)) ≡ recordIn self (now (slice .entry)) reverse value) × Untouched (startOf reverse) (now (slice .entry)) (now (slice .exit)) ⌝ }
+    {
+        let size = quantiles::room_size(true);
+        if slice.len() < size + size {
+            return Measuring::Refused;
+        }
+        let forth = self.forward;
+        let back = self.reverse;
+        if reverse {
+            let answer = record_part(back, slice, size, value);
+            return match answer {
+                Recording::Refused => Measuring::Refused,
+                Recording::SumsFull => Measuring::SumsFull,
+                Recording::Full => Measuring::Full,
+                Recording::Counted(next) => Measuring::Counted(Directions {
+                    forward: forth,
+                    reverse: next,
+                }),
+            };
+        }
+        let answer = record_part(forth, slice, 0, value);
+        match answer {
+            Recording::Refused => Measuring::Refused,
+            Recording::SumsFull => Measuring::SumsFull,
+            Recording::Full => Measuring::Full,
+            Recording::Counted(next) => Measuring::Counted(Directions {
+                forward: next,
+                reverse: back,
+            }),
+        }
+    }
+}
