@@ -32,6 +32,7 @@
  *     together  475,872    (377,472 without a monitor); ambrulicciu_link below has them all, and a word
  *   A series of quantiles: state 32, room 92,624 (signed: 150,432). A report: a buffer of 1,024. A log: at most 65,536.
  *   A summary of bit errors, one for each direction: 64.
+ *   A series of round trips with its spread: state 96, room 92,624. One-way delays in both directions: state 96, slice 300,864.
  *   A room may hold anything when a link is made fresh: it need not be cleared.
  *
  * A HOST IN SHORT (host/c has a whole one)
@@ -90,6 +91,7 @@ uint8_t ambrulicciu_version(uint32_t *version);
 #define AMBRULICCIU_ROWS 4096                  /* scope::CAPACITY: rows of each room of a link, and of the monitor's queue */
 #define AMBRULICCIU_QUANTILES_ROOM 11578       /* words of the room of an unsigned series */
 #define AMBRULICCIU_QUANTILES_SIGNED_ROOM 18804 /* words of the room of a signed series */
+#define AMBRULICCIU_DIRECTIONS_SLICE 37608      /* words of the slice of both directions: two rooms of a signed series; it may be longer */
 #define AMBRULICCIU_PERCENTILES_STACK 4096      /* bytes of stack that ambrulicciu_quantiles_percentiles takes at most, on x86-64 */
 #define AMBRULICCIU_RECORD 96                  /* bytes of a record of a log */
 #define AMBRULICCIU_TRAILER 24                 /* bytes of the trailer of a log */
@@ -107,6 +109,7 @@ typedef struct { uint64_t word[12]; } ambrulicciu_monitor;
 typedef struct { uint64_t word[16]; } ambrulicciu_clock_quality;
 typedef struct { uint64_t word[4]; } ambrulicciu_quantiles;
 typedef struct { uint64_t word[8]; } ambrulicciu_bit_summary;
+typedef struct { uint64_t word[12]; } ambrulicciu_directions;
 typedef struct { uint64_t word[2]; } ambrulicciu_key;
 typedef struct { uint64_t word[3]; } ambrulicciu_slot;
 typedef struct { uint64_t word[4]; } ambrulicciu_probe;
@@ -573,6 +576,57 @@ uint8_t ambrulicciu_follow_up_write(uint8_t *bytes, size_t bytes_length, uint32_
  * does. A host that verifies an HMAC makes this call only where it did. Refuses 10: a header or a value that passes the end; then 11: type 5 or 7
  * with another length. */
 uint8_t ambrulicciu_area_observation(const uint8_t *bytes, size_t bytes_length, ambrulicciu_observation *observation);
+
+/* ---- spread, jitter and both directions --------------------------------------------------------------------------------------------
+ * A series of round trips with its quantiles, its sum, the centered Welford steps and the successive differences; and one-way delays, forward
+ * (T2 - T1) and reverse (T4 - T3), each with its quantiles and its sum. Percentiles are those of ambrulicciu_quantiles_percentiles, with a
+ * state whose words are 0 (one-way delays: 1), count, minimum and maximum, and the room, or the direction's part of the slice. */
+
+/* A series of round trips. Unlike the states above its words have names: a host reads jitter and deviation from them. With no sample, at count
+ * 0, the others mean nothing. The mean absolute successive difference in ns, the original's jitter, is the two words of jitter_sum divided by
+ * jitter_count in whole numbers, rounded down, and absent while jitter_count is 0: with a 128-bit type
+ * ((unsigned __int128)jitter_high << 64 | jitter_low) / jitter_count. The population standard deviation in ns is the square root of m2 divided
+ * by count, both as double, and of 0 where that is negative; absent below a count of 2: sqrt(fmax(m2 / (double)count, 0)). Each divided by
+ * 1,000,000 is in ms. The mean in ns is origin + mean. No claim is made of how accurate mean and m2 are. */
+typedef struct {
+    uint64_t count;
+    uint64_t minimum;
+    uint64_t maximum;
+    uint64_t sum_high;
+    uint64_t sum_low;
+    uint64_t origin;       /* the first sample */
+    double mean;           /* of the samples less the origin, in ns */
+    double m2;             /* the sum of squares around it */
+    uint64_t jitter_high;  /* the sum of absolute successive differences */
+    uint64_t jitter_low;
+    uint64_t jitter_count; /* how many differences */
+    uint64_t last;         /* the last sample */
+} ambrulicciu_spread;
+
+/* No sample yet; the room may hold anything. Refuses nothing. */
+uint8_t ambrulicciu_spread_fresh(ambrulicciu_spread *spread);
+
+/* One sample: recorded is 1; or 0, and nothing is changed but it, at a count of 2^64-1. The room has AMBRULICCIU_QUANTILES_ROOM words.
+ * Refuses 5: as ambrulicciu_quantiles_record does; 4: one of the two sums at 2^126, or the count of differences at 2^63, or beyond. Both come
+ * before the answer 0. */
+uint8_t ambrulicciu_spread_record(ambrulicciu_spread *spread, uint64_t *room, size_t room_length, uint64_t value, uint64_t *recorded);
+
+/* Minimum, average and maximum in ms. Changes only `shown`. Refuses nothing. */
+uint8_t ambrulicciu_spread_show(const ambrulicciu_spread *spread, ambrulicciu_delays *shown);
+
+/* No sample yet, in either direction; the slice may hold anything. Refuses nothing. */
+uint8_t ambrulicciu_directions_fresh(ambrulicciu_directions *directions);
+
+/* One sample of the forward direction, or of the reverse one where `reverse` is other than 0; `value` is the two's complement word of an i64.
+ * The forward room is the first AMBRULICCIU_QUANTILES_SIGNED_ROOM words of the slice, the reverse room as many after them, and only the
+ * sample's own part is written. recorded is 1; or 0, and nothing is changed but it, at a count of 2^64-1.
+ * Refuses 5: a slice shorter than AMBRULICCIU_DIRECTIONS_SLICE, and as ambrulicciu_quantiles_record does; 4: the direction's sum at a magnitude
+ * of 2^126 or beyond. Both come before the answer 0. */
+uint8_t ambrulicciu_directions_record(ambrulicciu_directions *directions, uint64_t *slice, size_t slice_length, uint32_t reverse,
+                                      uint64_t value, uint64_t *recorded);
+
+/* Minimum, average and maximum of a direction in ms. Changes only `shown`. Refuses nothing. */
+uint8_t ambrulicciu_directions_show(const ambrulicciu_directions *directions, uint32_t reverse, ambrulicciu_delays *shown);
 
 /* ---- the log -----------------------------------------------------------------------------------------------------------------------
  * A log is the list of calls on one link: a record of 96 bytes for each, then a trailer of 24 bytes. The program linkreport plays it from

@@ -583,6 +583,53 @@ static void try_area(void) {
     done("follow_up_write", ambrulicciu_follow_up_write(to, size, (uint32_t)number(), number(), (uint8_t)drawn()), "c");
 }
 
+/* ---- spread and both directions */
+
+static void try_spread(void) {
+    ambrulicciu_spread *spread = lend(sizeof *spread, 0);
+    ready();
+    done("spread_fresh", ambrulicciu_spread_fresh(spread), "");
+    size_t words = quantile_words();
+    uint64_t *room = lend(8 * words, 0), other;
+    spread = lend(sizeof *spread, 0);
+    if (drawn() % 8) {
+        ambrulicciu_spread_fresh(spread);
+        for (uint64_t n = drawn() % 2 ? drawn() % 20 : 4090 + drawn() % 20; n > 0; n--)
+            ambrulicciu_spread_record(spread, room, words, number(), &other);
+        spoil((uint64_t *)spread, 12);
+    }
+    uint64_t *recorded = lend(8, 0);
+    ready();
+    done("spread_record", ambrulicciu_spread_record(spread, room, words, number(), recorded), "54");
+    spread = lend(sizeof *spread, 1);
+    ambrulicciu_delays *shown = lend(sizeof *shown, 0);
+    ready();
+    done("spread_show", ambrulicciu_spread_show(spread, shown), "");
+}
+
+static void try_directions(void) {
+    static const size_t sizes[4] = {0, AMBRULICCIU_DIRECTIONS_SLICE - 1, AMBRULICCIU_DIRECTIONS_SLICE, AMBRULICCIU_DIRECTIONS_SLICE + 3};
+    ambrulicciu_directions *directions = lend(sizeof *directions, 0);
+    ready();
+    done("directions_fresh", ambrulicciu_directions_fresh(directions), "");
+    size_t words = sizes[drawn() % 4];
+    uint64_t *slice = lend(8 * words, 0), other;
+    directions = lend(sizeof *directions, 0);
+    if (drawn() % 8) {
+        ambrulicciu_directions_fresh(directions);
+        for (uint64_t n = drawn() % 2 ? drawn() % 20 : 4090 + drawn() % 20; n > 0; n--)
+            ambrulicciu_directions_record(directions, slice, words, drawn() % 8 == 0, number(), &other);
+        spoil(directions->word, 12);
+    }
+    uint64_t *recorded = lend(8, 0);
+    ready();
+    done("directions_record", ambrulicciu_directions_record(directions, slice, words, (uint32_t)number(), number(), recorded), "54");
+    directions = lend(sizeof *directions, 1);
+    ambrulicciu_delays *shown = lend(sizeof *shown, 0);
+    ready();
+    done("directions_show", ambrulicciu_directions_show(directions, (uint32_t)number(), shown), "");
+}
+
 /* ---- logs and reports */
 
 static size_t bytes_of(size_t right) {
@@ -762,7 +809,7 @@ static void try_reports(void) {
 
 int main(int argc, char **argv) {
     static void (*const tries[])(void) = {try_version, try_fresh, try_sent, try_accept, try_observe, try_answered, try_reads, try_watched_sent,
-                                          try_watched_accept, try_monitor, try_estimates, try_quality, try_quantiles, try_bits, try_area, try_writers, try_logs, try_trim, try_trimmed, try_again, try_reports};
+                                          try_watched_accept, try_monitor, try_estimates, try_quality, try_quantiles, try_bits, try_area, try_spread, try_directions, try_writers, try_logs, try_trim, try_trimmed, try_again, try_reports};
     long rounds = argc > 1 ? atol(argv[1]) : 500;
     seed = argc > 2 ? strtoull(argv[2], NULL, 10) : 1;
     for (long round = 0; round < rounds; round++)

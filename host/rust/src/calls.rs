@@ -5,7 +5,7 @@
 //! library asks of its caller; every content is allowed, and it keeps nothing after the call.
 #![allow(clippy::too_many_arguments)]
 
-use crate::shown::{Figures, Quality};
+use crate::shown::{Delays, Figures, Quality};
 
 /// How many words a ledger has.
 pub const LEDGER_WORDS: usize = 80;
@@ -269,6 +269,25 @@ extern "C" {
     fn ambrulicciu_bit_summary_fresh(summary: &mut [u64; 8]) -> u8;
     fn ambrulicciu_bit_summary_record(summary: &mut [u64; 8], bits: u64, errors: u32, known: u32, burst: u32) -> u8;
     fn ambrulicciu_bit_summary_show(summary: &[u64; 8], shown: &mut BitFigures) -> u8;
+    fn ambrulicciu_spread_fresh(spread: &mut [u64; 12]) -> u8;
+    fn ambrulicciu_spread_record(
+        spread: &mut [u64; 12],
+        room: *mut u64,
+        room_length: usize,
+        value: u64,
+        recorded: &mut [u64; 1],
+    ) -> u8;
+    fn ambrulicciu_spread_show(spread: &[u64; 12], shown: &mut Delays) -> u8;
+    fn ambrulicciu_directions_fresh(directions: &mut [u64; 12]) -> u8;
+    fn ambrulicciu_directions_record(
+        directions: &mut [u64; 12],
+        slice: *mut u64,
+        slice_length: usize,
+        reverse: u32,
+        value: u64,
+        recorded: &mut [u64; 1],
+    ) -> u8;
+    fn ambrulicciu_directions_show(directions: &[u64; 12], reverse: u32, shown: &mut Delays) -> u8;
     fn ambrulicciu_quantiles_fresh(quantiles: &mut [u64; 4], signed: u32) -> u8;
     fn ambrulicciu_quantiles_record(
         quantiles: &mut [u64; 4],
@@ -641,6 +660,30 @@ pub fn bit_summary_record(summary: &mut [u64; 8], bits: u64, errors: u32, known:
 
 pub fn bit_summary_show(summary: &[u64; 8], shown: &mut BitFigures) -> u8 {
     unsafe { ambrulicciu_bit_summary_show(summary, shown) }
+}
+
+pub fn spread_fresh(spread: &mut [u64; 12]) -> u8 {
+    unsafe { ambrulicciu_spread_fresh(spread) }
+}
+
+pub fn spread_record(spread: &mut [u64; 12], room: &mut [u64], value: u64, recorded: &mut [u64; 1]) -> u8 {
+    unsafe { ambrulicciu_spread_record(spread, room.as_mut_ptr(), room.len(), value, recorded) }
+}
+
+pub fn spread_show(spread: &[u64; 12], shown: &mut Delays) -> u8 {
+    unsafe { ambrulicciu_spread_show(spread, shown) }
+}
+
+pub fn directions_fresh(directions: &mut [u64; 12]) -> u8 {
+    unsafe { ambrulicciu_directions_fresh(directions) }
+}
+
+pub fn directions_record(directions: &mut [u64; 12], slice: &mut [u64], reverse: u32, value: u64, recorded: &mut [u64; 1]) -> u8 {
+    unsafe { ambrulicciu_directions_record(directions, slice.as_mut_ptr(), slice.len(), reverse, value, recorded) }
+}
+
+pub fn directions_show(directions: &[u64; 12], reverse: u32, shown: &mut Delays) -> u8 {
+    unsafe { ambrulicciu_directions_show(directions, reverse, shown) }
 }
 
 pub fn quantiles_fresh(quantiles: &mut [u64; 4], signed: u32) -> u8 {

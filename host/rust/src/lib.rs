@@ -17,6 +17,7 @@ mod quality;
 mod quantiles;
 mod refusal;
 mod shown;
+mod spread;
 
 pub use area::{area_items, area_of, counters_of, follow_up_of, tell_area, write_counters, write_follow_up, FollowUpValue};
 pub use bits::{bit_errors, bit_observation, pattern_of, BitErrors, BitObservation, BitSummary, Item};
@@ -28,6 +29,7 @@ pub use quality::ClockQuality;
 pub use quantiles::{Quantiles, Value};
 pub use refusal::{served, Refusal};
 pub use shown::{Delays, Direct, Figures, FollowUps, LastEstimate, Maybe, Point, Quality};
+pub use spread::{Directions, Spread};
 
 /// Rows of each room of a link, and of the monitor's queue.
 pub const ROWS: usize = 4096;

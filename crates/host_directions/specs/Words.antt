@@ -1,0 +1,28 @@
+-- Both directions in twelve lent words, six each. Assumes nothing.
+use mathlib.Core.Bool.{true}
+use mathlib.Core.List.{List, [], _∷_}
+use Prim.Native.Nat.{ℕ}
+use lib.ListN.{getD}
+use Rattle.host_numbers.specs.Numbers.{flagWord, isSet}
+use Rattle.directions.specs.declared.Directions.{Directions}
+
+-- what twelve words say, whatever they hold
+abbrev pub directionsAt : List ℕ → Directions
+directionsAt ws = record {
+  forward = record {
+    quantiles = record { signed = true; count = getD ws 0 0; min = getD ws 1 0; max = getD ws 2 0 };
+    sum = record { negative = isSet (getD ws 3 0); high = getD ws 4 0; low = getD ws 5 0 };
+  };
+  reverse = record {
+    quantiles = record { signed = true; count = getD ws 6 0; min = getD ws 7 0; max = getD ws 8 0 };
+    sum = record { negative = isSet (getD ws 9 0); high = getD ws 10 0; low = getD ws 11 0 };
+  };
+}
+
+-- the twelve words of both
+abbrev pub directionsWords : Directions → List ℕ
+directionsWords ds =
+    ds .forward .quantiles .count ∷ ds .forward .quantiles .min ∷ ds .forward .quantiles .max
+    ∷ flagWord (ds .forward .sum .negative) ∷ ds .forward .sum .high ∷ ds .forward .sum .low
+    ∷ ds .reverse .quantiles .count ∷ ds .reverse .quantiles .min ∷ ds .reverse .quantiles .max
+    ∷ flagWord (ds .reverse .sum .negative) ∷ ds .reverse .sum .high ∷ ds .reverse .sum .low ∷ []
