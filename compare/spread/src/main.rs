@@ -66,7 +66,9 @@ impl Both {
         assert_eq!(calls::spread_fresh(&mut words), 0);
         assert_eq!(calls::directions_fresh(&mut ways), 0);
         let slice = (0..2 * PART + 5).map(|i| i as u64).collect();
-        Both { words, room: vec![7; ROOM], theirs: RttCollector::new(), ways, slice, directions: [OwdDirection::default(), OwdDirection::default()] }
+        let both = Both { words, room: vec![7; ROOM], theirs: RttCollector::new(), ways, slice, directions: [OwdDirection::default(), OwdDirection::default()] };
+        both.compare();
+        both
     }
 
     fn record(&mut self, value: u64, reverse: usize) {
@@ -91,6 +93,7 @@ impl Both {
         let some = self.words[0] > 0;
         let mut shown = ambrulicciu::Delays::default();
         assert_eq!(calls::spread_show(&self.words, &mut shown), 0);
+        assert_eq!(shown.samples, self.words[0]);
         show_delays(&shown, some.then(|| ms(self.words[1])), self.theirs.average_ms(), some.then(|| ms(self.words[2])));
         // The header's words on jitter and deviation.
         let sum = (self.words[8] as u128) << 64 | self.words[9] as u128;
@@ -109,6 +112,7 @@ impl Both {
             let ms = |ns: u64| ns as i64 as f64 / 1_000_000.0;
             let some = self.ways[at] > 0;
             assert_eq!(calls::directions_show(&self.ways, way as u32, &mut shown), 0);
+            assert_eq!(shown.samples, self.ways[at]);
             show_delays(&shown, some.then(|| ms(self.ways[at + 1])), direction.average_ms(), some.then(|| ms(self.ways[at + 2])));
             let (mut value, mut present) = ([0], [0]);
             let state = [1, self.ways[at], self.ways[at + 1], self.ways[at + 2]];
