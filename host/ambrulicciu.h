@@ -81,7 +81,7 @@ extern "C" {
 
 /* ---- version -----------------------------------------------------------------------------------------------------------------------
  * Of this header: 1,000,000 times the first part, 1,000 times the second, and the third. */
-#define AMBRULICCIU_VERSION 1000 /* host_version::VERSION: 0.1.0 */
+#define AMBRULICCIU_VERSION 2000 /* host_version::VERSION: 0.2.0 */
 
 /* That of the library: a host that finds another than AMBRULICCIU_VERSION was compiled with another library's header. Refuses nothing. */
 uint8_t ambrulicciu_version(uint32_t *version);

@@ -13,7 +13,7 @@ left number answer = record { number = number; answer = answer }
 
 -- 1,000,000 times the first part, 1,000 times the second, and the third: 0.1.0
 abbrev pub VERSION : ℕ
-VERSION = 1000
+VERSION = 2000
 
 -- of any word
 unfoldable pub versionLeaves : Left

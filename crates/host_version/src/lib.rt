@@ -3,7 +3,7 @@ ghost use mathlib.Core.Path.{_≡_};
 ghost use Rattle.host_version.specs.Version.{left, versionLeaves};
 
 // 1,000,000 times the first part, 1,000 times the second, and the third: this is 0.1.0.
-pub const VERSION: u32 = 1000;
+pub const VERSION: u32 = 2000;
 
 #[no_mangle]
 pub extern "C" fn ambrulicciu_version(version: &mut [u32; 1]) -> u8
