@@ -654,11 +654,11 @@ typedef struct {
     uint64_t timeout;
 } ambrulicciu_settings;
 
-/* Whether the bytes are a log, and how its link is made. Changes only the answer. Refuses 9, 7, 8. */
+/* Whether the bytes are a log, and how its link is made. Changes only the answer. Refuses 9, 7, 8. Stack: 2 KB. */
 uint8_t ambrulicciu_log_check(const uint8_t *log, size_t log_length, ambrulicciu_settings *answer);
 
 /* Of a log that is refused with 8: its first bad record, from 0. Of a good log the record count, which is the number of no record: ask
- * only where 8 was answered. Changes only the answer. Refuses 9, 7. */
+ * only where 8 was answered. Changes only the answer. Refuses 9, 7. Stack: 2 KB. */
 uint8_t ambrulicciu_log_first_bad(const uint8_t *log, size_t log_length, uint64_t *answer);
 
 /* One record, as the call that it is. */
@@ -704,7 +704,7 @@ typedef struct {
 /* Makes a log of one that was cut short on the way: its records from byte 0 up to the first that is bad or incomplete, unchanged, and a new
  * trailer with these settings, `stop` + AMBRULICCIU_TRAILER bytes in all. A log that is accepted and begins with its first record is given
  * back as it is, with its own settings. Changes `answer` and as many bytes at the start of `bytes`; AMBRULICCIU_LOG bytes always do. Refuses
- * 9: more than AMBRULICCIU_LOG bytes; then 12: `bytes` is too short. */
+ * 9: more than AMBRULICCIU_LOG bytes; then 12: `bytes` is too short. Stack: 2 KB. */
 uint8_t ambrulicciu_log_trim(const uint8_t *log, size_t log_length, uint16_t copies, uint16_t threshold, uint64_t timeout, uint8_t *bytes,
                              size_t bytes_length, ambrulicciu_cut *answer);
 
