@@ -178,7 +178,7 @@ static void observe(void) {
     o.offset = (int32_t)below(5) - 2;
     o.sender_estimate = (uint16_t)drawn();
     o.reflector_estimate = (uint16_t)drawn();
-    o.flags = below(4) ? all : (uint32_t)drawn() & 255;
+    o.flags = below(4) ? all : below(4) ? (uint32_t)drawn() & 255 : 0;
     if (below(2))
         o.flags |= AMBRULICCIU_PTP;
     if (below(4) == 0)

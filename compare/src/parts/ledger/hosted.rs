@@ -562,6 +562,9 @@ fn digest(link: &Link, words: &mut Vec<u64>) {
     words.extend([slots, d.first, d.second]);
 }
 
+/// The word that says that the wrapper's deadline is another; the original's is 0.
+const DEADLINE: usize = 12;
+
 fn shown_monitor(link: &Link, watch: &Watch, call: &Call, words: &mut Vec<u64>) {
     let s = watch.session();
     let state = match s.state {
@@ -589,5 +592,6 @@ fn shown_monitor(link: &Link, watch: &Watch, call: &Call, words: &mut Vec<u64>) 
     }
     // The original's deadline is that of its front probe.
     let front = queue.first().map(|p| p.deadline);
-    words.extend([first, second, u64::from(link.deadline() != Ok(front))]);
+    words.extend([first, second]);
+    words[DEADLINE] = u64::from(link.deadline() != Ok(front));
 }

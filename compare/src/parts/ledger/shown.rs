@@ -27,7 +27,7 @@ pub const WORDS: [&str; 120] = [
     "needs_burst_wait",
     "accept: train",
     "probes evicted unanswered",
-    "",
+    "1 if the wrapper's deadline is another",
     "",
     "",
     "",
