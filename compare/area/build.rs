@@ -1,5 +1,5 @@
 //! Puts the original's texts into target/texts, each unchanged from its first byte to its last.
-use std::{env, fs, path::Path};
+include!("../common/texts.rs");
 
 const TEXTS: [(&str, &str); 3] = [
     ("src--src--tlv--core.rs.txt", "core.rs"),
@@ -8,15 +8,7 @@ const TEXTS: [(&str, &str); 3] = [
 ];
 
 fn main() {
-    let here = env::var("CARGO_MANIFEST_DIR").unwrap();
-    let docs = env::var("ORIGINAL_DOCS").unwrap_or(format!("{here}/../../../shared/docs"));
-    println!("cargo:rerun-if-env-changed=ORIGINAL_DOCS");
-    println!("cargo:rerun-if-changed=build.rs");
-    let place = Path::new(&here).join("target/texts");
-    fs::create_dir_all(&place).unwrap();
-    for (text, file) in TEXTS {
-        let from = Path::new(&docs).join(text);
-        println!("cargo:rerun-if-changed={}", from.display());
-        fs::copy(&from, place.join(file)).unwrap_or_else(|e| panic!("{}: {e}", from.display()));
+    for (name, file) in TEXTS {
+        fs::write(place().join(file), text(name)).unwrap();
     }
 }

@@ -1,6 +1,6 @@
 //! Puts the original's texts into target/texts: quantiles.rs unchanged, and of stats.rs the two parts that have `RttCollector` down to
 //! `std_dev_ns` and `OwdDirection`, each unchanged from its first line to its last, with what reads their fields after them.
-use std::{env, fs, path::Path};
+include!("../common/texts.rs");
 
 const PARTS: [(&str, &str, &str); 2] = [
     ("/// A single RTT measurement sample.", "    /// Builds a snapshot of current statistics.", "}\n"),
@@ -37,19 +37,8 @@ impl OwdDirection {
 ";
 
 fn main() {
-    let here = env::var("CARGO_MANIFEST_DIR").unwrap();
-    let docs = env::var("ORIGINAL_DOCS").unwrap_or(format!("{here}/../../../shared/docs"));
-    println!("cargo:rerun-if-env-changed=ORIGINAL_DOCS");
-    println!("cargo:rerun-if-changed=build.rs");
-    let place = Path::new(&here).join("target/texts");
-    fs::create_dir_all(&place).unwrap();
-    let read = |name: &str| {
-        let from = Path::new(&docs).join(name);
-        println!("cargo:rerun-if-changed={}", from.display());
-        fs::read_to_string(&from).unwrap_or_else(|e| panic!("{}: {e}", from.display()))
-    };
-    fs::write(place.join("quantiles.rs"), read("src--src--stats--quantiles.rs.txt")).unwrap();
-    let stats = read("src--src--stats.rs.txt");
+    fs::write(place().join("quantiles.rs"), text("src--src--stats--quantiles.rs.txt")).unwrap();
+    let stats = text("src--src--stats.rs.txt");
     let mut kept = String::from("use super::quantiles::Quantiles;\n");
     for (first, end, closing) in PARTS {
         let from = stats.find(first).expect(first);
@@ -57,5 +46,5 @@ fn main() {
         kept += &stats[from..to];
         kept += closing;
     }
-    fs::write(place.join("stats.rs"), kept.replace("\nstruct OwdDirection", "\npub struct OwdDirection") + READERS).unwrap();
+    fs::write(place().join("stats.rs"), kept.replace("\nstruct OwdDirection", "\npub struct OwdDirection") + READERS).unwrap();
 }

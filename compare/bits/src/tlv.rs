@@ -11,15 +11,8 @@ pub use ber_count::BerCountTlv;
 pub use core::{RawTlv, TlvFlags, TlvType};
 pub use traits::TypedTlv;
 
-/// Stands in for src/tlv/experimental.rs.
-pub mod experimental {
-    pub const BER_PATTERN_TLV_TYPE: u8 = 240;
-    pub const BER_COUNT_TLV_TYPE: u8 = 241;
-    pub const BER_MAX_BURST_TLV_TYPE: u8 = 242;
-    pub const REFLECTED_IPV6_EXT_HDR_TLV_TYPE: u8 = 246;
-    pub const REFLECTED_FIXED_HDR_TLV_TYPE: u8 = 247;
-    pub const REFLECTED_CONTROL_SUBTLV_IPV6_EXT_HDR_CONTROL: u8 = 1;
-}
+#[path = "../../common/experimental.rs"]
+pub mod experimental;
 
 /// Stands in for src/tlv/traits.rs.
 pub mod traits {
