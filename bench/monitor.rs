@@ -45,7 +45,8 @@ fn stream(table: &mut Table) {
             original.reply(black_box(j.wrapping_sub(FLYING)));
         },
     );
-    assert_eq!((ours.session().state as u64, ours.session().active), original.shown());
+    let shown = ours.session().expect("a session");
+    assert_eq!((shown.state as u64, shown.active), original.shown());
 }
 
 // 4,096 probes are sent and then are all due at once; the figure is that of the one call.

@@ -333,7 +333,7 @@ uint8_t ambrulicciu_observe(ambrulicciu_ledger *ledger, const ambrulicciu_key *k
 uint8_t ambrulicciu_answered(const ambrulicciu_ledger *ledger, const ambrulicciu_probe *probes, size_t probes_length,
                              const ambrulicciu_chain *links, size_t links_length, uint32_t sequence, uint64_t *answer);
 
-/* Whether more than one copy is asked for and fewer replies came than were: 1, else 0. Changes only the answer. Refuses nothing. */
+/* Whether more than one copy is asked for and fewer replies came than were: 1, else 0. Changes only the answer. Refuses 5. */
 uint8_t ambrulicciu_needs_burst_wait(const ambrulicciu_ledger *ledger, uint64_t *answer);
 
 /* Every figure. Changes only `shown`. Refuses nothing, and needs no room. Stack: 2 KB. */
@@ -380,7 +380,7 @@ uint8_t ambrulicciu_monitor_idle(ambrulicciu_monitor *monitor);
 uint8_t ambrulicciu_monitor_deadline(const ambrulicciu_monitor *monitor, const ambrulicciu_queued *queue, size_t queue_length,
                                      ambrulicciu_deadline *answer);
 
-/* State, losses in a row, notifications. Changes only `shown`. Refuses nothing. */
+/* State, losses in a row, notifications. Changes only `shown`. Refuses 5. */
 uint8_t ambrulicciu_monitor_summary(const ambrulicciu_monitor *monitor, ambrulicciu_session *shown);
 
 /* ---- error estimates (RFC 8762, 4.2.1; RFC 4656, 4.1.2) ----------------------------------------------------------------------------
@@ -722,7 +722,8 @@ uint8_t ambrulicciu_report_log(const uint8_t *log, size_t log_length, const uint
                                size_t text_length, uint64_t *length);
 
 /* The report of a link as it stands. `watched` 0: it has no monitor, and the monitor's words are not looked at. `records`, `turned_away`:
- * how many calls were made and how many of them refused, for the first line. Refuses 5: a buffer of another size. Stack: 2 KB. */
+ * how many calls were made and how many of them refused, for the first line. Refuses 5: a buffer of another size, or a ring of the ledger
+ * or the monitor out of place. Stack: 2 KB. */
 uint8_t ambrulicciu_report_link(const ambrulicciu_ledger *ledger, const ambrulicciu_monitor *monitor, uint32_t watched,
                                 uint64_t records, uint64_t turned_away, uint8_t *text, size_t text_length, uint64_t *length);
 

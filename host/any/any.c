@@ -304,7 +304,7 @@ static void try_reads(void) {
     l = ledger(1);
     uint64_t *answer = lend(8, 0);
     ready();
-    done("needs_burst_wait", ambrulicciu_needs_burst_wait(l, answer), "");
+    done("needs_burst_wait", ambrulicciu_needs_burst_wait(l, answer), "5");
 }
 
 /* ---- the monitor, alone and with the ledger */
@@ -358,7 +358,7 @@ static void try_monitor(void) {
     m = monitor(1);
     ambrulicciu_session *session = lend(sizeof *session, 0);
     ready();
-    done("monitor_summary", ambrulicciu_monitor_summary(m, session), "");
+    done("monitor_summary", ambrulicciu_monitor_summary(m, session), "5");
 }
 
 /* ---- estimates, clock quality, quantiles */

@@ -1,16 +1,22 @@
 -- A call that loads the monitor, makes one of its calls and finishes leaves what its definition says.
 -- Assumes nothing.
-use mathlib.Core.Path.{_≡_, ap, _∙_}
+use mathlib.Core.Path.{_≡_, sym, ap, _∙_}
+use mathlib.Core.Bool.{Bool, true, false}
 use mathlib.Core.List.{List}
 use Prim.Native.Nat.{ℕ}
+use Rattle.scope.specs.Limits.{capacity}
+use Rattle.scope.specs.Refusals.{wrongRoom}
 use Rattle.probe_queue.specs.declared.Probe.{Probe}
+use Rattle.probe_queue.specs.Queue.{choose}
+use Rattle.monitor.specs.declared.Summary.{Summary}
 use Rattle.monitor.specs.declared.Monitor.{Monitor}
 use Rattle.monitor.specs.declared.Answer.{Answer}
 use Rattle.monitor.specs.declared.Deadline.{Deadline}
+use Rattle.monitor.specs.Refusals.{misplaced}
 use Rattle.monitor.specs.Answers.{Outcome, Ends, number, deadlineNumber, deadlineOf}
 use Rattle.monitor.specs.Answers as monitor
 use Rattle.host_monitor_words.specs.Words.{monitorAt, wordsAfter}
-use Rattle.host_monitor.specs.Calls.{told, left, ended, sentTo, replyTo, advanceTo, answerWords, answeredBy, deadlineTo}
+use Rattle.host_monitor.specs.Calls.{told, left, ended, sentTo, replyTo, advanceTo, answerWords, answeredBy, deadlineTo, shows, summaryTo}
 
 -- any call of the monitor
 ends : (words : List ℕ) (call : Monitor → Outcome) (m : Monitor) (a : Answer) (queue : List Probe) (r : ℕ) (last : List ℕ)
@@ -41,3 +47,17 @@ unfolding deadlineTo
 deadline-ends words queue answer m d r last em ed er =
     let e : d ≡ deadlineOf (monitorAt words) queue = ed ∙ ap (λ (n : Monitor). deadlineOf n queue) em in
     (λ i. told (er .0 i) (er .1 i)) ∙ ap (answeredBy answer) e
+
+-- the summary, by whether the ring is out of place
+module _ (words shown : List ℕ) (m : Monitor) (out : Bool) (em : m ≡ monitorAt words) (eo : out ≡ misplaced m capacity) where
+  summary-by : (b : Bool) → out ≡ b → choose b (told wrongRoom shown) (told 0 (shows (monitorAt words .summary))) ≡ summaryTo words shown
+  unfolding summaryTo
+  summary-by b e = ap (λ (x : Bool). choose x (told wrongRoom shown) (told 0 (shows (monitorAt words .summary)))) (sym e ∙ eo ∙ ap (λ (n : Monitor). misplaced n capacity) em)
+
+  pub summary-refused : out ≡ true → told wrongRoom shown ≡ summaryTo words shown
+  summary-refused h = summary-by true h
+
+pub summary-shown : (words shown : List ℕ) (m : Monitor) (out : Bool) (s : Summary) (last : List ℕ) → m ≡ monitorAt words → out ≡ misplaced m capacity → out ≡ false
+    → s ≡ m .summary → last ≡ shows s → told 0 last ≡ summaryTo words shown
+summary-shown words shown m out s last em eo h es el =
+    ap (told 0) (el ∙ ap shows (es ∙ ap (λ (n : Monitor). n .summary) em)) ∙ summary-by words shown m out em eo false h

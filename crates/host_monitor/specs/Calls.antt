@@ -3,11 +3,15 @@
 -- Assumes nothing.
 use mathlib.Core.List.{List, [], _∷_}
 use Prim.Native.Nat.{ℕ}
+use Rattle.scope.specs.Limits.{capacity}
+use Rattle.scope.specs.Refusals.{wrongRoom}
 use Rattle.probe_queue.specs.declared.Probe.{Probe}
+use Rattle.probe_queue.specs.Queue.{choose}
 use Rattle.monitor.specs.declared.Summary.{Summary}
 use Rattle.monitor.specs.declared.Answer.{Answer}
 use Rattle.monitor.specs.declared.Deadline.{Deadline}
 use Rattle.monitor.specs.declared.Deadline.the-variants.{Absent, At, Refused}
+use Rattle.monitor.specs.Refusals.{misplaced}
 use Rattle.monitor.specs.Operations.{fresh}
 use Rattle.monitor.specs.Answers.{Outcome, number, deadlineNumber}
 use Rattle.monitor.specs.Answers as monitor
@@ -78,6 +82,6 @@ deadlineTo words queue answer = answeredBy answer (monitor.deadlineOf (monitorAt
 abbrev pub shows : Summary → List ℕ
 shows s = stateNumber (s .state) ∷ s .«loss_threshold» ∷ s .«consecutive_losses» ∷ s .«active_notifications» ∷ s .«failed_notifications» ∷ s .«idle_notifications» ∷ []
 
--- the summary of the monitor that the words say; it refuses nothing
-unfoldable pub summaryTo : List ℕ → Told
-summaryTo words = told 0 (shows (monitorAt words .summary))
+-- the summary of the monitor that the words say: 5 where its ring is out of place, and then the words lent for it stay
+unfoldable pub summaryTo : List ℕ → List ℕ → Told
+summaryTo words shown = choose (misplaced (monitorAt words) capacity) (told wrongRoom shown) (told 0 (shows (monitorAt words .summary)))

@@ -124,13 +124,16 @@ fn summary_words(summary: Summary) -> [u64; 6]
     ]
 }
 
-// What is shown of a monitor. It only reads, and refuses nothing.
+// What is shown of a monitor. It only reads; refused where the ring is out of place.
 // Words of `shown`: 0 state, 1 threshold, 2 consecutive_losses, 3 active_notifications, 4 failed_notifications, 5 idle_notifications.
 #[no_mangle]
 pub extern "C" fn ambrulicciu_monitor_summary(monitor: &[u64; 12], shown: &mut [u64; 6]) -> u8
-    ensures { λ r. ⌜ told r (now (shown .exit)) ≡ summaryTo (now (monitor .entry)) ⌝ }
+    ensures { λ r. ⌜ told r (now (shown .exit)) ≡ summaryTo (now (monitor .entry)) (now (shown .entry)) ⌝ }
 {
     let before = load(monitor);
+    if before.out_of_place(scope::CAPACITY) {
+        return scope::WRONG_ROOM;
+    }
     let summary = before.summary();
     *shown = summary_words(summary);
     0

@@ -68,16 +68,16 @@ impl Watch {
         Watch { monitor, queue: vec![Queued::default(); ROWS] }
     }
 
-    pub fn session(&self) -> Session {
+    pub fn session(&self) -> Result<Session, Refusal> {
         let mut shown = [0; 6];
-        calls::monitor_summary(&self.monitor, &mut shown);
+        served(calls::monitor_summary(&self.monitor, &mut shown))?;
         let [state, threshold, losses, active, failed, idle] = shown;
         let state = match state {
             0 => State::Idle,
             1 => State::Active,
             _ => State::Failed,
         };
-        Session { state, threshold, losses, active, failed, idle }
+        Ok(Session { state, threshold, losses, active, failed, idle })
     }
 }
 
@@ -181,10 +181,10 @@ impl Link {
         Ok(answer[0] != 0)
     }
 
-    pub fn needs_burst_wait(&self) -> bool {
+    pub fn needs_burst_wait(&self) -> Result<bool, Refusal> {
         let mut answer = [0];
-        calls::needs_burst_wait(&self.ledger, &mut answer);
-        answer[0] != 0
+        served(calls::needs_burst_wait(&self.ledger, &mut answer))?;
+        Ok(answer[0] != 0)
     }
 
     pub fn snapshot(&self) -> Figures {
@@ -213,16 +213,15 @@ impl Link {
         Ok((answer[0] != 0).then_some(answer[1]))
     }
 
-    pub fn session(&self) -> Option<Session> {
-        self.watch.as_ref().map(Watch::session)
+    pub fn session(&self) -> Result<Option<Session>, Refusal> {
+        self.watch.as_ref().map(Watch::session).transpose()
     }
 
     /// The report of the link as it stands; the numbers of calls made and refused are those of its first line.
-    pub fn report(&self, records: u64, turned_away: u64) -> String {
+    pub fn report(&self, records: u64, turned_away: u64) -> Result<String, Refusal> {
         let none = [0; 12];
         let monitor = self.watch.as_ref().map_or(&none, |w| &w.monitor);
         text_of(|text, length| calls::report_link(&self.ledger, monitor, self.watch.is_some().into(), records, turned_away, text, length))
-            .expect("a buffer of 1,024 bytes")
     }
 }
 

@@ -291,7 +291,7 @@ fn shown_answer(link: &Link, reply: &Reply, figures: &Figures, words: &mut Vec<u
         reply.answered,
     ]);
     words.extend([link.ledger[COPIES], link.ledger[CALLS]]);
-    words.extend([link.ledger[AWAITS], u64::from(link.needs_burst_wait())]);
+    words.extend([link.ledger[AWAITS], u64::from(link.needs_burst_wait().expect("rings in place"))]);
     words.extend([train.into(), figures.evicted_unanswered]);
     words.extend([0; 4]);
 }
@@ -566,7 +566,7 @@ fn digest(link: &Link, words: &mut Vec<u64>) {
 const DEADLINE: usize = 12;
 
 fn shown_monitor(link: &Link, watch: &Watch, call: &Call, words: &mut Vec<u64>) {
-    let s = watch.session();
+    let s = watch.session().expect("a ring in place");
     let state = match s.state {
         State::Idle => 0,
         State::Active => 1,

@@ -449,7 +449,7 @@ fn played(settings: Settings, records: &[Record], text: &str) -> Result<(), Stri
         turned_away += u64::from(refusal != 0);
     }
     let records = records.len() as u64;
-    same("Link::report", text, &link.report(records, turned_away))?;
+    same("Link::report", text, &link.report(records, turned_away).expect("rings in place"))?;
     let none = [UNSET; 12];
     let monitor = link.watch.as_ref().map_or(&none, |w| &w.monitor);
     let (mut bytes, mut length) = ([0x5a; 1024], [UNSET]);

@@ -189,7 +189,7 @@ fn main() {
 
 fn show(host: &Host, secret: &[u32; 8], file: Option<&String>) {
     let records = u64::from(host.log.records());
-    let report = host.link.report(records, host.turned_away);
+    let report = host.link.report(records, host.turned_away).expect("a link that only calls have written");
     print!("{report}");
     let figures = host.link.snapshot();
     match figures.thousandths.get() {
