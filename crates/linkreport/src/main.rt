@@ -32,7 +32,8 @@ fn report(log: &[u8]) {
         &mut links,
         &mut text,
     );
-    log_print::print(log, &text, answer);
+    let end = log_print::printed(log, &mut text, answer);
+    log_print::write(&text, end);
 }
 
 // One byte more than a log may have: all that is needed to refuse a longer one.

@@ -48,7 +48,8 @@ fn report(
         links,
         text,
     );
-    log_print::print(log, text, answer);
+    let end = log_print::printed(log, text, answer);
+    log_print::write(text, end);
     io::write_all(1, &[0u8]);
 }
 

@@ -18,4 +18,4 @@ returns-2 : tie.Need-returns-2
 returns-2 c = search needs
 
 pub write-spec : {M : Type 1} → statement M
-write-spec = tie.close (tie.spec returns slice-aggregate-write-all write-all-requires returns-2)
+write-spec = tie.close (tie.spec slice-aggregate-write-all write-all-requires returns returns-2)
