@@ -21,7 +21,7 @@ use Rattle.direct.specs.declared.summary.DirectSummary.{DirectSummary}
 use Rattle.direct.specs.Outcomes.{seenIn}
 use Rattle.direct.specs.Shown.{noSpans}
 use Rattle.offset_set.specs.Offsets as offset_set
-use Rattle.offset_set.proofs.Laws.{Sound}
+use Rattle.offset_set.specs.Sound.{Sound}
 use Rattle.history.specs.Ledger.{events}
 use Rattle.history.specs.DirectLoss.{anchorOf, seen, senderMaximum, receivedMaximum, latest, window, Spans, spans, anchor, latestTransmit, DirectCounts, directCounts}
 use Rattle.ledger_steps.specs.Rooms.{Stand}

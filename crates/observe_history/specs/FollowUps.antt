@@ -17,7 +17,7 @@ use Rattle.correlation.specs.declared.Unique.the-variants as recorded
 use Rattle.correlation.specs.declared.Wires.{Wires}
 use Rattle.correlation.specs.declared.Wires.the-variants as wires
 use Rattle.correlation.specs.Words.{slotOf}
-use Rattle.correlation.proofs.Back.{RecordFits}
+use Rattle.correlation.specs.Fits.{RecordFits}
 use Rattle.key_ring.specs.Rows.{isObserved, slotIn, Counted}
 use Rattle.key_ring.specs.Table.{Table, tableOf, newestSlot, rowsOf}
 use Rattle.follow_ups.specs.declared.FollowCounts.{FollowCounts as Counts}

@@ -23,6 +23,7 @@ use Rattle.chains.proofs.Chains.{empty-indexed}
 use Rattle.chains.proofs.Scan.{walk-scans, scan-first}
 use Rattle.chains.proofs.Lanes.{linked-fits, linked-elsewhere, link-indexed}
 use Rattle.chains.proofs.Hashes.{number-hash-below}
+pub use Rattle.offset_set.specs.Sound.{Sound}
 use Rattle.offset_set.specs.Offsets.{OffsetSet, offsetSet, has, lane, seen, contains, added, addedAll}
 
 -- ---- `add`, as the code leaves the rooms
@@ -54,17 +55,9 @@ unfolding pushSlot afterPush
 push-at N count l = (rw (lt-true count N l, zero-add count) (wrap-low N count l), rw (lt-true count N l))
 
 module _ (N : ℕ) (hash : ℕ → ℕ) where
-  pub record Sound (s : OffsetSet) : Type 0 where
-    pub some : 0 < N
-    pub hashes : (n : ℕ) → hash n < N
-    pub offsets-fit : length (s .offsets) ≡ N
-    pub links-fit : Rows N 8 (s .links)
-    pub count-in : s .count ≤ N
-    pub chained : Indexed N (λ slot. hash (getD (s .offsets) slot 0)) (newest lane (s .links)) (older lane (s .links)) 0 (s .count)
-
   -- a cleared set, whatever its rooms hold
   pub cleared-sound : (offsets : List ℕ) (links : List (List ℕ)) → 0 < N → ((n : ℕ) → hash n < N) → length offsets ≡ N → Rows N 8 links
-      → Sound (offsetSet offsets links 0)
+      → Sound N hash (offsetSet offsets links 0)
   cleared-sound offsets links some below fit rows = record {
     some = some;
     hashes = below;
@@ -82,7 +75,7 @@ module _ (N : ℕ) (hash : ℕ → ℕ) where
   unfolding seen
   seen-count s = length-contents N (λ slot. getD (s .offsets) slot 0) 0 (s .count)
 
-  module _ (s : OffsetSet) (sound : Sound s) where
+  module _ (s : OffsetSet) (sound : Sound N hash s) where
     -- Seen exactly if it is among the offsets.
     pub contains-is : (offset : ℕ) → contains N hash s offset ≡ has (seen N s) offset
     unfolding contains seen
@@ -129,7 +122,7 @@ module _ (N : ℕ) (hash : ℕ → ℕ) where
           (record { head = 0; len = s .count }) offset fits (rw (at .0) here) (rw (at .0) there) in
           rw added-is (rw (at .1) at pushed) ∙ take-all N (offset ∷ contents N (λ slot. getD (s .offsets) slot 0) 0 (s .count)) (omega (arith, seen-count s))
 
-      pub added-sound : Sound (added N hash s offset)
+      pub added-sound : Sound N hash (added N hash s offset)
       added-sound =
           let at = push-at N (s .count) more in
           let indexed = link-indexed N lane (s .links) (record { head = 0; len = s .count }) (λ slot. hash (getD (s .offsets) slot 0))
@@ -149,7 +142,7 @@ module _ (N : ℕ) (hash : ℕ → ℕ) where
       added-elsewhere i j a b = rw added-is (linked-elsewhere N lane (s .links) (sound .links-fit) (hash offset) (s .count) (omega arith) (sound .hashes offset) more i j a b)
 
   -- From a cleared set on: what is seen is what was added, and the set stays sound.
-  pub all-added : (s : OffsetSet) (xs : List ℕ) → Sound s → s .count ≡ 0 → length xs ≤ N → Sound (addedAll N hash s xs) × (seen N (addedAll N hash s xs) ≡ xs)
+  pub all-added : (s : OffsetSet) (xs : List ℕ) → Sound N hash s → s .count ≡ 0 → length xs ≤ N → Sound N hash (addedAll N hash s xs) × (seen N (addedAll N hash s xs) ≡ xs)
   unfolding addedAll
   all-added s [] sound none l = (sound, rw none (seen-none (s .offsets) (s .links)))
   all-added s (x ∷ xs) sound none l =

@@ -24,6 +24,7 @@ use Rattle.probe_ring.specs.declared.Probe.{Probe}
 use Rattle.probe_ring.specs.Row.{sequenceOf, wordsOf, probeOf, ProbeFits}
 use Rattle.probe_ring.specs.Held as list
 use Rattle.probe_ring.specs.Held.{Distinct}
+pub use Rattle.probe_ring.specs.Sound.{Sound}
 use Rattle.probe_ring.specs.Rooms.{Rooms, rooms, lane, roomsAfter, slotOf, pushed, held}
 use Rattle.probe_ring.proofs.Rows.{sequence-back, probe-back}
 use Rattle.probe_ring.proofs.Lists.{remembering-new, remembering-distinct}
@@ -46,18 +47,9 @@ first-holds s (p ∷ ps) = go (eqb s (p .sequence)) (first-holds s ps)
     go false ih = ih
 
 module _ (N : ℕ) (hash : ℕ → ℕ) where
-  -- rooms that calls have left
-  pub record Sound (r : Rooms) : Type 0 where
-    pub hashes : (s : ℕ) → hash s < N
-    pub rows-fit : length (r .rows) ≡ N
-    pub links-fit : Rows N 8 (r .links)
-    pub ring-fits : RingFits N (r .ring)
-    pub chained : Indexed N (λ slot. hash (sequenceOf (getD (r .rows) slot []))) (newest lane (r .links)) (older lane (r .links)) (r .ring .head) (r .ring .len)
-    pub distinct : Distinct (held N r)
-
   -- an empty ring, whatever its rooms hold
   pub empty-sound : (rows links : List (List ℕ)) (head : ℕ) → ((s : ℕ) → hash s < N) → length rows ≡ N → Rows N 8 links → head < N
-      → Sound (rooms rows links (record { head = head; len = 0 }))
+      → Sound N hash (rooms rows links (record { head = head; len = 0 }))
   unfolding held contents Distinct
   empty-sound rows links head below fit widths l = record {
     hashes = below;
@@ -82,7 +74,7 @@ module _ (N : ℕ) (hash : ℕ → ℕ) where
       go (found p m f t) l = rw f (sym (eqb-is s _ t))
       go (nothing f) l = absurd (omega arith)
 
-  module _ (r : Rooms) (sound : Sound r) where
+  module _ (r : Rooms) (sound : Sound N hash r) where
     -- What is found is the held probe of the sequence: f of it, or d where none is held.
     pub find-first : {B : Type 0} (f : Probe → B) (d : B) (s : ℕ)
         → cond (ltb (slotOf N hash r s) N) (f (probeOf (getD (r .rows) (slotOf N hash r s) []))) d ≡ firstOf (λ p. eqb s (p .sequence)) f d (held N r)
@@ -115,7 +107,7 @@ module _ (N : ℕ) (hash : ℕ → ℕ) where
           push-contents N (λ slot. probeOf (getD (r .rows) slot [])) (λ slot. probeOf (getD (set (r .rows) (pushSlot N (r .ring)) (wordsOf p)) slot [])) (r .ring) p (sound .ring-fits)
           (ap probeOf here ∙ probe-back p fits) (λ i ne. ap probeOf (there i ne))
 
-      pub pushed-sound : list.holds (held N r) (p .sequence) ≡ false → Sound (roomsAfter (pushed N hash r p))
+      pub pushed-sound : list.holds (held N r) (p .sequence) ≡ false → Sound N hash (roomsAfter (pushed N hash r p))
       unfolding pushed
       pushed-sound absent = record {
         hashes = sound .hashes;

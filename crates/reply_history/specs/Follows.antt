@@ -12,7 +12,7 @@ use Rattle.calls.specs.declared.Call.{Call}
 use Rattle.probe_ring.specs.declared.Probe.{Probe}
 use Rattle.probe_ring.specs.Row.{mostReplies}
 use Rattle.probe_ring.specs.Rooms as probe_ring
-use Rattle.probe_ring.proofs.Laws as probe_laws
+use Rattle.probe_ring.specs.Sound as probe_laws
 use Rattle.key_ring.specs.Table as key_ring
 use Rattle.key_ring.specs.Table.{Table, tableOf, keysOf}
 use Rattle.replies.specs.declared.Reflector.{Reflector}
