@@ -17,20 +17,21 @@ fn say(text: &[u8]) {
     io::write_all(2, text);
 }
 
-fn say_number(n: u64) {
-    let mut digits = [0u8; 20];
-    let end = decimal::put_decimal(&mut digits, 0, n);
-    write(2, &digits, end);
+fn say_cut(cut: Cut) {
+    let mut text = [0u8; 128];
+    let end = trim_print::put_cut(
+        &mut text,
+        cut.kept as u64,
+        cut.stop as u64,
+        cut.dropped as u64,
+    );
+    write(2, &text, end);
 }
 
-fn say_cut(cut: Cut) {
-    say(b"kept ");
-    say_number(cut.kept as u64);
-    say(b" stop ");
-    say_number(cut.stop as u64);
-    say(b" dropped ");
-    say_number(cut.dropped as u64);
-    say(b"\n");
+fn say_refused(number: u8) {
+    let mut text = [0u8; 128];
+    let end = trim_print::put_refused(&mut text, number as u64);
+    write(2, &text, end);
 }
 
 // The log is written first: the line means that it is there.
@@ -54,9 +55,7 @@ fn trim(log: &[u8], copies: u16, threshold: u16, timeout: u64) {
             put_log(&room, cut);
         }
         Trimmed::Refused(number) => {
-            say(b"refused ");
-            say_number(number as u64);
-            say(b"\n");
+            say_refused(number);
         }
     }
 }
