@@ -1,5 +1,6 @@
-// Document 01's thousandths, absent when nothing was requested (document 02, Q-5). The product by 1,000 of a count near 2^64 fits no word, so the quotient is found as on paper: three decimal
-// places, each from ten times the rest of the one before.
+// Document 01's thousandths, absent when nothing was requested (document 02, Q-5). The product by 1,000 of a count near 2^64 fits no word: there
+// the quotient is found as on paper, three decimal places, each from ten times the rest of the one before. Below, which is every count that a
+// link has, it is one division: thirty steps one after the other were half of a snapshot's time.
 ghost use mathlib.Core.Path.{_≡_};
 ghost use Prim.Native.Nat.{_*_, _/_, _%_, _<_, _≤_};
 ghost use Rattle.thousandths.specs.Thousandths.{thousandthsOf};
@@ -42,6 +43,9 @@ pub fn thousandths_of(unobserved: u64, requested: u64) -> Thousandths
 {
     if requested == 0 {
         return Thousandths::Absent;
+    }
+    if requested < 18446744073709551 {
+        return Thousandths::Known(1000 * unobserved / requested);
     }
     let tenths = tenfold(unobserved % requested, requested);
     let hundredths = tenfold(tenths.rest, requested);
