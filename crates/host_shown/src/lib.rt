@@ -1,11 +1,13 @@
 // What a snapshot shows, as words of a lent room: a flag is 0 or 1, a value that is absent is a flag 0 and zeros, an f64 is its bits.
 ghost use mathlib.Core.Path.{_≡_};
+ghost use mathlib.Core.List.{[], _∷_};
 ghost use Prim.Native.Nat.{_+_, _≤_};
 ghost use lib.ListN.{length};
 ghost use lib.Seq.{sets};
+ghost use Rattle.thousandths.specs.Thousandths.{knownOf, valueOf};
 ghost use Rattle.clock_quality.specs.declared.LastEstimate.the-variants.{Seen};
-ghost use Rattle.host_shown.specs.Words.{pointWords, repliesWords, evictedWords, lossWords, delayWords, directCountWords, spanWords, directWords};
-ghost use Rattle.host_shown.specs.Words.{followCountWords, estimateWords, qualityCountWords, largestWords, qualityWords, followWords, shownWords};
+ghost use Rattle.host_shown.specs.Words.{pointWords, repliesWords, evictedWords, delayWords, directCountWords, spanWords, directWords};
+ghost use Rattle.host_shown.specs.Words.{followCountWords, estimateWords, qualityCountWords, largestWords, qualityWords};
 
 mod values;
 
@@ -18,12 +20,11 @@ use delays::DelaySummary;
 use direct::summary::DirectSummary;
 use direct::summary::Spans;
 use follow_ups::FollowCounts;
-use follow_ups::summary::FollowUpSummary;
 use host_numbers::flag;
 use host_quality::largest_bits;
 use host_quality::largest_word;
-use ledger_snapshot::Snapshot;
 use replies::Replies;
+use thousandths::Thousandths;
 use values::error_bits;
 use values::error_known;
 use values::error_received;
@@ -48,7 +49,7 @@ fn place(room: &mut [u64], at: usize, words: &[u64])
     }
 }
 
-fn place_replies(room: &mut [u64], replies: Replies)
+pub fn place_replies(room: &mut [u64], replies: Replies)
     requires { ⌜ 16 ≤ length (now room) ⌝ }
     ensures { λ _. ⌜ now (room .exit) ≡ sets (now (room .entry)) 0 (repliesWords replies) ⌝ }
 {
@@ -79,7 +80,7 @@ fn place_replies(room: &mut [u64], replies: Replies)
     place(room, 0, &words);
 }
 
-fn place_evicted(room: &mut [u64], replies: Replies)
+pub fn place_evicted(room: &mut [u64], replies: Replies)
     requires { ⌜ 91 ≤ length (now room) ⌝ }
     ensures { λ _. ⌜ now (room .exit) ≡ sets (now (room .entry)) 90 (evictedWords replies) ⌝ }
 {
@@ -88,7 +89,7 @@ fn place_evicted(room: &mut [u64], replies: Replies)
     place(room, 90, &words);
 }
 
-fn place_delay(room: &mut [u64], at: usize, delay: DelaySummary)
+pub fn place_delay(room: &mut [u64], at: usize, delay: DelaySummary)
     requires { ⌜ at + 7 ≤ length (now room) ⌝ }
     ensures { λ _. ⌜ now (room .exit) ≡ sets (now (room .entry)) at (delayWords delay) ⌝ }
 {
@@ -167,7 +168,7 @@ fn place_direct_counts(room: &mut [u64], at: usize, counts: direct::Counts)
     place(room, at, &words);
 }
 
-fn place_direct(room: &mut [u64], summary: DirectSummary)
+pub fn place_direct(room: &mut [u64], summary: DirectSummary)
     requires { ⌜ 51 ≤ length (now room) ⌝ }
     ensures { λ _. ⌜ now (room .exit) ≡ sets (now (room .entry)) 26 (directWords summary) ⌝ }
 {
@@ -181,7 +182,7 @@ fn place_direct(room: &mut [u64], summary: DirectSummary)
     place_spans(room, 39, spans);
 }
 
-fn place_follow_counts(room: &mut [u64], at: usize, counts: FollowCounts)
+pub fn place_follow_counts(room: &mut [u64], at: usize, counts: FollowCounts)
     requires { ⌜ at + 6 ≤ length (now room) ⌝ }
     ensures { λ _. ⌜ now (room .exit) ≡ sets (now (room .entry)) at (followCountWords counts) ⌝ }
 {
@@ -267,25 +268,13 @@ pub fn place_quality(room: &mut [u64], at: usize, quality: ClockQuality)
     place_largest(room, at + 24, largest);
 }
 
-fn place_follow(room: &mut [u64], follow: FollowUpSummary)
-    requires { ⌜ 90 ≤ length (now room) ⌝ }
-    ensures { λ _. ⌜ now (room .exit) ≡ sets (now (room .entry)) 51 (followWords follow) ⌝ }
-{
-    let counts = follow.counts;
-    let delay = follow.delay;
-    let quality = follow.quality;
-    place_follow_counts(room, 51, counts);
-    place_delay(room, 57, delay);
-    place_quality(room, 64, quality);
-}
-
-fn place_loss(room: &mut [u64], snapshot: Snapshot)
+// Unobserved, and document 01's thousandths.
+pub fn place_loss(room: &mut [u64], unobserved: u64, thousandths: Thousandths)
     requires { ⌜ 19 ≤ length (now room) ⌝ }
-    ensures { λ _. ⌜ now (room .exit) ≡ sets (now (room .entry)) 16 (lossWords snapshot) ⌝ }
+    ensures { λ _. ⌜ now (room .exit) ≡ sets (now (room .entry)) 16 (unobserved ∷ knownOf thousandths ∷ valueOf thousandths ∷ []) ⌝ }
 {
-    let thousandths = snapshot.thousandths;
     let words = [
-        snapshot.unobserved,
+        unobserved,
         thousandths_known(thousandths),
         thousandths_value(thousandths),
     ];
@@ -294,19 +283,3 @@ fn place_loss(room: &mut [u64], snapshot: Snapshot)
 
 // How many words a snapshot has.
 pub const SHOWN_WORDS: usize = 91;
-
-// The whole snapshot over the words of a room.
-pub fn show(shown: &mut [u64; SHOWN_WORDS], snapshot: Snapshot)
-    ensures { λ _. ⌜ now (shown .exit) ≡ shownWords snapshot ⌝ }
-{
-    let replies = snapshot.replies;
-    let rtt = snapshot.rtt;
-    let direct = snapshot.direct;
-    let follow = snapshot.follow;
-    place_replies(shown, replies);
-    place_loss(shown, snapshot);
-    place_delay(shown, 19, rtt);
-    place_direct(shown, direct);
-    place_follow(shown, follow);
-    place_evicted(shown, replies);
-}
