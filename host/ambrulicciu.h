@@ -336,7 +336,7 @@ uint8_t ambrulicciu_answered(const ambrulicciu_ledger *ledger, const ambrulicciu
 /* Whether more than one copy is asked for and fewer replies came than were: 1, else 0. Changes only the answer. Refuses 5. */
 uint8_t ambrulicciu_needs_burst_wait(const ambrulicciu_ledger *ledger, uint64_t *answer);
 
-/* Every figure. Changes only `shown`. Refuses nothing, and needs no room. Stack: 2 KB. */
+/* Every figure. Changes only `shown`. Refuses nothing, and needs no room. */
 uint8_t ambrulicciu_snapshot(const ambrulicciu_ledger *ledger, ambrulicciu_figures *shown);
 
 /* ---- the ledger with a monitor -----------------------------------------------------------------------------------------------------
