@@ -2,15 +2,16 @@
 // the same of the ledger that the words say; but a ledger that is taken out of its words for a test alone would stay in registers and on the
 // stack, which is a quarter of a duplicate's time and a tenth of an observe's.
 ghost use mathlib.Core.Path.{_≡_};
+ghost use mathlib.Core.Bool.{true, _&&_};
 ghost use lib.Dec.{leb};
 ghost use Rattle.scope.specs.Limits.{capacity};
 ghost use Rattle.replies.specs.Bounds.{repliesFit};
 ghost use Rattle.delays.specs.Bounds as delays;
 ghost use Rattle.clock_quality.specs.Bounds as clock_quality;
 ghost use Rattle.direct.specs.Outcomes.{seenIn, countsInBounds};
-ghost use Rattle.follow_ups.specs.Bounds.{followUpsFit};
+ghost use Rattle.follow_ups.specs.Bounds as follow_ups;
 ghost use Rattle.ledger_state.specs.State.{hashWords};
-ghost use Rattle.ledger_state.specs.Refusal.{ringFits, ringsFit, roomForCall};
+ghost use Rattle.ledger_state.specs.Refusal.{firstRefusal, ringFits, ringsFit, roomForCall};
 ghost use Rattle.host_quality.specs.Words.{qualityAt};
 ghost use Rattle.host_ledger.specs.Parts.{repliesAt, delaysAt, windowAt, directAt, followAt};
 ghost use Rattle.host_ledger.specs.Words.{ledgerAt};
@@ -76,26 +77,27 @@ fn quality_fits(state: &[u64; LEDGER_WORDS]) -> bool
         & (state[65] < COUNT_BOUND)
 }
 
-fn follow_fits(state: &[u64; LEDGER_WORDS]) -> bool
-    ensures { λ r. ⌜ r ≡ followUpsFit (followAt 44 (now (state .entry))) ⌝ }
+fn follow_counts_fit(state: &[u64; LEDGER_WORDS]) -> bool
+    ensures { λ r. ⌜ r ≡ follow_ups.countsFit (followAt 44 (now (state .entry)) .counts) ⌝ }
 {
-    let counts = (state[44] < COUNT_BOUND)
+    (state[44] < COUNT_BOUND)
         & (state[45] < COUNT_BOUND)
         & (state[46] < COUNT_BOUND)
         & (state[47] < COUNT_BOUND)
         & (state[48] < COUNT_BOUND)
-        & (state[49] < COUNT_BOUND);
-    counts & delay_fits(state) & quality_fits(state)
+        & (state[49] < COUNT_BOUND)
 }
 
+// Of all counts one after the other the compiler makes one comparison; the two sums, which have another bound, would part them in two.
 pub fn room_for_call(state: &[u64; LEDGER_WORDS]) -> bool
     ensures { λ r. ⌜ r ≡ roomForCall (ledgerAt (now (state .entry))) ⌝ }
 {
     let counts = replies_fit(state)
-        & round_trips_fit(state)
         & direct_fits(state)
-        & follow_fits(state);
-    (state[5] < scope::MOST_CALLS) & counts
+        & follow_counts_fit(state)
+        & quality_fits(state);
+    let delays = round_trips_fit(state) & delay_fits(state);
+    counts & delays & (state[5] < scope::MOST_CALLS)
 }
 
 // ---- refusal 5
@@ -115,7 +117,7 @@ pub fn keys_ring(state: &[u64; LEDGER_WORDS]) -> Ring
     }
 }
 
-fn probes_ring(state: &[u64; LEDGER_WORDS]) -> Ring
+pub fn probes_ring(state: &[u64; LEDGER_WORDS]) -> Ring
     ensures { λ r. ⌜ r ≡ ledgerAt (now (state .entry)) .tables .probes ⌝ }
 {
     Ring {
@@ -133,12 +135,36 @@ fn seen_fits(state: &[u64; LEDGER_WORDS]) -> bool
     true
 }
 
+// A test that fails ends it: two words are then compared in the place of a word, a flag and what joins the flags.
 pub fn rings_fit(state: &[u64; LEDGER_WORDS]) -> bool
     ensures { λ r. ⌜ r ≡ ringsFit (ledgerAt (now (state .entry))) ⌝ }
 {
-    let keys = keys_ring(state);
-    let probes = probes_ring(state);
-    ring_fits(keys) & ring_fits(probes) & seen_fits(state)
+    if !(state[6] < 4096) {
+        return false;
+    }
+    if !(state[7] <= 4096) {
+        return false;
+    }
+    if !(state[8] < 4096) {
+        return false;
+    }
+    if !(state[9] <= 4096) {
+        return false;
+    }
+    seen_fits(state)
+}
+
+// Refusals 5 and 4 of `sent` and of `accept`, 0 where there is none; `sized` is whether the rooms have their size.
+pub fn refusal(state: &[u64; LEDGER_WORDS], sized: bool) -> u8
+    ensures { λ r. ⌜ r ≡ firstRefusal (sized && ringsFit (ledgerAt (now (state .entry)))) true true (roomForCall (ledgerAt (now (state .entry)))) true true ⌝ }
+{
+    if sized & rings_fit(state) {
+        if room_for_call(state) {
+            return 0;
+        }
+        return scope::COUNTS_FULL;
+    }
+    scope::WRONG_ROOM
 }
 
 // ---- the hash

@@ -1,31 +1,47 @@
 -- The ways through `ambrulicciu_sent`, put together from what its callees promise. Assumes nothing.
 use mathlib.Core.Path.{_≡_, sym, ap, _∙_}
+use mathlib.Core.Bool.{true, _&&_}
 use mathlib.Core.List.{List}
 use Prim.Native.Nat.{ℕ}
+use lib.ListN.{length}
 use Rattle.calls.specs.declared.SentProbe.{SentProbe}
 use Rattle.ledger_state.specs.declared.Ledger.{Ledger}
+use Rattle.ledger_state.specs.Refusal.{firstRefusal, sized, ringsFit, roomForCall}
 use Rattle.ledger_steps.specs.declared.Answer.{Answer}
 use Rattle.ledger_steps.specs.declared.Answer.the-variants as answer
+use Rattle.ledger_steps.specs.Refusals.{refusalOfSent}
+use Rattle.ledger_steps.specs.Sent.{sentOn}
 use Rattle.ledger_steps.specs.Calls.{SentResult, sentResult, sentTo}
+use Rattle.ledger_checks.specs.Sound.{SoundSent}
+use Rattle.ledger_checks.proofs.Order.{earlier-alone}
+use Rattle.ledger_checks.proofs.Sound.{sent-sound}
+use Rattle.ledger_sent.specs.Left.{left}
+use Rattle.ledger_sent.proofs.Steps as sent
 use Rattle.host_ledger.specs.Words.{ledgerAt}
 use Rattle.host_ledger.specs.Left.{sentWords}
 use Rattle.host_sent.specs.Sent.{sentLeft, sentFrom, sentOf}
 
--- w, probes, links: as lent; l, p: the ledger and the probe that the code made of them; a, probes', links': what `sent` answered and left
-module _ (w : List ℕ) (probes links : List (List ℕ)) (s : SentProbe) (l : Ledger) (p : SentProbe) (a : Answer) (probes' links' : List (List ℕ)) where
-  outcome-is :
-      l ≡ ledgerAt w → p ≡ s → sentResult a probes' links' ≡ sentTo 0 l probes links p → (b : Answer) → a ≡ b →
-      sentFrom w (sentResult b probes' links') ≡ sentOf w probes links s
-  unfolding sentOf
-  outcome-is hl hp h b hb =
-      ap (λ (x : Answer). sentFrom w (sentResult x probes' links')) (sym hb) ∙ ap (sentFrom w) (h ∙ (λ i. sentTo 0 (hl i) probes links (hp i)))
+-- w, probes, links: as lent; n: the number that the tests gave
+module _ (w : List ℕ) (probes links : List (List ℕ)) (n : ℕ)
+    (tested : n ≡ firstRefusal (sized (length probes) && sized (length links) && ringsFit (ledgerAt w)) true true (roomForCall (ledgerAt w)) true true) where
+  number-is : n ≡ refusalOfSent 0 (ledgerAt w) (length probes) (length links)
+  unfolding refusalOfSent
+  number-is = tested ∙ earlier-alone (firstRefusal (sized (length probes) && sized (length links) && ringsFit (ledgerAt w)) true true (roomForCall (ledgerAt w)) true true)
 
-  pub refused-is :
-      (n : ℕ) → l ≡ ledgerAt w → p ≡ s → sentResult a probes' links' ≡ sentTo 0 l probes links p → a ≡ answer.Refused n →
-      sentLeft n w probes' links' ≡ sentOf w probes links s
-  refused-is n hl hp h hb = outcome-is hl hp h (answer.Refused n) hb
+  pub sound : n ≡ 0 → SoundSent (ledgerAt w) (length probes) (length links)
+  sound z = sent-sound 0 (ledgerAt w) (length probes) (length links) (sym number-is ∙ z)
 
-  pub served-is :
-      (next : Ledger) (w' : List ℕ) → l ≡ ledgerAt w → p ≡ s → sentResult a probes' links' ≡ sentTo 0 l probes links p → a ≡ answer.Served next →
-      w' ≡ sentWords w next → sentLeft 0 w' probes' links' ≡ sentOf w probes links s
-  served-is next w' hl hp h hb hw = ap (λ (x : List ℕ). sentLeft 0 x probes' links') hw ∙ outcome-is hl hp h (answer.Served next) hb
+  module _ (s : SentProbe) where
+    pub refused-is : (n ≡ 0 → ⊥) → sentLeft n w probes links ≡ sentOf w probes links s
+    unfolding sentOf
+    refused-is h = ap (sentFrom w) (sent.refused-is 0 (ledgerAt w) probes links s n number-is h)
+
+    -- l, p: the ledger and the probe that the code made; next and the rooms with ': what `served` left
+    pub served-is :
+        (l next : Ledger) (p : SentProbe) (w' : List ℕ) (probes' links' : List (List ℕ)) → n ≡ 0 → l ≡ ledgerAt w → p ≡ s →
+        left next probes' links' ≡ sentOn l probes links p → w' ≡ sentWords w next →
+        sentLeft n w' probes' links' ≡ sentOf w probes links s
+    unfolding sentOf
+    served-is l next p w' probes' links' z hl hp h hw =
+        (λ i. sentLeft (z i) (hw i) probes' links')
+        ∙ ap (sentFrom w) (sent.served-is 0 (ledgerAt w) probes links s n next probes' links' number-is z (h ∙ (λ i. sentOn (hl i) probes links (hp i))))

@@ -1,9 +1,10 @@
-// `ambrulicciu_sent`: the ledger's `sent`, on the words and the rooms that a host lends.
+// `ambrulicciu_sent`: the ledger's `sent`, on the words and the rooms that a host lends. The refusals are tested in the words: of the ledger that is
+// then taken out the call needs a few words alone, and the others are not read.
 ghost use mathlib.Core.Path.{_≡_};
 ghost use Rattle.host_calls.specs.Calls.{probeOf};
 ghost use Rattle.host_sent.specs.Sent.{sentLeft, sentOf};
 use host_ledger::LEDGER_WORDS;
-use ledger_steps::Answer;
+use scope::CAPACITY;
 
 #[no_mangle]
 pub extern "C" fn ambrulicciu_sent(
@@ -18,14 +19,13 @@ pub extern "C" fn ambrulicciu_sent(
 ) -> u8
     ensures { λ r. ⌜ sentLeft r (now (ledger .exit)) (now (probes .exit)) (now (links .exit)) ≡ sentOf (now (ledger .entry)) (now (probes .entry)) (now (links .entry)) (probeOf sequence ordinal train time tag) ⌝ }
 {
-    let state = host_ledger::load(ledger);
-    let probe = host_calls::probe_of(sequence, ordinal, train, time, tag);
-    let answer = ledger_sent::sent(state, probes, links, probe);
-    match answer {
-        Answer::Refused(number) => number,
-        Answer::Served(next) => {
-            host_ledger::store_sent(ledger, next);
-            0
-        }
+    let sized = (probes.len() == CAPACITY) & (links.len() == CAPACITY);
+    let refused = host_checks::refusal(ledger, sized);
+    if refused == 0 {
+        let state = host_ledger::load(ledger);
+        let probe = host_calls::probe_of(sequence, ordinal, train, time, tag);
+        let next = ledger_sent::served(state, probes, links, probe);
+        host_ledger::store_sent(ledger, next);
     }
+    refused
 }

@@ -34,6 +34,10 @@ line-in n = among (eqb n wrongRoom) (eqb n outOfRange) (eqb n deadlinePasses) (e
     among false false false false false true = omega arith
     among false false false false false false = omega arith
 
+-- of a refusal and none the refusal, of none and none none
+pub earlier-alone : (a : ℕ) → a ≡ earlier a 0
+earlier-alone a = earlier-first a 0 (line a) (line 0) refl refl (line-in a)
+
 none-by : (a b : ℕ) (t : Bool) → leb (line a) (line b) ≡ t → cond t a b ≡ 0 → a ≡ 0
 none-by a b true e h = h
 none-by a b false e h = absurd (omega (arith, line-in a, leb-false (line a) (line b) e, ap line h))

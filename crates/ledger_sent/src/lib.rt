@@ -25,7 +25,7 @@ use ledger_steps::AnsweredAnswer;
 use scope::CAPACITY;
 
 // Remembers the probe, and counts: a `sent` that no test has refused.
-fn served(
+pub fn served(
     ledger: Ledger,
     probes: &mut [[u64; 4]],
     links: &mut [[u16; 8]],
