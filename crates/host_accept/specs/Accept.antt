@@ -4,9 +4,12 @@ use Prim.Native.Nat.{ℕ}
 use Rattle.calls.specs.declared.Reply.{Reply}
 use Rattle.ledger_steps.specs.declared.AcceptAnswer.{AcceptAnswer}
 use Rattle.ledger_steps.specs.declared.AcceptAnswer.the-variants as accepts
+use Rattle.replies.specs.Served.{afterDuplicate, afterUnknown}
+use Rattle.ledger_steps.specs.Accept.{AcceptOutcome, ledgerCounted}
 use Rattle.ledger_steps.specs.Calls.{AcceptResult, acceptNumber, acceptTo}
 use Rattle.host_calls.specs.Calls as host_calls
 use Rattle.host_ledger.specs.Words.{ledgerAt}
+use Rattle.host_ledger.specs.Left.{countedWords}
 use Rattle.host_served.specs.Served.{servedWords}
 
 -- the number returned, the words of the ledger, the four rooms and the answer's words
@@ -28,7 +31,7 @@ abbrev pub wordsAfter : List ℕ → AcceptAnswer → List ℕ
 wordsAfter w (accepts.Served next x) = servedWords w next x
 wordsAfter w (accepts.Refused n) = w
 
--- the five words of the answer: class, packet and ordinal where served, else as they were
+-- the six words of the answer: class, packet, ordinal and train where served, else as they were
 abbrev pub answerAfter : List ℕ → AcceptAnswer → List ℕ
 answerAfter a (accepts.Served next x) = host_calls.acceptedWords x
 answerAfter a (accepts.Refused n) = a
@@ -40,3 +43,17 @@ acceptFrom w a r = acceptLeft (acceptNumber (r .answer)) (wordsAfter w (r .answe
 -- the whole call, without a monitor: no refusal of another part
 unfoldable pub acceptOf : List ℕ → List (List ℕ) → List (List ℕ) → List (List ℕ) → List (List ℕ) → List ℕ → Reply → AcceptLeft
 acceptOf w keys slots probes links a reply = acceptFrom w a (acceptTo 0 (ledgerAt w) keys slots probes links reply)
+
+-- ---- its steps
+
+-- a served call
+abbrev pub servedLeaves : List ℕ → AcceptOutcome → AcceptLeft
+servedLeaves w o = acceptLeft 0 (servedWords w (o .ledger) (o .accepted)) (o .keys) (o .slots) (o .probes) (o .links) (host_calls.acceptedWords (o .accepted))
+
+-- the words after a duplicate: those that the library's ledger after it is stored as
+unfoldable pub duplicateWords : List ℕ → List ℕ
+duplicateWords w = countedWords w (ledgerCounted (ledgerAt w) (afterDuplicate (ledgerAt w .counts .replies)))
+
+-- the words after an unknown reply
+unfoldable pub unknownWords : List ℕ → List ℕ
+unknownWords w = countedWords w (ledgerCounted (ledgerAt w) (afterUnknown (ledgerAt w .counts .replies)))

@@ -11,7 +11,7 @@ ghost use Rattle.clock_quality.specs.Bounds as clock_quality;
 ghost use Rattle.direct.specs.Outcomes.{seenIn, countsInBounds};
 ghost use Rattle.follow_ups.specs.Bounds as follow_ups;
 ghost use Rattle.ledger_state.specs.State.{hashWords};
-ghost use Rattle.ledger_state.specs.Refusal.{firstRefusal, ringFits, ringsFit, roomForCall};
+ghost use Rattle.ledger_state.specs.Refusal.{firstRefusal, ringsFit, roomForCall};
 ghost use Rattle.host_quality.specs.Words.{qualityAt};
 ghost use Rattle.host_ledger.specs.Parts.{repliesAt, delaysAt, windowAt, directAt, followAt};
 ghost use Rattle.host_ledger.specs.Words.{ledgerAt};
@@ -20,7 +20,6 @@ use host_ledger::LEDGER_WORDS;
 use host_numbers::high;
 use host_numbers::is_set;
 use host_numbers::low;
-use scope::CAPACITY;
 use scope::COUNT_BOUND;
 
 // ---- refusal 4
@@ -101,12 +100,6 @@ pub fn room_for_call(state: &[u64; LEDGER_WORDS]) -> bool
 }
 
 // ---- refusal 5
-
-pub fn ring_fits(ring: Ring) -> bool
-    ensures { λ r. ⌜ r ≡ ringFits ring ⌝ }
-{
-    (ring.head < CAPACITY) & (ring.len <= CAPACITY)
-}
 
 pub fn keys_ring(state: &[u64; LEDGER_WORDS]) -> Ring
     ensures { λ r. ⌜ r ≡ ledgerAt (now (state .entry)) .tables .keys ⌝ }

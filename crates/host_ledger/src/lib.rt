@@ -72,7 +72,7 @@ fn tables_of(state: &[u64; LEDGER_WORDS]) -> Tables
     }
 }
 
-fn replies_of(state: &[u64; LEDGER_WORDS]) -> Replies
+pub fn replies_of(state: &[u64; LEDGER_WORDS]) -> Replies
     ensures { λ r. ⌜ r ≡ repliesAt 11 72 (now (state .entry)) ⌝ }
 {
     let last = reflector_of(state[19]);
@@ -129,7 +129,7 @@ pub fn direct_of(state: &[u64; LEDGER_WORDS]) -> Direct
     }
 }
 
-fn quality_of(state: &[u64; LEDGER_WORDS]) -> ClockQuality
+pub fn quality_of(state: &[u64; LEDGER_WORDS]) -> ClockQuality
     ensures { λ r. ⌜ r ≡ qualityAt 58 (now (state .entry)) ⌝ }
 {
     let largest = host_quality::largest_of(state[66], state[67]);
@@ -221,7 +221,7 @@ fn store_secret(state: &mut [u64; LEDGER_WORDS], secret: Secret)
     state[4] = both(secret.seventh, secret.eighth);
 }
 
-fn store_tables(state: &mut [u64; LEDGER_WORDS], tables: Tables)
+pub fn store_tables(state: &mut [u64; LEDGER_WORDS], tables: Tables)
     ensures { λ _. ⌜ now (state .exit) ≡ sets (now (state .entry)) 6 (tablesWords tables) ⌝ }
 {
     let keys = tables.keys;
@@ -233,7 +233,7 @@ fn store_tables(state: &mut [u64; LEDGER_WORDS], tables: Tables)
     state[10] = flag(tables.awaits);
 }
 
-fn store_replies(state: &mut [u64; LEDGER_WORDS], replies: Replies)
+pub fn store_replies(state: &mut [u64; LEDGER_WORDS], replies: Replies)
     ensures { λ _. ⌜ (now (state .exit) ≡ set (sets (now (state .entry)) 11 (repliesWords replies)) 72 (replies .evicted .unanswered)) × RepliesKept replies ⌝ }
 {
     let totals = replies.totals;

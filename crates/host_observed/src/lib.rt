@@ -64,7 +64,7 @@ pub fn delay_of(state: &[u64; LEDGER_WORDS]) -> Delays
     )
 }
 
-fn quality_without_last(state: &[u64; LEDGER_WORDS]) -> ClockQuality
+pub fn quality_without_last(state: &[u64; LEDGER_WORDS]) -> ClockQuality
     ensures { λ r. ⌜ r ≡ qualityWithoutLast (qualityAt 58 (now (state .entry))) ⌝ }
 {
     let largest = host_quality::largest_of(state[66], state[67]);
@@ -115,7 +115,7 @@ pub fn store_rtt(state: &mut [u64; LEDGER_WORDS], delays: Delays)
     state[32] = extreme_magnitude(max);
 }
 
-fn store_delay(state: &mut [u64; LEDGER_WORDS], delays: Delays)
+pub fn store_delay(state: &mut [u64; LEDGER_WORDS], delays: Delays)
     ensures { λ _. ⌜ now (state .exit) ≡ sets (now (state .entry)) 50 (delaysWords delays) ⌝ }
 {
     let sum = delays.sum;
@@ -168,7 +168,7 @@ pub fn store_direct(state: &mut [u64; LEDGER_WORDS], direct: Direct)
     store_window(state, window);
 }
 
-fn store_quality(state: &mut [u64; LEDGER_WORDS], quality: ClockQuality)
+pub fn store_quality(state: &mut [u64; LEDGER_WORDS], quality: ClockQuality)
     ensures { λ _. ⌜ (now (state .exit) ≡ sets (now (state .entry)) 58 (qualityWords quality)) × QualityKept quality ⌝ }
 {
     let largest = quality.largest;

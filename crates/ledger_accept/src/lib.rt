@@ -35,7 +35,7 @@ use replies::Replies;
 use replies::ReplyClass;
 use scope::CAPACITY;
 
-fn is_pending(pending: Pending) -> bool
+pub fn is_pending(pending: Pending) -> bool
     ensures { λ r. ⌜ r ≡ isPending pending ⌝ }
 {
     match pending {
@@ -100,7 +100,7 @@ fn unknown(ledger: Ledger) -> AcceptAnswer
 // ---- a unique reply
 
 // The slot of the reply's probe: a held one stays as it is, another is remembered without an ordinal.
-fn ready_probe(
+pub fn ready_probe(
     probes: &mut [[u64; 4]],
     links: &mut [[u16; 8]],
     ring: Ring,
@@ -126,13 +126,13 @@ fn ready_probe(
 }
 
 // What a reply was to its probe: how many came before it, and the answer.
-struct Replied {
-    before: u16,
-    context: Accepted,
+pub struct Replied {
+    pub before: u16,
+    pub context: Accepted,
 }
 
 // One reply more for the probe of a slot.
-fn reply_to(probes: &mut [[u64; 4]], slot: usize, pending: Pending) -> Replied
+pub fn reply_to(probes: &mut [[u64; 4]], slot: usize, pending: Pending) -> Replied
     requires { ⌜ (length (now probes) ≡ capacity) × (slot < capacity) ⌝ }
     ensures { λ r. ⌜ (r .before ≡ probeAt (now (probes .entry)) slot .replies) × (r .context ≡ contextOf (afterReply pending (probeAt (now (probes .entry)) slot))) × (now (probes .exit) ≡ repliedRows (now (probes .entry)) slot pending) ⌝ }
 {

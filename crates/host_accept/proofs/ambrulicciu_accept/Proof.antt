@@ -1,15 +1,19 @@
 -- `host_accept::ambrulicciu_accept` meets its contract. Assumes nothing.
-use mathlib.Core.Path.{_∙_}
-use Rattle.host_accept.proofs.Steps.{duplicate-is, other-is}
+use Rattle.host_accept.proofs.Steps.{sound, refused-is, served-is}
 use borrow.Author.Needs.{needs}
 use Rattle.host_accept.proofs.ambrulicciu_accept.Statement.{statement}
 use Rattle.host_accept.proofs.ambrulicciu_accept.Tie as tie
 
+refusal-requires : tie.Need-refusal-requires
+refusal-requires c κs = search needs
+
 reply-of-requires : tie.Need-reply-of-requires
 reply-of-requires c κs = search needs
 
-count-if-duplicate-requires : tie.Need-count-if-duplicate-requires
-count-if-duplicate-requires c κs = search needs
+served-requires : tie.Need-served-requires
+served-requires c κs =
+    let a = c .before .before .before .before .before .before .before .before .before .before .args in
+    sound (a .ledger .now) (a .keys .now) (a .slots .now) (a .probes .now) (a .links .now) _ (c .before .before .before .before .before .before .before .before .refusal .ensures) (c .before .before .before .before .before .before .before .if1 .taken)
 
 same-length : tie.Need-same-length
 same-length c = search needs
@@ -17,50 +21,33 @@ same-length c = search needs
 same-length-2 : tie.Need-same-length-2
 same-length-2 c = search needs
 
-returns : tie.Need-returns
-returns c =
-    let s = c .before .before in
-    let t = s .before .before .before .before .before in
-    let args = t .before .args in
-    duplicate-is (args .ledger .now) (args .keys .now) (args .slots .now) (args .probes .now) (args .links .now) (args .answer .now) _
-    (s .count-if-duplicate .result) (t .reply-of .result) _ (t .reply-of .ensures) (s .count-if-duplicate .ensures .0) (s .count-if-duplicate .ensures .1) (c .before .if1 .taken)
-
-accept-requires : tie.Need-accept-requires
-accept-requires c κs = search needs
-
 same-length-3 : tie.Need-same-length-3
 same-length-3 c = search needs
 
 same-length-4 : tie.Need-same-length-4
 same-length-4 c = search needs
 
-same-length-5 : tie.Need-same-length-5
-same-length-5 c = search needs
-
-same-length-6 : tie.Need-same-length-6
-same-length-6 c = search needs
+returns : tie.Need-returns
+returns c =
+    let a = c .before .before .before .before .before .before .before .before .before .before .before .before .before .before .before .args in
+    served-is (a .ledger .now) (a .keys .now) (a .slots .now) (a .probes .now) (a .links .now) _ (c .before .before .before .before .before .before .before .before .before .before .before .before .before .refusal .ensures) (a .answer .now) _ _ _ _ _ _ _ _
+    (c .before .before .before .before .before .before .before .before .before .before .before .before .if1 .taken) (c .before .before .before .before .before .before .before .before .before .before .before .reply-of .ensures) (c .before .before .before .before .served .ensures)
 
 returns-2 : tie.Need-returns-2
 returns-2 c =
-    let s = c .before .before .before .before .before .before .before .before .before .before .before .before in
-    let t = s .before .before .before .before .before in
-    let args = t .before .args in
-    c .before .before .before .before .accept .ensures
-    ∙ other-is (args .ledger .now) (args .keys .now) (args .slots .now) (args .probes .now) (args .links .now) (args .answer .now) _
-    (s .count-if-duplicate .result) (t .reply-of .result) _ (t .reply-of .ensures) (s .count-if-duplicate .ensures .1) (c .before .before .before .before .before .before .before .before .before .before .before .if1 .left)
+    let a = c .before .before .before .args in
+    refused-is (a .ledger .now) (a .keys .now) (a .slots .now) (a .probes .now) (a .links .now) _ (c .before .refusal .ensures) (a .answer .now) _ (c .if1 .left)
 
 pub ambrulicciu-accept-spec : {M : Type 1} → statement M
 ambrulicciu-accept-spec =
     tie.close
     (tie.spec
+    refusal-requires
     reply-of-requires
-    count-if-duplicate-requires
+    served-requires
     same-length
     same-length-2
-    returns
-    accept-requires
     same-length-3
     same-length-4
-    same-length-5
-    same-length-6
+    returns
     returns-2)
