@@ -2,8 +2,10 @@
 // An i64 is its two's complement word, and the type parameter is a flag, so that both kinds share one set of laws.
 ghost use mathlib.Core.Path.{_≡_};
 ghost use Prim.Native.Nat.{_+_, _*_, _/_, _≤_, _<_, _^_};
-ghost use Rattle.buckets.specs.Buckets.{shiftOf, index, value};
-ghost use Rattle.buckets.specs.Signed.{bucketCount, order, indexOf, valueOf};
+ghost use mathlib.Core.Bool.{true};
+ghost use lib.Dec.{ltb};
+ghost use Rattle.buckets.specs.Buckets.{pick, shiftOf, index, value};
+ghost use Rattle.buckets.specs.Signed.{bucketCount, magnitude, order, indexOf, valueOf};
 
 const HALF: u64 = 9223372036854775808;
 
@@ -38,15 +40,34 @@ pub fn magnitude_value(place: usize) -> u64
     ((128 + place % 128) as u64) << shift
 }
 
+// How far a signed word's value is from zero.
+fn from_zero(word: u64) -> u64
+    ensures { λ r. ⌜ r ≡ magnitude true word ⌝ }
+{
+    if word < HALF {
+        word
+    } else {
+        18446744073709551615 - word + 1
+    }
+}
+
+// Twice the place where the value is below zero, else 0. Which of the two is no jump in the compiled code: a processor guesses the sign of a
+// delay around zero wrong half of the time.
+fn twice_below_zero(word: u64, place: usize) -> usize
+    requires { ⌜ place < 7424 ⌝ }
+    ensures { λ r. ⌜ r ≡ pick (ltb word (2 ^ 63)) 0 (place + place) ⌝ }
+{
+    if word < HALF { 0 } else { place + place }
+}
+
 // `QuantileValue::index`: the bucket of a word.
 pub fn bucket_of(signed: bool, word: u64) -> usize
     ensures { λ r. ⌜ (r ≡ indexOf signed word) × (r < bucketCount signed) ⌝ }
 {
     if signed {
-        if word < HALF {
-            return SIGNED_ZERO + magnitude_index(word);
-        }
-        return SIGNED_ZERO - magnitude_index(18446744073709551615 - word + 1);
+        let place = magnitude_index(from_zero(word));
+        let back = twice_below_zero(word, place);
+        return SIGNED_ZERO + place - back;
     }
     magnitude_index(word)
 }

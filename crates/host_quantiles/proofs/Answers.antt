@@ -1,7 +1,9 @@
 -- What the proofs of the calls cite: each case of the library's answer. Assumes nothing.
 use mathlib.Core.Path.{_≡_, refl, sym, ap, _∙_}
+use mathlib.Core.Bool.{Bool, true, false, not}
+use borrow.Author.Tests.{ne-eqb}
 use mathlib.Core.List.{List}
-use Prim.Native.Nat.{ℕ, suc}
+use Prim.Native.Nat.{ℕ, suc, _<_, _≤_}
 use native.Mathlib.Omega.{arith}
 use lib.Ieee.{Float}
 use lib.ListN.{getD, set}
@@ -17,6 +19,7 @@ use Rattle.percentiles.specs.declared.Showing.the-variants as showing
 use Rattle.percentiles.specs.Percentiles as percentiles-call
 use Rattle.percentiles.proofs.Determined.{refusal-has-no-values}
 use Rattle.host_quantiles.specs.Calls.{quantilesAt, wordsWith, started, freshTo, recordLeft, RecordLeft, recordBy, recordTo, percentilesLeft, PercentilesLeft, percentilesBy, percentilesTo}
+use Rattle.host_quantiles.specs.Kept.{stateOf, Kept, kept, keptBy}
 
 pub fresh-said : (ws : List ℕ) (signed n : ℕ) → n ≡ flagWord (isSet signed) → started 0 (set (set (set (set ws 0 n) 1 0) 2 0) 3 0) ≡ freshTo ws signed
 unfolding freshTo
@@ -60,6 +63,30 @@ module _ (ws room after recorded : List ℕ) (value : ℕ) (q : Quantiles) (a : 
       → recordLeft 0 (set (set (set ws 1 (next .count)) 2 (next .min)) 3 (next .max)) after (set recorded 0 1) ≡ recordTo ws room value recorded
   unfolding recordTo record-call.outcome record-call.taken
   record-counted next told = ap (λ (o : record-call.Outcome). recordBy (o .number) o ws room recorded) (from-answer (recording.Counted next) told)
+
+-- what is kept of an answer is what the call leaves
+pub record-kept : (ws room after recorded : List ℕ) (value : ℕ) (q : Quantiles) (a : Recording) → q ≡ quantilesAt ws → record-call.outcome q a after ≡ record-call.recorded q room value
+    → (n : ℕ) (words answered : List ℕ) → kept n words answered ≡ keptBy a ws recorded → recordLeft n words after answered ≡ recordTo ws room value recorded
+record-kept ws room after recorded value q recording.Refused is left n words answered e =
+    ap (λ (k : Kept). recordLeft (k .number) (k .words) after (k .recorded)) e ∙ record-refused ws room after recorded value q recording.Refused is left refl
+record-kept ws room after recorded value q recording.Full is left n words answered e =
+    ap (λ (k : Kept). recordLeft (k .number) (k .words) after (k .recorded)) e ∙ record-full ws room after recorded value q recording.Full is left refl
+record-kept ws room after recorded value q (recording.Counted next) is left n words answered e =
+    ap (λ (k : Kept). recordLeft (k .number) (k .words) after (k .recorded)) e ∙ record-counted ws room after recorded value q (recording.Counted next) is left next refl
+
+-- the state of the kind that the flag says is the one that the words say
+pub kind-unsigned : (ws : List ℕ) (q : Quantiles) → q ≡ stateOf ws false → getD ws 0 0 ≡ 0 → q ≡ quantilesAt ws
+kind-unsigned ws q is e = is ∙ ap (stateOf ws) (sym (ap isSet e))
+
+pub kind-signed : (ws : List ℕ) (q : Quantiles) → q ≡ stateOf ws true → (getD ws 0 0 ≡ 0 → ⊥) → q ≡ quantilesAt ws
+kind-signed ws q is n = is ∙ ap (stateOf ws) (sym (ap not (ne-eqb (getD ws 0 0) 0 n)))
+
+-- which sample it is
+pub early : (ws : List ℕ) (q : Quantiles) (s : Bool) → q ≡ stateOf ws s → (getD ws 1 0 ≡ 0 → ⊥) → getD ws 1 0 < 4096 → (0 < q .count) × (q .count < 4096)
+early ws q s is n l = let e : q .count ≡ getD ws 1 0 = ap (λ (p : Quantiles). p .count) is in (omega arith, omega arith)
+
+pub late : (ws : List ℕ) (q : Quantiles) (s : Bool) → q ≡ stateOf ws s → (getD ws 1 0 ≡ 4096 → ⊥) → 4096 ≤ getD ws 1 0 → 4096 < q .count
+late ws q s is n l = let e : q .count ≡ getD ws 1 0 = ap (λ (p : Quantiles). p .count) is in omega arith
 
 -- ---- percentiles
 

@@ -5,6 +5,7 @@ use quantiles::Quantiles;
 use quantiles::Recording;
 ghost use mathlib.Core.Path.{_≡_};
 ghost use Rattle.host_quantiles.specs.Calls.{quantilesAt, started, freshTo, recordLeft, recordTo, percentilesLeft, percentilesTo};
+ghost use Rattle.host_quantiles.specs.Kept.{stateOf, kept, keptBy};
 
 // The state that the words say.
 fn load(words: &[u64; 4]) -> Quantiles
@@ -12,6 +13,18 @@ fn load(words: &[u64; 4]) -> Quantiles
 {
     Quantiles {
         signed: words[0] != 0,
+        count: words[1],
+        min: words[2],
+        max: words[3],
+    }
+}
+
+// The state of that kind, with the count, the least and the greatest value that the words say.
+fn state_of(words: &[u64; 4], signed: bool) -> Quantiles
+    ensures { λ r. ⌜ r ≡ stateOf (now (words .entry)) signed ⌝ }
+{
+    Quantiles {
+        signed: signed,
         count: words[1],
         min: words[2],
         max: words[3],
@@ -30,18 +43,10 @@ pub extern "C" fn ambrulicciu_quantiles_fresh(quantiles: &mut [u64; 4], signed: 
     0
 }
 
-// One sample more: `recorded` has 1; or 0 at a count of 2^64-1, and then nothing else changes.
-#[no_mangle]
-pub extern "C" fn ambrulicciu_quantiles_record(
-    quantiles: &mut [u64; 4],
-    room: &mut [u64],
-    value: u64,
-    recorded: &mut [u64; 1],
-) -> u8
-    ensures { λ r. ⌜ recordLeft r (now (quantiles .exit)) (now (room .exit)) (now (recorded .exit)) ≡ recordTo (now (quantiles .entry)) (now (room .entry)) value (now (recorded .entry)) ⌝ }
+// The number of an answer; where a sample was counted, the words have the state with it.
+fn keep(quantiles: &mut [u64; 4], recorded: &mut [u64; 1], answer: Recording) -> u8
+    ensures { λ r. ⌜ kept r (now (quantiles .exit)) (now (recorded .exit)) ≡ keptBy answer (now (quantiles .entry)) (now (recorded .entry)) ⌝ }
 {
-    let state = load(quantiles);
-    let answer = state.record(room, value);
     match answer {
         Recording::Refused => scope::WRONG_ROOM,
         Recording::Full => {
@@ -57,6 +62,52 @@ pub extern "C" fn ambrulicciu_quantiles_record(
             0
         }
     }
+}
+
+// Any sample.
+fn record_any(quantiles: &mut [u64; 4], room: &mut [u64], value: u64, recorded: &mut [u64; 1]) -> u8
+    ensures { λ r. ⌜ recordLeft r (now (quantiles .exit)) (now (room .exit)) (now (recorded .exit)) ≡ recordTo (now (quantiles .entry)) (now (room .entry)) value (now (recorded .entry)) ⌝ }
+{
+    let state = load(quantiles);
+    let answer = state.record(room, value);
+    keep(quantiles, recorded, answer)
+}
+
+// One sample more: `recorded` has 1; or 0 at a count of 2^64-1, and then nothing else changes.
+// The first sample and sample 4,097 are left to `record_any`, which stands by itself in the compiled code since two places call it; the others
+// go a way that is short for each kind.
+#[no_mangle]
+pub extern "C" fn ambrulicciu_quantiles_record(
+    quantiles: &mut [u64; 4],
+    room: &mut [u64],
+    value: u64,
+    recorded: &mut [u64; 1],
+) -> u8
+    ensures { λ r. ⌜ recordLeft r (now (quantiles .exit)) (now (room .exit)) (now (recorded .exit)) ≡ recordTo (now (quantiles .entry)) (now (room .entry)) value (now (recorded .entry)) ⌝ }
+{
+    let count = quantiles[1];
+    if count == 0 {
+        return record_any(quantiles, room, value, recorded);
+    }
+    if count == 4096 {
+        return record_any(quantiles, room, value, recorded);
+    }
+    if quantiles[0] == 0 {
+        let state = state_of(quantiles, false);
+        if count < 4096 {
+            let answer = state.record_sample(room, value);
+            return keep(quantiles, recorded, answer);
+        }
+        let answer = state.record_later(room, value);
+        return keep(quantiles, recorded, answer);
+    }
+    let state = state_of(quantiles, true);
+    if count < 4096 {
+        let answer = state.record_sample(room, value);
+        return keep(quantiles, recorded, answer);
+    }
+    let answer = state.record_later(room, value);
+    keep(quantiles, recorded, answer)
 }
 
 // The value of each percentile, in the word of `shown` that has its place: `present` has 1; or 0 without samples, and then `shown` stays.

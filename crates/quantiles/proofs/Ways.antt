@@ -48,6 +48,13 @@ grown-later q v low high n e f =
     ∙ sym
     (grown-picked q v ∙ ap (λ (t : Bool). picked q v t (ltb (order (q .signed) v) (order (q .signed) (q .min))) (ltb (order (q .signed) (q .max)) (order (q .signed) v))) (ne-eqb (q .count) 0 n))
 
+-- at a count above 0 the minimum is above the maximum where the words are; at count 0 never
+pub crossed-by : (q : Quantiles) (t : Bool) → 0 < q .count → ltb (order (q .signed) (q .max)) (order (q .signed) (q .min)) ≡ t → crossed q ≡ t
+crossed-by q t h e = ap (λ (u : Bool). u && ltb (order (q .signed) (q .max)) (order (q .signed) (q .min))) (lt-ltb 0 (q .count) h) ∙ e
+
+pub never-crossed : (q : Quantiles) → q .count ≡ 0 → crossed q ≡ false
+never-crossed q e = ap (λ (u : Bool). u && ltb (order (q .signed) (q .max)) (order (q .signed) (q .min))) (le-ltb 0 (q .count) (le-of-eq e))
+
 -- ---- which way a call goes, by its tests
 
 by-tests : Quantiles → List ℕ → ℕ → Bool → Bool → Outcome

@@ -53,28 +53,28 @@ pub fn fresh(signed: bool) -> Quantiles
     }
 }
 
+// Whether the least value is above the greatest.
+fn above(q: Quantiles) -> bool
+    ensures { λ r. ⌜ r ≡ ltb (order (q .signed) (q .max)) (order (q .signed) (q .min)) ⌝ }
+{
+    let low = buckets::ordered(q.signed, q.min);
+    let high = buckets::ordered(q.signed, q.max);
+    high < low
+}
+
 // Whether the minimum is above the maximum at a count above 0.
 pub fn min_above_max(q: Quantiles) -> bool
     ensures { λ r. ⌜ r ≡ crossed q ⌝ }
 {
-    let low = buckets::ordered(q.signed, q.min);
-    let high = buckets::ordered(q.signed, q.max);
-    (0 < q.count) & (high < low)
+    let crossed = above(q);
+    (0 < q.count) & crossed
 }
 
-// The state with one sample more.
+// The state with one sample more, where there was one before.
 fn grow(q: Quantiles, value: u64) -> Quantiles
-    requires { ⌜ q .count + 1 < 2 ^ 64 ⌝ }
+    requires { ⌜ (0 < q .count) × (q .count + 1 < 2 ^ 64) ⌝ }
     ensures { λ r. ⌜ r ≡ grown q value ⌝ }
 {
-    if q.count == 0 {
-        return Quantiles {
-            signed: q.signed,
-            count: 1,
-            min: value,
-            max: value,
-        };
-    }
     let low = least(q.signed, q.min, value);
     let high = greatest(q.signed, q.max, value);
     Quantiles {
@@ -118,10 +118,8 @@ fn count_in(signed: bool, room: &mut [u64], place: usize)
 {
     let at = scope::CAPACITY + place;
     let block = totals_start(signed) + place / 128;
-    let n = room[at];
-    let m = room[block];
-    room[at] = n + 1;
-    room[block] = m + 1;
+    room[at] = room[at] + 1;
+    room[block] = room[block] + 1;
 }
 
 // Zeroes, then fills the buckets and the totals from the 4,096 samples.
@@ -140,7 +138,7 @@ fn fill(signed: bool, room: &mut [u64])
 
 // A sample of the exact mode: it stands behind those before it.
 fn add_sample(q: Quantiles, room: &mut [u64], value: u64) -> Recording
-    requires { ⌜ (length (now room) ≡ roomSize (q .signed)) × (crossed q ≡ false) × (q .count < 4096) ⌝ }
+    requires { ⌜ (length (now room) ≡ roomSize (q .signed)) × (crossed q ≡ false) × (0 < q .count) × (q .count < 4096) ⌝ }
     ensures { λ r. ⌜ outcome q r (now (room .exit)) ≡ recorded q (now (room .entry)) value ⌝ }
 {
     let next = q.count as usize;
@@ -181,22 +179,79 @@ fn add_later(q: Quantiles, room: &mut [u64], value: u64) -> Recording
 }
 
 impl Quantiles {
-    // `record`: one sample more, in the room that holds the others.
-    pub fn record(self, room: &mut [u64], value: u64) -> Recording
+    // `record` of the first sample, which is the least and the greatest.
+    fn record_first(self, room: &mut [u64], value: u64) -> Recording
+        requires { ⌜ self .count ≡ 0 ⌝ }
         ensures { λ r. ⌜ outcome self r (now (room .exit)) ≡ recorded self (now (room .entry)) value ⌝ }
     {
         if room.len() != room_size(self.signed) {
             return Recording::Refused;
         }
-        if min_above_max(self) {
+        room[0] = value;
+        Recording::Counted(Quantiles {
+            signed: self.signed,
+            count: 1,
+            min: value,
+            max: value,
+        })
+    }
+
+    // `record` of a sample of the exact mode, not the first.
+    pub fn record_sample(self, room: &mut [u64], value: u64) -> Recording
+        requires { ⌜ (0 < self .count) × (self .count < 4096) ⌝ }
+        ensures { λ r. ⌜ outcome self r (now (room .exit)) ≡ recorded self (now (room .entry)) value ⌝ }
+    {
+        if room.len() != room_size(self.signed) {
             return Recording::Refused;
         }
-        if self.count < 4096 {
-            return add_sample(self, room, value);
+        if above(self) {
+            return Recording::Refused;
         }
-        if self.count == 4096 {
-            return add_first(self, room, value);
+        add_sample(self, room, value)
+    }
+
+    // `record` of sample 4,097.
+    fn record_building(self, room: &mut [u64], value: u64) -> Recording
+        requires { ⌜ self .count ≡ 4096 ⌝ }
+        ensures { λ r. ⌜ outcome self r (now (room .exit)) ≡ recorded self (now (room .entry)) value ⌝ }
+    {
+        if room.len() != room_size(self.signed) {
+            return Recording::Refused;
+        }
+        if above(self) {
+            return Recording::Refused;
+        }
+        add_first(self, room, value)
+    }
+
+    // `record` of a later sample.
+    pub fn record_later(self, room: &mut [u64], value: u64) -> Recording
+        requires { ⌜ 4096 < self .count ⌝ }
+        ensures { λ r. ⌜ outcome self r (now (room .exit)) ≡ recorded self (now (room .entry)) value ⌝ }
+    {
+        if room.len() != room_size(self.signed) {
+            return Recording::Refused;
+        }
+        if above(self) {
+            return Recording::Refused;
         }
         add_later(self, room, value)
+    }
+
+    // `record`: one sample more, in the room that holds the others. A caller that is to be fast asks for `record_sample` or `record_later` itself,
+    // with a flag that the compiler knows, and for this only at the first sample and at sample 4,097.
+    pub fn record(self, room: &mut [u64], value: u64) -> Recording
+        ensures { λ r. ⌜ outcome self r (now (room .exit)) ≡ recorded self (now (room .entry)) value ⌝ }
+    {
+        if self.count == 0 {
+            return self.record_first(room, value);
+        }
+        if self.count < 4096 {
+            return self.record_sample(room, value);
+        }
+        if self.count == 4096 {
+            return self.record_building(room, value);
+        }
+        self.record_later(room, value)
     }
 }

@@ -23,7 +23,7 @@ unfolding outcome
 returns c =
     let a = c .before .before .args in
     let p = c .before .before .pre in
-    way-exact (a .q) (now (a .room)) (a .value) (c .grow .result) (p .0) (p .1) (p .2) (c .grow .ensures)
+    way-exact (a .q) (now (a .room)) (a .value) (c .grow .result) (p .0) (p .1) (p .3) (c .grow .ensures)
 
 pub add-sample-spec : {M : Type 1} → statement M
 add-sample-spec = tie.close (tie.spec mul-room slice-write-room grow-requires same-length returns)
