@@ -1,17 +1,20 @@
 -- The ways through a sample, each a law of the definition. Assumes nothing.
 use mathlib.Core.Path.{_≡_, refl, sym, _∙_, ap}
-use mathlib.Core.Bool.{Bool, true, false, not, _||_, true≢false}
+use mathlib.Core.Bool.{Bool, true, false, not, _&&_, _||_}
 use mathlib.Core.List.{List}
-use Prim.Native.Nat.{ℕ, _-_, _^_, _≤_, _<_}
-use native.Mathlib.Omega.{arith}
-use borrow.Author.Tests.{lt-ltb, le-ltb}
+use Prim.Native.Nat.{ℕ, _+_, _-_, _/_, _^_, _≤_, _<_}
+use borrow.Author.Tests.{lt-ltb, le-ltb, eq-eqb, ne-eqb}
 use lib.Dec.{ltb, eqb}
+use lib.ListN.{length, getD}
+use Rattle.buckets.specs.Signed.{bucketCount, indexOf}
 use Rattle.scope.specs.Refusals.{wrongRoom, countsFull}
 use Rattle.scope.specs.Limits.{capacity}
 use Rattle.quantiles.specs.declared.Quantiles.{Quantiles}
 use Rattle.quantiles.specs.declared.Recording.{Recording}
 use Rattle.quantiles.specs.declared.Recording.the-variants as recording
-use Rattle.quantiles.specs.State.{sized, crossed}
+use Rattle.quantiles.specs.State.{roomSize, buckets, totals, blockOf, sized, crossed}
+use Rattle.quantiles.proofs.Parts.{bucket-word, total-word}
+use Rattle.quantiles.proofs.Tally.{parts-in}
 use Rattle.quantiles.specs.Record as record-call
 use Rattle.quantiles.specs.Record.{Outcome, still, taken, passes, refuses, grown, stored, pickOutcome, recorded}
 use Rattle.series.specs.declared.Sampling.{Sampling}
@@ -61,46 +64,55 @@ module _ (q : Quantiles) (room : List ℕ) (v : ℕ) where
   unfolding without
   way-sums h e f = by-test false (none-refuses h e f)
 
-  -- ---- a histogram is asked at a full count
+  -- ---- a histogram: the value's bucket, then the total of its block
 
-  abbrev full : Quantiles
-  full = record { signed = q .signed; count = 18446744073709551615; min = q .min; max = q .max }
+  abbrev inBucket : ℕ
+  inBucket = getD (buckets (q .signed) room) (indexOf (q .signed) v) 0
 
-  same-refusal : 4096 < q .count → refuses full room v ≡ refuses q room v
-  unfolding refuses passes
-  same-refusal h =
-      let zero : ltb 0 (q .count) ≡ true = lt-ltb 0 (q .count) (omega (arith, h)) in
-      let most : ltb capacity (q .count) ≡ true = lt-ltb 4096 (q .count) h in
-      rw (zero, most)
+  abbrev inBlock : ℕ
+  inBlock = getD (totals (q .signed) room) (blockOf (q .signed) v) 0
 
-  asked : 4096 < q .count → recorded full room v ≡ pickOutcome (refuses q room v) (still wrongRoom full room) (still 0 full room)
-  unfolding recorded
-  asked h = ap (λ (b : Bool). pickOutcome b (still wrongRoom full room) (still 0 full room)) (same-refusal h)
+  passes-by : (top high : Bool) → 4096 < q .count → eqb inBucket (2 ^ 64 - 1) ≡ top → eqb inBlock (2 ^ 64 - 1) ≡ high → passes q room v ≡ (top || high)
+  unfolding passes
+  passes-by top high h e f =
+      ap (λ (t : Bool). t && (eqb inBucket (2 ^ 64 - 1) || eqb inBlock (2 ^ 64 - 1))) (lt-ltb 4096 (q .count) h)
+      ∙ ap (λ (t : Bool). t || eqb inBlock (2 ^ 64 - 1)) e
+      ∙ ap (λ (t : Bool). top || t) f
 
-  abbrev pub answer-beside : Recording → Sampling
-  answer-beside recording.Refused = Refused
-  answer-beside recording.Full = SumsFull
-  answer-beside (recording.Counted next) = Full
+  refuses-by : (p : Bool) → sized (q .signed) room ≡ true → crossed q ≡ false → passes q room v ≡ p → refuses q room v ≡ p
+  unfolding refuses
+  refuses-by p e f g = ap (λ (b : Bool). not b || (crossed q || passes q room v)) e ∙ ap (λ (b : Bool). b || passes q room v) f ∙ g
 
-  told : (a : Recording) (after : List ℕ) (r : Bool) → record-call.outcome full a after ≡ pickOutcome r (still wrongRoom full room) (still 0 full room) → outcome q (answer-beside a) after ≡ without r
-  unfolding outcome record-call.outcome still taken without
-  told recording.Refused after true e = ap (still 5 q) (ap (λ (o : Outcome). o .room) e)
-  told recording.Refused after false e = absurd (no (ap (λ (o : Outcome). o .number) e))
-    where
-      no : _≡_ {A = ℕ} 5 0 → ⊥
-      no e = omega arith
-  told recording.Full after true e = absurd (no (ap (λ (o : Outcome). o .number) e))
-    where
-      no : _≡_ {A = ℕ} 0 5 → ⊥
-      no e = omega arith
-  told recording.Full after false e = ap (still 4 q) (ap (λ (o : Outcome). o .room) e)
-  told (recording.Counted next) after true e = absurd (true≢false (ap (λ (o : Outcome). o .answer) e))
-  told (recording.Counted next) after false e = absurd (true≢false (ap (λ (o : Outcome). o .answer) e))
+  -- the words that the code reads are those of the value's bucket and of its block
+  module _ (place start : ℕ) (size : length room ≡ roomSize (q .signed)) (is : place ≡ indexOf (q .signed) v) (below : place < bucketCount (q .signed)) (at : start ≡ 4096 + bucketCount (q .signed)) (h : 4096 < q .count) (c : crossed q ≡ false) where
+    bucket-is : inBucket ≡ getD room (4096 + place) 0
+    bucket-is = ap (λ (k : ℕ). getD (buckets (q .signed) room) k 0) (sym is) ∙ bucket-word 4096 (bucketCount (q .signed)) room (parts-in (q .signed) (length room) size) place below
 
-  pub way-asked : (a b : Recording) (after : List ℕ) → 4096 < q .count → record-call.outcome full a after ≡ recorded full room v → a ≡ b
-      → outcome q (answer-beside b) after ≡ recordedBeside false q room v
-  way-asked a b after h left is =
-      told b after (refuses q room v) (ap (λ (x : Recording). record-call.outcome full x after) (sym is) ∙ left ∙ asked h) ∙ beside-none
+    total-is : inBlock ≡ getD room (start + place / 128) 0
+    total-is =
+        ap (λ (k : ℕ). getD (totals (q .signed) room) (k / 128) 0) (sym is)
+        ∙ total-word 4096 (bucketCount (q .signed)) room (parts-in (q .signed) (length room) size) (place / 128)
+        ∙ ap (λ (k : ℕ). getD room (k + place / 128) 0) (sym at)
+
+    right : sized (q .signed) room ≡ true
+    right = eq-eqb (length room) (roomSize (q .signed)) size
+
+    pub way-bucket : getD room (4096 + place) 0 ≡ 2 ^ 64 - 1 → still wrongRoom q room ≡ recordedBeside false q room v
+    unfolding without
+    way-bucket e =
+        by-test true (refuses-by true right c (passes-by true (eqb inBlock (2 ^ 64 - 1)) h (eq-eqb inBucket (2 ^ 64 - 1) (bucket-is ∙ e)) refl))
+
+    pub way-block : (getD room (4096 + place) 0 ≡ 2 ^ 64 - 1 → ⊥) → getD room (start + place / 128) 0 ≡ 2 ^ 64 - 1 → still wrongRoom q room ≡ recordedBeside false q room v
+    unfolding without
+    way-block n e =
+        by-test true
+        (refuses-by true right c (passes-by false true h (ne-eqb inBucket (2 ^ 64 - 1) (λ f. n (sym bucket-is ∙ f))) (eq-eqb inBlock (2 ^ 64 - 1) (total-is ∙ e))))
+
+    pub way-neither : (getD room (4096 + place) 0 ≡ 2 ^ 64 - 1 → ⊥) → (getD room (start + place / 128) 0 ≡ 2 ^ 64 - 1 → ⊥) → still countsFull q room ≡ recordedBeside false q room v
+    unfolding without
+    way-neither n m =
+        by-test false
+        (refuses-by false right c (passes-by false false h (ne-eqb inBucket (2 ^ 64 - 1) (λ f. n (sym bucket-is ∙ f))) (ne-eqb inBlock (2 ^ 64 - 1) (λ f. m (sym total-is ∙ f)))))
 
   -- ---- the sums have room
 

@@ -51,32 +51,30 @@ pub fn sum_with(sum: Sum, ns: Nanoseconds) -> Sum
     after.sum
 }
 
-// Which refusal it is where the sums have no room. The quantiles' own comes first. A histogram is asked at a full count, at which its `record`
-// changes nothing.
+// Which refusal it is where the sums have no room: the quantiles' own comes first. Asked of `record` itself, it would be called at two places
+// and so not be compiled into the common one.
 fn refused_beside(q: Quantiles, room: &mut [u64], value: u64) -> Sampling
     ensures { λ r. ⌜ outcome q r (now (room .exit)) ≡ recordedBeside false q (now (room .entry)) value ⌝ }
 {
+    if room.len() != quantiles::room_size(q.signed) {
+        return Sampling::Refused;
+    }
+    if quantiles::min_above_max(q) {
+        return Sampling::Refused;
+    }
     if q.count <= 4096 {
-        if room.len() != quantiles::room_size(q.signed) {
-            return Sampling::Refused;
-        }
-        if quantiles::min_above_max(q) {
-            return Sampling::Refused;
-        }
         return Sampling::SumsFull;
     }
-    let full = Quantiles {
-        signed: q.signed,
-        count: MOST,
-        min: q.min,
-        max: q.max,
-    };
-    let answer = full.record(room, value);
-    match answer {
-        Recording::Refused => Sampling::Refused,
-        Recording::Full => Sampling::SumsFull,
-        Recording::Counted(next) => Sampling::Full,
+    let place = buckets::bucket_of(q.signed, value);
+    let at = scope::CAPACITY + place;
+    let block = quantiles::totals_start(q.signed) + place / 128;
+    if room[at] == MOST {
+        return Sampling::Refused;
     }
+    if room[block] == MOST {
+        return Sampling::Refused;
+    }
+    Sampling::SumsFull
 }
 
 // `record` of the quantiles, where `fits` says that the sums beside them have room for a sample.
