@@ -33,7 +33,7 @@ use Rattle.directions.specs.declared.Measuring.{Measuring}
 use Rattle.directions.specs.declared.Measuring.the-variants as measuring
 use Rattle.directions.specs.Direction.{grownOf, left, Outcome, outcome, recordTo}
 use Rattle.directions.specs.Directions as both
-use Rattle.directions.specs.Directions.{partSize, startOf, putAt, Untouched, recordPart, own, outcomeBoth, inBoth, recordIn}
+use Rattle.directions.specs.Directions.{partSize, startOf, putAt, Untouched, recordPart, recordOwn, own, outcomeBoth, inBoth, recordIn}
 
 -- ---- one sample more
 
@@ -147,21 +147,38 @@ module _ (d : OwdDirection) (slice : List ℕ) (start v : ℕ) where
       ∙ put-outcome r part
       ∙ ap in-slice (got ∙ ap (λ (n : ℕ). recordTo d (take n (drop start slice)) v) is)
 
--- ---- the ways through `record` of both
+-- ---- the ways through `record` of a direction in its part
 
 untouched-all : (start : ℕ) (slice : List ℕ) → Untouched start slice slice
 untouched-all start slice = record { size = refl; before = refl; behind = refl }
 
-module _ (ds : Directions) (slice : List ℕ) (v : ℕ) where
-  pub way-short : (reverse : Bool) (size : ℕ) → size ≡ partSize → length slice < size + size
-      → (both.left wrongRoom false ds slice ≡ recordIn ds slice reverse v) × Untouched (startOf reverse) slice slice
-  unfolding recordIn
-  way-short reverse size is h = (
-    ap (λ (b : Bool). both.pickOutcome b (both.left wrongRoom false ds slice) (inBoth ds reverse (recordPart (own ds reverse) slice (startOf reverse) v)))
-        (sym (lt-ltb (length slice) (partSize + partSize) (omega (arith, is, h)))),
+module _ (d : OwdDirection) (slice : List ℕ) (reverse : Bool) (v : ℕ) where
+  pub way-short : (size : ℕ) → size ≡ partSize → length slice < size + size → (left wrongRoom false d slice ≡ recordOwn d slice reverse v) × Untouched (startOf reverse) slice slice
+  unfolding recordOwn
+  way-short size is h = (
+    ap (λ (b : Bool). cond b (left wrongRoom false d slice) (recordPart d slice (startOf reverse) v)) (sym (lt-ltb (length slice) (partSize + partSize) (omega (arith, is, h)))),
     untouched-all (startOf reverse) slice,
   )
 
+  pub way-part : (size start : ℕ) (r : Recording) (after : List ℕ) → size ≡ partSize → start ≡ startOf reverse → size + size ≤ length slice
+      → (outcome d r after ≡ recordPart d slice start v) × Untouched start slice after
+      → (outcome d r after ≡ recordOwn d slice reverse v) × Untouched (startOf reverse) slice after
+  unfolding recordOwn
+  way-part size start r after is from h got = (
+    got .0
+        ∙ ap (λ (n : ℕ). recordPart d slice n v) from
+        ∙ ap (λ (b : Bool). cond b (left wrongRoom false d slice) (recordPart d slice (startOf reverse) v)) (sym (le-ltb (length slice) (partSize + partSize) (omega (arith, is, h)))),
+    subst (λ (n : ℕ). Untouched n slice after) from (got .1),
+  )
+
+-- a part that begins at either start lies in the slice
+pub part-fits : (reverse : Bool) (size start n : ℕ) → size ≡ partSize → start ≡ startOf reverse → size + size ≤ n → start + partSize ≤ n
+part-fits false size start n is from h = omega (arith, is, from, h)
+part-fits true size start n is from h = omega (arith, is, from, h)
+
+-- ---- and of both
+
+module _ (ds : Directions) (slice : List ℕ) (v : ℕ) where
   -- the answer of both, by that of the sample's own direction
   abbrev pub answer-both : Bool → Recording → Measuring
   answer-both reverse recording.Refused = measuring.Refused
@@ -180,20 +197,32 @@ module _ (ds : Directions) (slice : List ℕ) (v : ℕ) where
   same-outcome true recording.Full after = refl
   same-outcome true (recording.Counted next) after = refl
 
-  long-enough : (reverse : Bool) → partSize + partSize ≤ length slice → inBoth ds reverse (recordPart (own ds reverse) slice (startOf reverse) v) ≡ recordIn ds slice reverse v
-  unfolding recordIn
-  long-enough reverse h =
-      ap (λ (b : Bool). both.pickOutcome b (both.left wrongRoom false ds slice) (inBoth ds reverse (recordPart (own ds reverse) slice (startOf reverse) v)))
-      (sym (le-ltb (length slice) (partSize + partSize) h))
+  -- what a sample leaves of both is what it leaves of its own
+  pub own-in-both : (reverse : Bool) → inBoth ds reverse (recordOwn (own ds reverse) slice reverse v) ≡ recordIn ds slice reverse v
+  unfolding recordIn recordOwn
+  own-in-both reverse = by reverse (ltb (length slice) (partSize + partSize))
+    where
+      by : (reverse short : Bool) → inBoth ds reverse (cond short (left wrongRoom false (own ds reverse) slice) (recordPart (own ds reverse) slice (startOf reverse) v))
+          ≡ both.pickOutcome short (both.left wrongRoom false ds slice) (inBoth ds reverse (recordPart (own ds reverse) slice (startOf reverse) v))
+      by false true = refl
+      by true true = refl
+      by false false = refl
+      by true false = refl
 
-  -- the direction is known to be `which`, and its part to begin at `start`
-  pub way-part : (reverse which : Bool) (size start : ℕ) (a b : Recording) (after : List ℕ) → reverse ≡ which → size ≡ partSize → start ≡ startOf which → size + size ≤ length slice
-      → (outcome (own ds which) a after ≡ recordPart (own ds which) slice start v) × Untouched start slice after → a ≡ b
-      → (outcomeBoth ds (answer-both which b) after ≡ recordIn ds slice reverse v) × Untouched (startOf reverse) slice after
-  way-part reverse which size start a b after is sized from h got told = (
-    same-outcome which b after
-        ∙ ap (inBoth ds which) (ap (λ (x : Recording). outcome (own ds which) x after) (sym told) ∙ got .0 ∙ ap (λ (n : ℕ). recordPart (own ds which) slice n v) from)
-        ∙ long-enough which (omega (arith, sized, h))
-        ∙ ap (λ (x : Bool). recordIn ds slice x v) (sym is),
-    subst (λ (n : ℕ). Untouched n slice after) (from ∙ ap startOf (sym is)) (got .1),
+  pub way-own : (reverse : Bool) (d : OwdDirection) (a b : Recording) (after : List ℕ) → d ≡ own ds reverse
+      → (outcome d a after ≡ recordOwn d slice reverse v) × Untouched (startOf reverse) slice after → a ≡ b
+      → (outcomeBoth ds (answer-both reverse b) after ≡ recordIn ds slice reverse v) × Untouched (startOf reverse) slice after
+  way-own reverse d a b after is got told = (
+    same-outcome reverse b after
+        ∙ ap (inBoth ds reverse)
+        (ap (λ (x : Recording). outcome (own ds reverse) x after) (sym told) ∙ ap (λ (x : OwdDirection). outcome x a after) (sym is) ∙ got .0 ∙ ap (λ (x : OwdDirection). recordOwn x slice reverse v) is)
+        ∙ own-in-both reverse,
+    got .1,
   )
+
+  pub way-own-counted : (reverse : Bool) (d next : OwdDirection) (ds' : Directions) (a : Recording) (after : List ℕ) → d ≡ own ds reverse
+      → (outcome d a after ≡ recordOwn d slice reverse v) × Untouched (startOf reverse) slice after → a ≡ recording.Counted next → ds' ≡ both.withOwn ds reverse next
+      → (outcomeBoth ds (measuring.Counted ds') after ≡ recordIn ds slice reverse v) × Untouched (startOf reverse) slice after
+  way-own-counted reverse d next ds' a after is got told e =
+      let w = way-own reverse d a (recording.Counted next) after is got told in
+      (ap (λ (x : Directions). outcomeBoth ds (measuring.Counted x) after) e ∙ w .0, w .1)

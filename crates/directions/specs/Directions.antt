@@ -41,6 +41,10 @@ unfoldable pub recordPart : OwdDirection → List ℕ → ℕ → ℕ → direct
 recordPart d slice start v =
     let o = direction.recordTo d (partAt start slice) v in direction.left (o .number) (o .answer) (o .state) (putAt start slice (o .room))
 
+-- 5 for a slice shorter than both parts; then as `record` of the direction answers, in its part; what lies behind both is not looked at
+unfoldable pub recordOwn : OwdDirection → List ℕ → Bool → ℕ → direction.Outcome
+recordOwn d slice reverse v = cond (ltb (length slice) (partSize + partSize)) (direction.left wrongRoom false d slice) (recordPart d slice (startOf reverse) v)
+
 -- the direction that a sample belongs to
 abbrev pub own : Directions → Bool → OwdDirection
 own ds false = ds .forward

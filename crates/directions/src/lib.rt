@@ -9,7 +9,7 @@ ghost use Prim.Native.Nat.{_+_, _≤_};
 ghost use lib.ListN.{length};
 ghost use Rattle.series.specs.Series.{sumFits};
 ghost use Rattle.directions.specs.Direction.{fresh, grownOf, outcome, recordTo};
-ghost use Rattle.directions.specs.Directions.{partSize, startOf, own, recordPart, Untouched, freshBoth, outcomeBoth, recordIn};
+ghost use Rattle.directions.specs.Directions.{partSize, startOf, own, withOwn, recordPart, recordOwn, Untouched, freshBoth, outcomeBoth, recordIn};
 
 pub struct OwdDirection {
     pub quantiles: Quantiles,
@@ -88,6 +88,28 @@ fn record_part(direction: OwdDirection, slice: &mut [u64], start: usize, value: 
     direction.record(&mut slice[start..end], value)
 }
 
+// Where a direction's part begins.
+fn start_of(reverse: bool) -> usize
+    ensures { λ r. ⌜ r ≡ startOf reverse ⌝ }
+{
+    if reverse {
+        return quantiles::room_size(true);
+    }
+    0
+}
+
+// A sample of the one direction or the other, in its part of the slice. The other's part is left untouched.
+pub fn record_own(own: OwdDirection, slice: &mut [u64], reverse: bool, value: u64) -> Recording
+    ensures { λ r. ⌜ (outcome own r (now (slice .exit)) ≡ recordOwn own (now (slice .entry)) reverse value) × Untouched (startOf reverse) (now (slice .entry)) (now (slice .exit)) ⌝ }
+{
+    let size = quantiles::room_size(true);
+    if slice.len() < size + size {
+        return Recording::Refused;
+    }
+    let start = start_of(reverse);
+    record_part(own, slice, start, value)
+}
+
 // The forward direction is T2 - T1, from sender to reflector; the reverse T4 - T3.
 pub struct Directions {
     pub forward: OwdDirection,
@@ -100,6 +122,34 @@ pub enum Measuring {
     SumsFull,
     Full,
     Counted(Directions),
+}
+
+// The one direction or the other.
+pub fn own_of(directions: Directions, reverse: bool) -> OwdDirection
+    ensures { λ r. ⌜ r ≡ own directions reverse ⌝ }
+{
+    if reverse {
+        return directions.reverse;
+    }
+    directions.forward
+}
+
+// Both, with another state of that direction.
+fn with_own(directions: Directions, reverse: bool, next: OwdDirection) -> Directions
+    ensures { λ r. ⌜ r ≡ withOwn directions reverse next ⌝ }
+{
+    let forth = directions.forward;
+    let back = directions.reverse;
+    if reverse {
+        return Directions {
+            forward: forth,
+            reverse: next,
+        };
+    }
+    Directions {
+        forward: next,
+        reverse: back,
+    }
 }
 
 impl Directions {
@@ -116,33 +166,16 @@ impl Directions {
     pub fn record(self, slice: &mut [u64], reverse: bool, value: u64) -> Measuring
         ensures { λ r. ⌜ (outcomeBoth self r (now (slice .exit)) ≡ recordIn self (now (slice .entry)) reverse value) × Untouched (startOf reverse) (now (slice .entry)) (now (slice .exit)) ⌝ }
     {
-        let size = quantiles::room_size(true);
-        if slice.len() < size + size {
-            return Measuring::Refused;
-        }
-        let forth = self.forward;
-        let back = self.reverse;
-        if reverse {
-            let answer = record_part(back, slice, size, value);
-            return match answer {
-                Recording::Refused => Measuring::Refused,
-                Recording::SumsFull => Measuring::SumsFull,
-                Recording::Full => Measuring::Full,
-                Recording::Counted(next) => Measuring::Counted(Directions {
-                    forward: forth,
-                    reverse: next,
-                }),
-            };
-        }
-        let answer = record_part(forth, slice, 0, value);
+        let own = own_of(self, reverse);
+        let answer = record_own(own, slice, reverse, value);
         match answer {
             Recording::Refused => Measuring::Refused,
             Recording::SumsFull => Measuring::SumsFull,
             Recording::Full => Measuring::Full,
-            Recording::Counted(next) => Measuring::Counted(Directions {
-                forward: next,
-                reverse: back,
-            }),
+            Recording::Counted(next) => {
+                let after = with_own(self, reverse, next);
+                Measuring::Counted(after)
+            }
         }
     }
 }

@@ -47,6 +47,6 @@ pub record-refused-unchanged : (ws slice : List ℕ) (reverse v : ℕ) (rec : Li
 unfolding recordTo
 record-refused-unchanged ws slice reverse v rec = let o = both.recordIn (directionsAt ws) slice (isSet reverse) v in by (o .number) o
   where
-    by : (n : ℕ) (o : both.Outcome) → (recordBy n o ws rec .number ≡ 0 → ⊥) → (recordBy n o ws rec .words ≡ ws) × (recordBy n o ws rec .recorded ≡ rec)
+    by : (n : ℕ) (o : both.Outcome) → (recordBy (isSet reverse) n o ws rec .number ≡ 0 → ⊥) → (recordBy (isSet reverse) n o ws rec .words ≡ ws) × (recordBy (isSet reverse) n o ws rec .recorded ≡ rec)
     by zero o h = absurd (h refl)
     by (suc n) o h = (refl, refl)

@@ -1,9 +1,10 @@
 -- Both directions in twelve lent words, six each. Assumes nothing.
-use mathlib.Core.Bool.{true}
+use mathlib.Core.Bool.{Bool, true, false}
 use mathlib.Core.List.{List, [], _∷_}
 use Prim.Native.Nat.{ℕ}
 use lib.ListN.{getD}
 use Rattle.host_numbers.specs.Numbers.{flagWord, isSet}
+use Rattle.directions.specs.declared.OwdDirection.{OwdDirection}
 use Rattle.directions.specs.declared.Directions.{Directions}
 
 -- what twelve words say, whatever they hold
@@ -18,6 +19,16 @@ directionsAt ws = record {
     sum = record { negative = isSet (getD ws 9 0); high = getD ws 10 0; low = getD ws 11 0 };
   };
 }
+
+-- where a direction's six words begin
+abbrev pub wordsStart : Bool → ℕ
+wordsStart false = 0
+wordsStart true = 6
+
+-- the six words of a direction
+abbrev pub directionWords : OwdDirection → List ℕ
+directionWords d =
+    d .quantiles .count ∷ d .quantiles .min ∷ d .quantiles .max ∷ flagWord (d .sum .negative) ∷ d .sum .high ∷ d .sum .low ∷ []
 
 -- the twelve words of both
 abbrev pub directionsWords : Directions → List ℕ

@@ -3,48 +3,16 @@
 // complement word.
 use delays::Sum;
 use directions::Directions;
-use directions::Measuring;
 use directions::OwdDirection;
+use directions::Recording;
 use quantiles::Quantiles;
 ghost use mathlib.Core.Path.{_≡_};
+ghost use Prim.Native.Nat.{_≤_};
 ghost use lib.Seq.{sets};
 ghost use Rattle.directions.specs.Directions.{startOf, own, Untouched};
 ghost use Rattle.host_numbers.specs.Numbers.{isSet};
-ghost use Rattle.host_directions.specs.Words.{directionsAt, directionsWords};
+ghost use Rattle.host_directions.specs.Words.{directionsAt, wordsStart, directionWords, directionsWords};
 ghost use Rattle.host_directions.specs.Calls.{wordsLeft, freshTo, recordLeft, recordTo, showTo};
-
-fn load(words: &[u64; 12]) -> Directions
-    ensures { λ r. ⌜ r ≡ directionsAt (now (words .entry)) ⌝ }
-{
-    Directions {
-        forward: OwdDirection {
-            quantiles: Quantiles {
-                signed: true,
-                count: words[0],
-                min: words[1],
-                max: words[2],
-            },
-            sum: Sum {
-                negative: words[3] != 0,
-                high: words[4],
-                low: words[5],
-            },
-        },
-        reverse: OwdDirection {
-            quantiles: Quantiles {
-                signed: true,
-                count: words[6],
-                min: words[7],
-                max: words[8],
-            },
-            sum: Sum {
-                negative: words[9] != 0,
-                high: words[10],
-                low: words[11],
-            },
-        },
-    }
-}
 
 fn store(words: &mut [u64; 12], directions: Directions)
     ensures { λ _. ⌜ now (words .exit) ≡ sets (now (words .entry)) 0 (directionsWords directions) ⌝ }
@@ -72,7 +40,47 @@ pub extern "C" fn ambrulicciu_directions_fresh(directions: &mut [u64; 12]) -> u8
     0
 }
 
-// One sample of a direction: `recorded` has 1; or 0 at a count of 2^64-1, and then nothing else changes.
+// Where a direction's six words begin.
+fn words_start(reverse: bool) -> usize
+    ensures { λ r. ⌜ (r ≡ wordsStart reverse) × (r ≤ 6) ⌝ }
+{
+    if reverse { 6 } else { 0 }
+}
+
+// The one direction or the other, from its own six words.
+fn load_own(words: &[u64; 12], reverse: bool) -> OwdDirection
+    ensures { λ r. ⌜ r ≡ own (directionsAt (now (words .entry))) reverse ⌝ }
+{
+    let at = words_start(reverse);
+    OwdDirection {
+        quantiles: Quantiles {
+            signed: true,
+            count: words[at],
+            min: words[at + 1],
+            max: words[at + 2],
+        },
+        sum: Sum {
+            negative: words[at + 3] != 0,
+            high: words[at + 4],
+            low: words[at + 5],
+        },
+    }
+}
+
+// Its six words alone; the other direction's stay.
+fn store_own(words: &mut [u64; 12], reverse: bool, own: OwdDirection)
+    ensures { λ _. ⌜ now (words .exit) ≡ sets (now (words .entry)) (wordsStart reverse) (directionWords own) ⌝ }
+{
+    let at = words_start(reverse);
+    words[at] = own.quantiles.count;
+    words[at + 1] = own.quantiles.min;
+    words[at + 2] = own.quantiles.max;
+    words[at + 3] = host_numbers::flag(own.sum.negative);
+    words[at + 4] = own.sum.high;
+    words[at + 5] = own.sum.low;
+}
+
+// One sample of a direction: `recorded` has 1; or 0 at a count of 2^64-1, and then nothing else changes. The other direction's words stay.
 #[no_mangle]
 pub extern "C" fn ambrulicciu_directions_record(
     directions: &mut [u64; 12],
@@ -83,30 +91,22 @@ pub extern "C" fn ambrulicciu_directions_record(
 ) -> u8
     ensures { λ r. ⌜ (recordLeft r (now (directions .exit)) (now (slice .exit)) (now (recorded .exit)) ≡ recordTo (now (directions .entry)) (now (slice .entry)) reverse value (now (recorded .entry))) × Untouched (startOf (isSet reverse)) (now (slice .entry)) (now (slice .exit)) ⌝ }
 {
-    let state = load(directions);
-    let answer = state.record(slice, reverse != 0, value);
+    let back = reverse != 0;
+    let own = load_own(directions, back);
+    let answer = directions::record_own(own, slice, back, value);
     match answer {
-        Measuring::Refused => scope::WRONG_ROOM,
-        Measuring::SumsFull => scope::COUNTS_FULL,
-        Measuring::Full => {
+        Recording::Refused => scope::WRONG_ROOM,
+        Recording::SumsFull => scope::COUNTS_FULL,
+        Recording::Full => {
             recorded[0] = 0;
             0
         }
-        Measuring::Counted(next) => {
-            store(directions, next);
+        Recording::Counted(next) => {
+            store_own(directions, back, next);
             recorded[0] = 1;
             0
         }
     }
-}
-
-fn direction_of(directions: Directions, reverse: bool) -> OwdDirection
-    ensures { λ r. ⌜ r ≡ own directions reverse ⌝ }
-{
-    if reverse {
-        return directions.reverse;
-    }
-    directions.forward
 }
 
 // Minimum, average and maximum of a direction in ms; any words are shown. A value that is not there is 0, with a 0 before it.
@@ -119,8 +119,7 @@ pub extern "C" fn ambrulicciu_directions_show(
 ) -> u8
     ensures { λ r. ⌜ wordsLeft r (now (shown .exit)) ≡ showTo (now (directions .entry)) reverse (now (shown .entry)) ⌝ }
 {
-    let state = load(directions);
-    let direction = direction_of(state, reverse != 0);
+    let direction = load_own(directions, reverse != 0);
     let quantiles = direction.quantiles;
     let sum = direction.sum;
     let summary = series::summary(quantiles, sum);

@@ -4,11 +4,11 @@ use borrow.Author.Needs.{needs}
 use Rattle.host_directions.proofs.ambrulicciu_directions_record.Statement.{statement}
 use Rattle.host_directions.proofs.ambrulicciu_directions_record.Tie as tie
 
-load-requires : tie.Need-load-requires
-load-requires c κs = search needs
+load-own-requires : tie.Need-load-own-requires
+load-own-requires c κs = search needs
 
-record-requires : tie.Need-record-requires
-record-requires c κs = search needs
+record-own-requires : tie.Need-record-own-requires
+record-own-requires c κs = search needs
 
 enum-told : tie.Need-enum-told
 enum-told c = search needs
@@ -25,8 +25,8 @@ element-write-recorded c = search needs
 enum-known-answer : tie.Need-enum-known-answer
 enum-known-answer c = search needs
 
-store-requires : tie.Need-store-requires
-store-requires c κs = search needs
+store-own-requires : tie.Need-store-own-requires
+store-own-requires c κs = search needs
 
 element-write-recorded-2 : tie.Need-element-write-recorded-2
 element-write-recorded-2 c = search needs
@@ -37,7 +37,7 @@ same-length c = search needs
 returns : tie.Need-returns
 returns c =
     let a = c .before .before .before .before .before .before .before .before .before .args in
-    record-refused (a .directions .now) (a .slice .now) _ (a .recorded .now) (a .reverse) (a .value) _ _ (c .before .before .before .before .before .before .load .ensures) (c .before .before .before .before .«record» .ensures) (c .enum-told .given .1)
+    record-refused (a .directions .now) (a .slice .now) _ (a .recorded .now) (a .reverse) (a .value) _ _ (c .before .before .before .before .before .before .load-own .ensures) (c .before .before .before .before .record-own .ensures) (c .enum-told .given .1)
 
 same-length-2 : tie.Need-same-length-2
 same-length-2 c = search needs
@@ -45,7 +45,7 @@ same-length-2 c = search needs
 returns-2 : tie.Need-returns-2
 returns-2 c =
     let a = c .before .before .before .before .before .before .before .before .before .args in
-    record-sums (a .directions .now) (a .slice .now) _ (a .recorded .now) (a .reverse) (a .value) _ _ (c .before .before .before .before .before .before .load .ensures) (c .before .before .before .before .«record» .ensures) (c .enum-told2 .given .1)
+    record-sums (a .directions .now) (a .slice .now) _ (a .recorded .now) (a .reverse) (a .value) _ _ (c .before .before .before .before .before .before .load-own .ensures) (c .before .before .before .before .record-own .ensures) (c .enum-told2 .given .1)
 
 same-length-3 : tie.Need-same-length-3
 same-length-3 c = search needs
@@ -53,7 +53,7 @@ same-length-3 c = search needs
 returns-3 : tie.Need-returns-3
 returns-3 c =
     let a = c .before .before .before .before .before .before .before .before .before .args in
-    record-full (a .directions .now) (a .slice .now) _ (a .recorded .now) (a .reverse) (a .value) _ _ (c .before .before .before .before .before .before .load .ensures) (c .before .before .before .before .«record» .ensures) (c .enum-told3 .given .1)
+    record-full (a .directions .now) (a .slice .now) _ (a .recorded .now) (a .reverse) (a .value) _ _ (c .before .before .before .before .before .before .load-own .ensures) (c .before .before .before .before .record-own .ensures) (c .enum-told3 .given .1)
 
 same-length-4 : tie.Need-same-length-4
 same-length-4 c = search needs
@@ -61,20 +61,20 @@ same-length-4 c = search needs
 returns-4 : tie.Need-returns-4
 returns-4 c =
     let a = c .before .before .before .before .before .before .before .before .before .before .before .before .args in
-    record-counted (a .directions .now) (a .slice .now) _ (a .recorded .now) (a .reverse) (a .value) _ _ (c .before .before .before .before .before .before .before .before .before .load .ensures) (c .before .before .before .before .before .before .before .«record» .ensures) _ _ (c .before .before .before .answer .given .1) (c .store .ensures)
+    record-counted (a .directions .now) (a .slice .now) _ (a .recorded .now) (a .reverse) (a .value) _ _ (c .before .before .before .before .before .before .before .before .before .load-own .ensures) (c .before .before .before .before .before .before .before .record-own .ensures) _ _ (c .before .before .before .answer .given .1) (c .store-own .ensures)
 
 pub ambrulicciu-directions-record-spec : {M : Type 1} → statement M
 ambrulicciu-directions-record-spec =
     tie.close
     (tie.spec
-    load-requires
-    record-requires
+    load-own-requires
+    record-own-requires
     enum-told
     enum-told-2
     enum-told-3
     element-write-recorded
     enum-known-answer
-    store-requires
+    store-own-requires
     element-write-recorded-2
     same-length
     returns
