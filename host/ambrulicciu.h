@@ -619,7 +619,7 @@ uint8_t ambrulicciu_directions_fresh(ambrulicciu_directions *directions);
 
 /* One sample of the forward direction, or of the reverse one where `reverse` is other than 0; `value` is the two's complement word of an i64.
  * The forward room is the first AMBRULICCIU_QUANTILES_SIGNED_ROOM words of the slice, the reverse room as many after them, and only the
- * sample's own part is written. recorded is 1; or 0, and nothing is changed but it, at a count of 2^64-1.
+ * sample's own part and its direction's own six words are written. recorded is 1; or 0, and nothing is changed but it, at a count of 2^64-1.
  * Refuses 5: a slice shorter than AMBRULICCIU_DIRECTIONS_SLICE, and as ambrulicciu_quantiles_record does; 4: the direction's sum at a magnitude
  * of 2^126 or beyond. Both come before the answer 0. */
 uint8_t ambrulicciu_directions_record(ambrulicciu_directions *directions, uint64_t *slice, size_t slice_length, uint32_t reverse,

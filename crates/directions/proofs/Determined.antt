@@ -30,6 +30,9 @@ use Rattle.directions.proofs.Directions.new.Reads as new-both'
 use Rattle.directions.proofs.OwdDirection.record as record-call
 use Rattle.directions.proofs.OwdDirection.record.Kinds as record-kinds
 use Rattle.directions.proofs.OwdDirection.record.Reads as record-reads
+use Rattle.directions.proofs.record_own as own-call
+use Rattle.directions.proofs.record_own.Kinds as own-kinds
+use Rattle.directions.proofs.record_own.Reads as own-reads
 use Rattle.directions.proofs.Directions.record as both-call
 use Rattle.directions.proofs.Directions.record.Kinds as both-kinds
 use Rattle.directions.proofs.Directions.record.Reads as both-reads
@@ -162,6 +165,18 @@ record-unique κs a r₁ r₂ s₁ s₂ p q =
       sym (room-of (a .0) r₁ (now (s₁ .1 .0))) ∙ ap (λ (o : direction.Outcome). o .room) e ∙ room-of (a .0) r₂ (now (s₂ .1 .0)),
     )
 
+-- of a direction in its part of the slice
+pub record-own-unique :
+    (κs : Lfts 1) (a : World.ArgsD own-call.signature κs) (r₁ r₂ : World.ResD own-call.signature κs)
+    (s₁ s₂ : Clauses.AtExit (Kinds'.endedOf 1 own-kinds.ps own-kinds.r) κs)
+    → own-reads.Post κs a r₁ s₁ → own-reads.Post κs a r₂ s₂ → (r₁ ≡ r₂) × (now (s₁ .1 .0) ≡ now (s₂ .1 .0))
+record-own-unique κs a r₁ r₂ s₁ s₂ p q =
+    let e = p .0 ∙ sym (q .0) in (
+      same-answer (a .0) r₁ r₂ (now (s₁ .1 .0)) (now (s₂ .1 .0)) e,
+      sym (room-of (a .0) r₁ (now (s₁ .1 .0))) ∙ ap (λ (o : direction.Outcome). o .room) e ∙ room-of (a .0) r₂ (now (s₂ .1 .0)),
+    )
+
+-- of both
 pub record-both-unique :
     (κs : Lfts 1) (a : World.ArgsD both-call.signature κs) (r₁ r₂ : World.ResD both-call.signature κs)
     (s₁ s₂ : Clauses.AtExit (Kinds'.endedOf 1 both-kinds.ps both-kinds.r) κs)

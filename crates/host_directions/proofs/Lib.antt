@@ -1,2 +1,3 @@
 mod Answers
 pub mod Determined
+pub mod Back

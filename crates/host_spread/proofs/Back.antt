@@ -4,7 +4,6 @@ use mathlib.Core.Path.{_≡_, refl, sym, ap₂, _∙_, subst}
 use mathlib.Core.Bool.{Bool, true, false, not, cond}
 use mathlib.Core.List.{List, [], _∷_}
 use Prim.Native.Nat.{ℕ, zero, suc, _-_, _^_}
-use native.Mathlib.Omega.{arith}
 use lib.Dec.{T, eqb}
 use lib.Ieee.{binary64, fits}
 use lib.Ieee.Bits.{ofBits-toBits}
@@ -19,27 +18,11 @@ use Rattle.series.specs.Series.{recordedBeside}
 use Rattle.spread.specs.declared.RttCollector.{RttCollector}
 use Rattle.spread.specs.Spread.{fresh, welfordFrom, meanWith, squaresWith, jitterOf, fits as fitsOf, grownOf}
 use Rattle.spread.specs.Record as record-call
+use Rattle.host_summary.proofs.Twelve.{twelve}
 use Rattle.spread_meaning.specs.Samples.{Shows, played, served}
 use Rattle.spread_meaning.proofs.Meaning.{played-shows}
 use Rattle.host_spread.specs.Words.{collectorAt, collectorWords}
 use Rattle.host_spread.specs.Calls.{freshTo, recordBy, recordTo}
-
--- what holds of every twelve words holds of a list of twelve
-twelve : (P : List ℕ → Type 0) → ((a b c d e f g h i j k l : ℕ) → P (a ∷ b ∷ c ∷ d ∷ e ∷ f ∷ g ∷ h ∷ i ∷ j ∷ k ∷ l ∷ [])) → (ws : List ℕ) → length ws ≡ 12 → P ws
-twelve P each [] n = absurd (omega arith)
-twelve P each (a ∷ []) n = absurd (omega arith)
-twelve P each (a ∷ b ∷ []) n = absurd (omega arith)
-twelve P each (a ∷ b ∷ c ∷ []) n = absurd (omega arith)
-twelve P each (a ∷ b ∷ c ∷ d ∷ []) n = absurd (omega arith)
-twelve P each (a ∷ b ∷ c ∷ d ∷ e ∷ []) n = absurd (omega arith)
-twelve P each (a ∷ b ∷ c ∷ d ∷ e ∷ f ∷ []) n = absurd (omega arith)
-twelve P each (a ∷ b ∷ c ∷ d ∷ e ∷ f ∷ g ∷ []) n = absurd (omega arith)
-twelve P each (a ∷ b ∷ c ∷ d ∷ e ∷ f ∷ g ∷ h ∷ []) n = absurd (omega arith)
-twelve P each (a ∷ b ∷ c ∷ d ∷ e ∷ f ∷ g ∷ h ∷ i ∷ []) n = absurd (omega arith)
-twelve P each (a ∷ b ∷ c ∷ d ∷ e ∷ f ∷ g ∷ h ∷ i ∷ j ∷ []) n = absurd (omega arith)
-twelve P each (a ∷ b ∷ c ∷ d ∷ e ∷ f ∷ g ∷ h ∷ i ∷ j ∷ k ∷ []) n = absurd (omega arith)
-twelve P each (a ∷ b ∷ c ∷ d ∷ e ∷ f ∷ g ∷ h ∷ i ∷ j ∷ k ∷ l ∷ []) n = each a b c d e f g h i j k l
-twelve P each (a ∷ b ∷ c ∷ d ∷ e ∷ f ∷ g ∷ h ∷ i ∷ j ∷ k ∷ l ∷ m ∷ r) n = absurd (omega arith)
 
 -- what twelve words can say: samples and sums are not negative, and the floats are f64
 pub record Storable (c : RttCollector) : Type 0 where
