@@ -1,0 +1,4 @@
+pub mod Serving
+pub mod Alike
+pub mod Ended
+pub mod Determined

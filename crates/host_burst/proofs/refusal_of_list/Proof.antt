@@ -1,0 +1,12 @@
+-- `host_burst::refusal_of_list` meets its contract. Assumes nothing.
+use Rattle.host_burst.proofs.refusal_of_list.Statement.{statement}
+use Rattle.host_burst.proofs.refusal_of_list.Tie as tie
+
+returns : tie.Need-returns
+returns c = simp (c .if1 .taken)
+
+returns-2 : tie.Need-returns-2
+returns-2 c = simp (c .if1 .left)
+
+pub refusal-of-list-spec : {M : Type 1} → statement M
+refusal-of-list-spec = tie.close (tie.spec returns returns-2)

@@ -1,0 +1,23 @@
+-- An entry of a burst, "a key with or without its pending packet", and its row of the answers, in the words that a host lends. Any words are an entry
+-- and a row. Assumes nothing.
+use mathlib.Core.List.{List, [], _∷_}
+use Prim.Native.Nat.{ℕ}
+use lib.ListN.{getD}
+use Rattle.calls.specs.declared.Reply.{Reply}
+use Rattle.ledger_steps.specs.declared.AcceptAnswer.{AcceptAnswer}
+use Rattle.ledger_steps.specs.Calls.{acceptNumber}
+use Rattle.host_numbers.specs.Numbers.{lower, upper}
+use Rattle.host_calls.specs.Calls.{replyOf}
+use Rattle.host_accept.specs.Accept.{answerAfter}
+
+-- words of an entry: 0 T3; 1 the sender's number in the lower half, the reflector's in the upper; 2 not 0 where a packet is pending; 3, 4 its time and tag
+abbrev pub replyAt : List ℕ → Reply
+replyAt e = replyOf (lower (getD e 1 0)) (upper (getD e 1 0)) (getD e 0 0) (getD e 2 0) (getD e 3 0) (getD e 4 0)
+
+-- the words of the single call's answer in a row: the six behind the entry's number
+abbrev pub answerIn : List ℕ → List ℕ
+answerIn row = getD row 1 0 ∷ getD row 2 0 ∷ getD row 3 0 ∷ getD row 4 0 ∷ getD row 5 0 ∷ getD row 6 0 ∷ []
+
+-- a row after the library's answer: the entry's number, then what the single call leaves of its answer
+abbrev pub rowAfter : List ℕ → AcceptAnswer → List ℕ
+rowAfter row given = acceptNumber given ∷ answerAfter (answerIn row) given

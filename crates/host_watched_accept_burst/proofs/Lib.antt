@@ -1,0 +1,5 @@
+pub mod Serving
+pub mod Alike
+pub mod Ended
+pub mod Determined
+pub mod Steps
