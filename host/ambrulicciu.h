@@ -89,6 +89,7 @@ uint8_t ambrulicciu_version(uint32_t *version);
 /* ---- sizes -------------------------------------------------------------------------------------------------------------------------
  * Any other size is refused with AMBRULICCIU_WRONG_ROOM. */
 #define AMBRULICCIU_ROWS 4096                  /* scope::CAPACITY: rows of each room of a link, and of the monitor's queue */
+#define AMBRULICCIU_ENTRIES 256                /* host_burst::MOST_ENTRIES: most entries of a burst */
 #define AMBRULICCIU_QUANTILES_ROOM 11578       /* words of the room of an unsigned series */
 #define AMBRULICCIU_QUANTILES_SIGNED_ROOM 18804 /* words of the room of a signed series */
 #define AMBRULICCIU_DIRECTIONS_SLICE 37608      /* words of the slice of both directions: two rooms of a signed series; it may be longer */
@@ -138,6 +139,21 @@ typedef struct {
     uint64_t ordinal;
     uint64_t train;         /* the probe's train, as sent was told last; 0: none, or the probe was not told by sent */
 } ambrulicciu_accepted;
+
+/* An entry of a burst: a reply's key, with or without its pending packet, as ambrulicciu_accept is told them. */
+typedef struct {
+    uint64_t t3;
+    uint32_t sender;
+    uint32_t reflector;
+    uint64_t pending; /* other than 0: the host still had the packet, with this send time and tag */
+    uint64_t time;
+    uint64_t tag;
+} ambrulicciu_entry;
+/* What became of an entry. */
+typedef struct {
+    uint64_t number;               /* 0, or the number that ambrulicciu_accept refuses it with; then `accepted` is as it was */
+    ambrulicciu_accepted accepted;
+} ambrulicciu_entry_answer;
 
 /* Which fields of an observation are there, added up. AMBRULICCIU_UNKNOWN_MODE counts only with AMBRULICCIU_FOLLOW_UP; bit 16 and bits
  * above 255 are ignored. A field that is not there is not looked at. */
@@ -320,6 +336,15 @@ uint8_t ambrulicciu_accept(ambrulicciu_ledger *ledger, ambrulicciu_key *keys, si
                            size_t links_length, uint32_t sender, uint32_t reflector, uint64_t t3, uint32_t pending, uint64_t time,
                            uint64_t tag, ambrulicciu_accepted *answer);
 
+/* A burst of replies, at most AMBRULICCIU_ENTRIES: ambrulicciu_accept for each entry in list order, with its answer in the row of the same
+ * place. An entry that is refused has its number in its row, and the rest go on: the call returns 0. Only the last unique one awaits its
+ * observation, as after single calls. Refuses 5: the whole list, before any entry is served, where `answers` has another length than
+ * `entries` or there are more than AMBRULICCIU_ENTRIES. Stack: 2 KB. */
+uint8_t ambrulicciu_accept_burst(ambrulicciu_ledger *ledger, ambrulicciu_key *keys, size_t keys_length, ambrulicciu_slot *slots,
+                                 size_t slots_length, ambrulicciu_probe *probes, size_t probes_length, ambrulicciu_chain *links,
+                                 size_t links_length, const ambrulicciu_entry *entries, size_t entries_length,
+                                 ambrulicciu_entry_answer *answers, size_t answers_length);
+
 /* What the unique reply that was accepted last brought: round trip, counters, follow-up, estimates. Once for each. Refuses 5, 1, 4, 2.
  * A follow-up's timestamp is converted by the format of the reply that it is about. Of all eras of 2^32 s it is in the one whose second
  * lies from r - 2^31 up to but not including r + 2^31, with r the reference of that reply plus the offset of this observation. A PTP
@@ -354,6 +379,14 @@ uint8_t ambrulicciu_watched_accept(ambrulicciu_ledger *ledger, ambrulicciu_monit
                                    ambrulicciu_chain *links, size_t links_length, ambrulicciu_queued *queue, size_t queue_length,
                                    uint32_t sender, uint32_t reflector, uint64_t t3, uint32_t pending, uint64_t time, uint64_t tag,
                                    ambrulicciu_accepted *answer);
+
+/* ambrulicciu_accept_burst with ambrulicciu_watched_accept for each entry: each unique reply goes to the monitor. What either part
+ * refuses of an entry is in its row. Refuses 5: the whole list, where ambrulicciu_accept_burst does. Stack: 2 KB. */
+uint8_t ambrulicciu_watched_accept_burst(ambrulicciu_ledger *ledger, ambrulicciu_monitor *monitor, ambrulicciu_key *keys,
+                                         size_t keys_length, ambrulicciu_slot *slots, size_t slots_length, ambrulicciu_probe *probes,
+                                         size_t probes_length, ambrulicciu_chain *links, size_t links_length,
+                                         ambrulicciu_queued *queue, size_t queue_length, const ambrulicciu_entry *entries,
+                                         size_t entries_length, ambrulicciu_entry_answer *answers, size_t answers_length);
 
 /* ---- the monitor -------------------------------------------------------------------------------------------------------------------
  * Refusal 5 of a monitor's call: the queue has not 4,096 rows, or the ring in the state is out of bounds. */
@@ -778,6 +811,17 @@ static inline uint8_t ambrulicciu_link_accept(ambrulicciu_link *link, uint32_t s
                                       link->probes, AMBRULICCIU_ROWS, link->links, AMBRULICCIU_ROWS, link->queue, AMBRULICCIU_ROWS,
                                       sender, reflector, t3, packet ? 1 : 0, packet ? packet->time : 0, packet ? packet->tag : 0,
                                       answer);
+}
+
+/* `count` entries, and as many answers. */
+static inline uint8_t ambrulicciu_link_accept_burst(ambrulicciu_link *link, const ambrulicciu_entry *entries, size_t count,
+                                                    ambrulicciu_entry_answer *answers) {
+    if (!link->watched)
+        return ambrulicciu_accept_burst(&link->ledger, link->keys, AMBRULICCIU_ROWS, link->slots, AMBRULICCIU_ROWS, link->probes,
+                                        AMBRULICCIU_ROWS, link->links, AMBRULICCIU_ROWS, entries, count, answers, count);
+    return ambrulicciu_watched_accept_burst(&link->ledger, &link->monitor, link->keys, AMBRULICCIU_ROWS, link->slots, AMBRULICCIU_ROWS,
+                                            link->probes, AMBRULICCIU_ROWS, link->links, AMBRULICCIU_ROWS, link->queue,
+                                            AMBRULICCIU_ROWS, entries, count, answers, count);
 }
 
 static inline uint8_t ambrulicciu_link_observe(ambrulicciu_link *link, const ambrulicciu_observation *observation) {

@@ -4,7 +4,7 @@
  *     any ROUNDS SEED
  *
  * It stops where a call answers a number that ambrulicciu.h does not name at it, where a refused call changed a lent byte, or where a
- * served call changed memory that it only reads. From 300 rounds on it also fails where a call was never served, or a refusal that the
+ * served call changed memory that it only reads; and where a burst leaves another byte than the single calls. From 300 rounds on it also fails where a call was never served, or a refusal that the
  * header names never came. Compiled with -DMEASURE it prints how much stack each call took at most instead (host/stack/run). Each room is an allocation of its own, so that a tool which watches memory sees a
  * byte touched outside. The proofs say all this; here the compiled library is tried, back end and header included.
  */
@@ -270,6 +270,123 @@ static void try_accept(void) {
     ready();
     done("accept", ambrulicciu_accept(l, r.keys, r.key_rows, r.slots, r.slot_rows, r.probes, r.probe_rows, r.links, r.link_rows, (uint32_t)number(),
                                       (uint32_t)number(), number(), (uint32_t)number(), number(), number(), answer), "54");
+}
+
+/* ---- a burst: what it leaves is also held against the single calls, on the memory as it was before, byte by byte */
+
+/* The copy of lent memory as it was before the call. */
+static void *twin(const void *bytes) {
+    int i = 0;
+    while (lent[i].bytes != bytes)
+        i++;
+    return lent[i].before;
+}
+
+/* The rooms as they were before the call. */
+static rooms twins(rooms r) {
+    r.keys = twin(r.keys);
+    r.slots = twin(r.slots);
+    r.probes = twin(r.probes);
+    r.links = twin(r.links);
+    r.queue = twin(r.queue);
+    return r;
+}
+
+/* The single calls have been made on the copies: all lent memory is now the same. */
+static void same(const char *call) {
+    for (int i = 0; i < lent_count; i++)
+        if (memcmp(lent[i].bytes, lent[i].before, lent[i].size) != 0) {
+            fprintf(stderr, "any: %s and the single calls left other bytes in lent memory %d\n", call, i);
+            exit(1);
+        }
+}
+
+static size_t entry_count(void) {
+    static const size_t lengths[6] = {0, 1, 2, 255, 256, 257};
+    return drawn() % 2 ? lengths[drawn() % 6] : drawn() % 258;
+}
+
+/* Entries of any words, or of few different keys, so that a list has duplicates. */
+static ambrulicciu_entry *lend_entries(size_t count) {
+    ambrulicciu_entry *entries = lend(count * sizeof *entries, 1);
+    if (drawn() % 4)
+        for (size_t i = 0; i < count; i++) {
+            entries[i].t3 = drawn() % 4;
+            entries[i].sender = (uint32_t)(drawn() % 32);
+            entries[i].reflector = (uint32_t)(drawn() % 4);
+            entries[i].pending = drawn() % 2 ? number() : 0;
+        }
+    return entries;
+}
+
+/* Now and then the list crosses the last call that can be counted. */
+static ambrulicciu_ledger *burst_ledger(void) {
+    ambrulicciu_ledger *l = ledger(0);
+    if (drawn() % 4 == 0)
+        l->word[5] = 4294967295u - drawn() % 260;
+    return l;
+}
+
+/* A room for as many answers, or now and then for one more or less. */
+static size_t answer_count(size_t entries) {
+    return drawn() % 8 ? entries : drawn() % 2 ? entries + 1 : entries ? entries - 1 : 1;
+}
+
+static void try_accept_burst(void) {
+    ambrulicciu_ledger *l = burst_ledger();
+    rooms r = lend_rooms(KEYS | SLOTS | PROBES | LINKS);
+    size_t count = entry_count(), room = answer_count(count);
+    ambrulicciu_entry *e = lend_entries(count);
+    ambrulicciu_entry_answer *answers = lend(room * sizeof *answers, 0);
+    ready();
+    uint8_t number = ambrulicciu_accept_burst(l, r.keys, r.key_rows, r.slots, r.slot_rows, r.probes, r.probe_rows, r.links, r.link_rows, e, count, answers, room);
+#ifndef MEASURE
+    if (!number) {
+        ambrulicciu_ledger *before = twin(l);
+        ambrulicciu_entry_answer *row = twin(answers);
+        rooms b = twins(r);
+        for (size_t i = 0; i < count; i++, row++)
+            row->number = ambrulicciu_accept(before, b.keys, b.key_rows, b.slots, b.slot_rows, b.probes, b.probe_rows, b.links, b.link_rows, e[i].sender,
+                                             e[i].reflector, e[i].t3, e[i].pending ? 1 : 0, e[i].time, e[i].tag, &row->accepted);
+        same("accept_burst");
+    }
+    if ((number != 0) != (room != count || count > AMBRULICCIU_ENTRIES)) {
+        fprintf(stderr, "any: accept_burst of %zu entries and %zu answers returned %u\n", count, room, number);
+        exit(1);
+    }
+#endif
+    done("accept_burst", number, "5");
+}
+
+static void try_watched_accept_burst(void) {
+    ambrulicciu_ledger *l = burst_ledger();
+    ambrulicciu_monitor *m = monitor(0);
+    rooms r = lend_rooms(KEYS | SLOTS | PROBES | LINKS | QUEUE);
+    fill(m, r);
+    size_t count = entry_count(), room = answer_count(count);
+    ambrulicciu_entry *e = lend_entries(count);
+    ambrulicciu_entry_answer *answers = lend(room * sizeof *answers, 0);
+    ready();
+    uint8_t number = ambrulicciu_watched_accept_burst(l, m, r.keys, r.key_rows, r.slots, r.slot_rows, r.probes, r.probe_rows, r.links, r.link_rows, r.queue,
+                                                      r.queue_rows, e, count, answers, room);
+#ifndef MEASURE
+    if (!number) {
+        ambrulicciu_ledger *before = twin(l);
+        ambrulicciu_monitor *watch = twin(m);
+        ambrulicciu_entry_answer *row = twin(answers);
+        rooms b = twins(r);
+        for (size_t i = 0; i < count; i++, row++)
+            row->number = ambrulicciu_watched_accept(before, watch, b.keys, b.key_rows, b.slots, b.slot_rows, b.probes, b.probe_rows, b.links, b.link_rows,
+                                                     b.queue, b.queue_rows, e[i].sender, e[i].reflector, e[i].t3, e[i].pending ? 1 : 0, e[i].time, e[i].tag,
+                                                     &row->accepted);
+        same("watched_accept_burst");
+    }
+    if ((number != 0) != (room != count || count > AMBRULICCIU_ENTRIES)) {
+        fprintf(stderr, "any: watched_accept_burst of %zu entries and %zu answers returned %u\n", count, room, number);
+        exit(1);
+    }
+#endif
+    done("watched_accept_burst", number, "5");
 }
 
 /* Half of the time the reply is the one that awaits. */
@@ -808,8 +925,8 @@ static void try_reports(void) {
 }
 
 int main(int argc, char **argv) {
-    static void (*const tries[])(void) = {try_version, try_fresh, try_sent, try_accept, try_observe, try_answered, try_reads, try_watched_sent,
-                                          try_watched_accept, try_monitor, try_estimates, try_quality, try_quantiles, try_bits, try_area, try_spread, try_directions, try_writers, try_logs, try_trim, try_trimmed, try_again, try_reports};
+    static void (*const tries[])(void) = {try_version, try_fresh, try_sent, try_accept, try_accept_burst, try_observe, try_answered, try_reads, try_watched_sent,
+                                          try_watched_accept, try_watched_accept_burst, try_monitor, try_estimates, try_quality, try_quantiles, try_bits, try_area, try_spread, try_directions, try_writers, try_logs, try_trim, try_trimmed, try_again, try_reports};
     long rounds = argc > 1 ? atol(argv[1]) : 500;
     seed = argc > 2 ? strtoull(argv[2], NULL, 10) : 1;
     for (long round = 0; round < rounds; round++)

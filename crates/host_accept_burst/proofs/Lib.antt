@@ -1,4 +1,2 @@
 pub mod Serving
-pub mod Alike
-pub mod Ended
 pub mod Determined

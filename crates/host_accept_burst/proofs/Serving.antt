@@ -1,52 +1,75 @@
--- From one entry to all entries so far, as the loop goes along them. Assumes nothing.
+-- From one entry to all entries of a list: what the calls in a row leave is what the definition says. Assumes nothing.
 use mathlib.Core.Path.{_≡_, ap, _∙_}
+use mathlib.Core.Bool.{cond}
 use mathlib.Core.List.{List, []}
 use native.Mathlib.Omega.{arith}
 use Prim.Native.Nat.{ℕ, _+_, _≤_, _<_}
-use lib.ListN.{getD, set}
+use lib.Dec.{eqb}
+use lib.ListN.{length, getD, set}
 use Rattle.calls.specs.declared.Reply.{Reply}
 use Rattle.ledger_state.specs.declared.Ledger.{Ledger}
 use Rattle.ledger_steps.specs.declared.AcceptAnswer.{AcceptAnswer}
 use Rattle.ledger_steps.specs.Calls.{AcceptResult, acceptResult, acceptTo}
-use Rattle.link_steps.specs.Steps.{ledgerOfAccept}
-use Rattle.host_burst.specs.Burst.{Burst, left, upTo}
-use Rattle.host_burst.specs.Entries.{replyAt, rowAfter}
-use Rattle.host_burst.specs.Kept.{storedAfter}
-use Rattle.host_burst.proofs.Folds.{up-none, up-more}
-use Rattle.host_accept_burst.specs.declared.Kept.{Kept}
-use Rattle.host_accept_burst.specs.Going.{going, goesTo, goesOn}
-use Rattle.host_accept_burst.specs.Going as state
+use Rattle.host_ledger.specs.Words.{ledgerAt}
+use Rattle.host_accept.specs.Accept.{wordsAfter, acceptFrom, acceptOf}
+use Rattle.host_burst.specs.Burst.{Burst, left, listed, burstRefusal, oneMore, upTo}
+use Rattle.host_burst.specs.Entries.{replyAt, answerIn, rowAfter}
+use Rattle.host_burst.proofs.Folds.{up-none, up-more, list-ends}
+use Rattle.host_accept_burst.specs.Burst.{Lent, lent, rowed, acceptEntry, acceptBurst}
 
-module _ (first : Ledger) (keys₀ slots₀ probes₀ links₀ entries : List (List ℕ)) (count : ℕ) (answers₀ : List (List ℕ)) where
-  abbrev begun : Burst state.Going
-  begun = left (going first 0 keys₀ slots₀ probes₀ links₀) answers₀
+-- ---- one entry
+entry-ends :
+    (ledger : List ℕ) (keys slots probes links entries : List (List ℕ)) (i : ℕ) (answers : List (List ℕ))
+    (reply : Reply) (state : Ledger) (given : AcceptAnswer) (keys′ slots′ probes′ links′ : List (List ℕ)) (ledger′ : List ℕ) (answers′ : List (List ℕ))
+    → reply ≡ replyAt (getD entries i []) → state ≡ ledgerAt ledger
+    → acceptResult given keys′ slots′ probes′ links′ ≡ acceptTo 0 state keys slots probes links reply
+    → ledger′ ≡ wordsAfter ledger given
+    → answers′ ≡ set answers i (rowAfter (getD answers i []) given)
+    → left (lent ledger′ keys′ slots′ probes′ links′) answers′ ≡ oneMore acceptEntry entries (left (lent ledger keys slots probes links) answers) i
+unfolding acceptOf
+entry-ends ledger keys slots probes links entries i answers reply state given keys′ slots′ probes′ links′ ledger′ answers′ er es eg el ea =
+    let answer = answerIn (getD answers i []) in
+    (λ j. left (lent (el j) keys′ slots′ probes′ links′) (ea j))
+    ∙ ap (λ (r : AcceptResult). left (rowed (acceptFrom ledger answer r) .state) (set answers i (rowed (acceptFrom ledger answer r) .row)))
+    (eg ∙ (λ j. acceptTo 0 (es j) keys slots probes links (er j)))
+
+-- ---- the loop
+module _ (ledger₀ : List ℕ) (keys₀ slots₀ probes₀ links₀ entries : List (List ℕ)) (count : ℕ) (answers₀ : List (List ℕ)) (refusal : ℕ) where
+  abbrev begun : Burst Lent
+  begun = left (lent ledger₀ keys₀ slots₀ probes₀ links₀) answers₀
 
   -- what stands after i entries
-  abbrev pub Going : ℕ → Ledger → ℕ → List (List ℕ) → List (List ℕ) → List (List ℕ) → List (List ℕ) → List (List ℕ) → Type 0
-  Going i ledger stored keys slots probes links answers = left (going ledger stored keys slots probes links) answers ≡ upTo goesOn entries begun i
+  abbrev pub Serves : ℕ → List ℕ → List (List ℕ) → List (List ℕ) → List (List ℕ) → List (List ℕ) → List (List ℕ) → Type 0
+  Serves i ledger keys slots probes links answers = left (lent ledger keys slots probes links) answers ≡ upTo acceptEntry entries begun i
 
-  pub begins-serving : Going 0 first 0 keys₀ slots₀ probes₀ links₀ answers₀
-  begins-serving = up-none goesOn entries begun
+  pub begins-serving : Serves 0 ledger₀ keys₀ slots₀ probes₀ links₀ answers₀
+  begins-serving = up-none acceptEntry entries begun
 
-  pub serves-on : (i : ℕ) (ledger : Ledger) (stored : ℕ) (keys slots probes links answers : List (List ℕ))
-      (reply : Reply) (given : AcceptAnswer) (keys′ slots′ probes′ links′ answers′ : List (List ℕ)) (stored′ : ℕ) (ledger′ : Ledger)
-      → Going i ledger stored keys slots probes links answers → i < count
-      → reply ≡ replyAt (getD entries i [])
-      → acceptResult given keys′ slots′ probes′ links′ ≡ acceptTo 0 ledger keys slots probes links reply
+  pub serves-on : (i : ℕ) (ledger : List ℕ) (keys slots probes links answers : List (List ℕ))
+      (reply : Reply) (state : Ledger) (given : AcceptAnswer) (keys′ slots′ probes′ links′ : List (List ℕ)) (ledger′ : List ℕ) (answers′ : List (List ℕ))
+      → Serves i ledger keys slots probes links answers → i < count
+      → reply ≡ replyAt (getD entries i []) → state ≡ ledgerAt ledger
+      → acceptResult given keys′ slots′ probes′ links′ ≡ acceptTo 0 state keys slots probes links reply
+      → ledger′ ≡ wordsAfter ledger given
       → answers′ ≡ set answers i (rowAfter (getD answers i []) given)
-      → stored′ ≡ storedAfter stored given → ledger′ ≡ ledgerOfAccept ledger given
-      → Going (i + 1) ledger′ stored′ keys′ slots′ probes′ links′ answers′
-  serves-on i ledger stored keys slots probes links answers reply given keys′ slots′ probes′ links′ answers′ stored′ ledger′ h less er eg ea es el =
-      let x = going ledger stored keys slots probes links in
-      let row = getD answers i [] in
-      let answered : acceptResult given keys′ slots′ probes′ links′ ≡ acceptTo 0 ledger keys slots probes links (replyAt (getD entries i [])) = eg ∙ ap (acceptTo 0 ledger keys slots probes links) er in
-      up-more goesOn entries begun (left x answers) (left (going ledger′ stored′ keys′ slots′ probes′ links′) answers′) i h
-      ((λ j. left (going (el j) (es j) keys′ slots′ probes′ links′) (ea j))
-      ∙ ap (λ (r : AcceptResult). left (goesTo x row r .state) (set answers i (goesTo x row r .row))) answered)
+      → Serves (i + 1) ledger′ keys′ slots′ probes′ links′ answers′
+  serves-on i ledger keys slots probes links answers reply state given keys′ slots′ probes′ links′ ledger′ answers′ h less er es eg el ea =
+      up-more acceptEntry entries begun (left (lent ledger keys slots probes links) answers) (left (lent ledger′ keys′ slots′ probes′ links′) answers′) i h
+      (entry-ends ledger keys slots probes links entries i answers reply state given keys′ slots′ probes′ links′ ledger′ answers′ er es eg el ea)
 
-  pub all-served : (i : ℕ) (ledger : Ledger) (stored : ℕ) (keys slots probes links answers : List (List ℕ)) (r : Kept)
-      → Going i ledger stored keys slots probes links answers → i ≤ count → count ≤ i → (r .ledger ≡ ledger) × (r .stored ≡ stored)
-      → left (going (r .ledger) (r .stored) keys slots probes links) answers ≡ upTo goesOn entries begun count
-  all-served i ledger stored keys slots probes links answers r h most least er =
+  pub all-served : (i : ℕ) (ledger : List ℕ) (keys slots probes links answers : List (List ℕ)) (r : ℕ)
+      → Serves i ledger keys slots probes links answers → i ≤ count → count ≤ i → r ≡ refusal
+      → (left (lent ledger keys slots probes links) answers ≡ upTo acceptEntry entries begun count) × (r ≡ refusal)
+  all-served i ledger keys slots probes links answers r h most least er =
       let e : i ≡ count = omega (arith, most, least) in
-      (λ j. left (going (er .0 j) (er .1 j) keys slots probes links) answers) ∙ h ∙ ap (upTo goesOn entries begun) e
+      (h ∙ ap (upTo acceptEntry entries begun) e, er)
+
+-- ---- the list
+pub burst-ends :
+    (ledger : List ℕ) (keys slots probes links entries answers : List (List ℕ)) (refusal count r : ℕ) (ledger′ : List ℕ) (keys′ slots′ probes′ links′ answers′ : List (List ℕ))
+    → refusal ≡ burstRefusal (length entries) (length answers) → count ≡ cond (eqb refusal 0) (length entries) 0
+    → (left (lent ledger′ keys′ slots′ probes′ links′) answers′ ≡ upTo acceptEntry entries (left (lent ledger keys slots probes links) answers) count) × (r ≡ refusal)
+    → listed r (left (lent ledger′ keys′ slots′ probes′ links′) answers′) ≡ acceptBurst (lent ledger keys slots probes links) entries answers
+unfolding acceptBurst
+burst-ends ledger keys slots probes links entries answers refusal count r ledger′ keys′ slots′ probes′ links′ answers′ ef ec er =
+    (λ i. listed (er .1 i) (er .0 i)) ∙ list-ends acceptEntry (lent ledger keys slots probes links) entries answers refusal count ef ec

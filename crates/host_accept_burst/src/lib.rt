@@ -1,38 +1,32 @@
 // `ambrulicciu_accept_burst`: `accept` for a list of replies, on the words and the rooms that a host lends (document 02, Q-2).
-// The ledger is taken out of its words once a list and stored once, and what is tested of the counts that no reply changes is tested once.
-// Each function is a straight line of calls, so that the walk of it is short; what depends on a test is in the functions that it calls.
+// Each function but the first is a straight line of calls, so that the walk of it is short; what depends on a test is in the functions that it calls.
+// The ledger is taken out of its words at each entry: as a value that goes around the loop it would be copied whole (docs/DECISIONS.md).
 ghost use mathlib.Core.Path.{_≡_};
-ghost use mathlib.Core.List.{[]};
-ghost use lib.ListN.{getD};
+ghost use Rattle.host_accept.specs.Accept.{wordsAfter};
 ghost use Rattle.host_burst.specs.Burst.{left, listed, upTo};
-ghost use Rattle.host_burst.specs.Kept.{keptWords};
-ghost use Rattle.host_accept_burst.specs.Burst.{lent, acceptBurst};
-ghost use Rattle.host_accept_burst.specs.Going.{going, goesOn};
-use host_burst::ledger_after;
+ghost use Rattle.host_accept_burst.specs.Burst.{lent, acceptEntry, acceptBurst};
 use host_burst::put_row;
 use host_burst::refusal_of_list;
 use host_burst::reply_at;
 use host_burst::served_of_list;
-use host_burst::store_kept;
-use host_burst::stored_after;
+use host_burst::told;
 use host_ledger::LEDGER_WORDS;
-use ledger_state::Ledger;
+use host_served::store_served;
+use ledger_steps::AcceptAnswer;
 
-// The ledger after a list, and what of it is to be stored.
-struct Kept {
-    ledger: Ledger,
-    stored: u8,
-}
-
-fn kept_of(ledger: Ledger, stored: u8) -> Kept
-    ensures { λ r. ⌜ (r .ledger ≡ ledger) × (r .stored ≡ stored) ⌝ }
+// What the answer leaves of the ledger's words: a refusal changes none.
+fn store_given(ledger: &mut [u64; LEDGER_WORDS], given: AcceptAnswer)
+    ensures { λ _. ⌜ now (ledger .exit) ≡ wordsAfter (now (ledger .entry)) given ⌝ }
 {
-    Kept { ledger, stored }
+    match given {
+        AcceptAnswer::Served(next, accepted) => store_served(ledger, next, accepted),
+        AcceptAnswer::Refused(_) => {}
+    }
 }
 
-// The first `count` entries.
+// The first `count` entries; `refusal` is handed back.
 fn serve(
-    first: Ledger,
+    ledger: &mut [u64; LEDGER_WORDS],
     keys: &mut [[u64; 2]],
     slots: &mut [[u64; 3]],
     probes: &mut [[u64; 4]],
@@ -40,33 +34,24 @@ fn serve(
     entries: &[[u64; 5]],
     count: usize,
     answers: &mut [[u64; 7]],
-) -> Kept
-    ensures { λ r. ⌜ left (going (r .ledger) (r .stored) (now (keys .exit)) (now (slots .exit)) (now (probes .exit)) (now (links .exit))) (now (answers .exit)) ≡ upTo goesOn (now (entries .entry)) (left (going first 0 (now (keys .entry)) (now (slots .entry)) (now (probes .entry)) (now (links .entry))) (now (answers .entry))) count ⌝ }
+    refusal: u8,
+) -> u8
+    ensures { λ r. ⌜ (left (lent (now (ledger .exit)) (now (keys .exit)) (now (slots .exit)) (now (probes .exit)) (now (links .exit))) (now (answers .exit)) ≡ upTo acceptEntry (now (entries .entry)) (left (lent (now (ledger .entry)) (now (keys .entry)) (now (slots .entry)) (now (probes .entry)) (now (links .entry))) (now (answers .entry))) count) × (r ≡ refusal) ⌝ }
 {
-    let mut ledger = first;
-    let mut stored = 0;
     let mut i = 0;
     while i < count {
         let reply = reply_at(entries, i);
-        let given = ledger_accept::accept(ledger, keys, slots, probes, links, reply);
+        let state = host_ledger::load(ledger);
+        let given = ledger_accept::accept(state, keys, slots, probes, links, reply);
+        store_given(ledger, given);
         put_row(answers, i, given);
-        stored = stored_after(stored, given);
-        ledger = ledger_after(ledger, given);
         i = i + 1;
     }
-    kept_of(ledger, stored)
+    told(refusal)
 }
 
-// The number of the whole list; where it is 0 the words of what was served are stored.
-fn finish(ledger: &mut [u64; LEDGER_WORDS], kept: Kept, refusal: u8) -> u8
-    ensures { λ r. ⌜ (r ≡ refusal) × (now (ledger .exit) ≡ keptWords (kept .stored) (now (ledger .entry)) (kept .ledger)) ⌝ }
-{
-    store_kept(ledger, kept.stored, kept.ledger);
-    refusal
-}
-
-// Words of `entries`: 0 t3, 1 sender and reflector, 2 pending, 3 time, 4 tag.
-// Words of `answers`: 0 number, 1 class, 2 time, 3 tag, 4 ordinal_known, 5 ordinal, 6 train.
+// Words of `entries`: 0 t3, 1 sender (u32), reflector (u32), 2 pending, 3 time, 4 tag.
+// Words of `answers`: 0 number, 1 accepted.class, 2 accepted.time, 3 accepted.tag, 4 accepted.ordinal_known, 5 accepted.ordinal, 6 accepted.train.
 #[no_mangle]
 pub extern "C" fn ambrulicciu_accept_burst(
     ledger: &mut [u64; LEDGER_WORDS],
@@ -83,7 +68,15 @@ pub extern "C" fn ambrulicciu_accept_burst(
     let rows = answers.len();
     let refusal = refusal_of_list(length, rows);
     let count = served_of_list(refusal, length);
-    let first = host_burst::first_of(ledger);
-    let kept = serve(first, keys, slots, probes, links, entries, count, answers);
-    finish(ledger, kept, refusal)
+    serve(
+        ledger,
+        keys,
+        slots,
+        probes,
+        links,
+        entries,
+        count,
+        answers,
+        refusal,
+    )
 }

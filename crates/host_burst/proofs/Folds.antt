@@ -1,14 +1,22 @@
 -- What a burst is as a fold: entry by entry as the code goes along the list, cut in two, empty, refused. Assumes nothing.
-use mathlib.Core.Path.{_≡_, refl, sym, ap, subst, _∙_}
+use mathlib.Core.Path.{_≡_, refl, sym, ap, _∙_}
 use mathlib.Core.Bool.{Bool, true, false, _&&_, cond}
 use mathlib.Core.List.{List, [], _∷_, _++_}
 use native.Mathlib.Omega.{arith}
 use Prim.Native.Nat.{ℕ, zero, suc, _+_}
 use lib.Dec.{eqb, leb}
-use lib.ListN.{length, getD, set}
+use lib.ListN.{length}
 use borrow.Author.Tests.{eqb-true, ne-eqb}
 use Rattle.replies.proofs.Tested.{both}
 use Rattle.host_burst.specs.Burst.{Single, Burst, left, behind, burst, burstBy, burstTo, burstRefusal, oneMore, upTo, listed}
+
+-- a list that is not refused has a room of its length
+length-by : (entries rows : ℕ) (b : Bool) → eqb rows entries && leb entries 256 ≡ b → _≡_ {A = ℕ} (cond b 0 5) 0 → rows ≡ entries
+length-by entries rows true e h = eqb-true rows entries (both (eqb rows entries) (leb entries 256) e .0)
+length-by entries rows false e h = absurd (omega (arith, h))
+
+pub length-is : (entries rows : ℕ) → burstRefusal entries rows ≡ 0 → rows ≡ entries
+length-is entries rows h = length-by entries rows (eqb rows entries && leb entries 256) refl h
 
 module _ {S : Type 0} (call : S → List ℕ → List ℕ → Single S) where
   -- ---- from the first n entries to the list
@@ -78,14 +86,10 @@ module _ {S : Type 0} (call : S → List ℕ → List ℕ → Single S) where
 
   -- ---- the call for a list, as the code has it: as many entries are served as there are, none where the list is refused
 
-  length-of : (entries rows : ℕ) (b : Bool) → eqb rows entries && leb entries 256 ≡ b → _≡_ {A = ℕ} (cond b 0 5) 0 → rows ≡ entries
-  length-of entries rows true e h = eqb-true rows entries (both (eqb rows entries) (leb entries 256) e .0)
-  length-of entries rows false e h = absurd (omega (arith, h))
-
   ends-by : (s : S) (entries rows : List (List ℕ)) (n : ℕ) → burstRefusal (length entries) (length rows) ≡ n
       → listed n (upTo call entries (left s rows) (cond (eqb n 0) (length entries) 0)) ≡ burstBy call n s entries rows
   unfolding upTo
-  ends-by s entries rows zero e = ap (listed 0) (up-all s entries rows (length-of (length entries) (length rows) _ refl e))
+  ends-by s entries rows zero e = ap (listed 0) (up-all s entries rows (length-is (length entries) (length rows) e))
   ends-by s entries rows (suc n) e = ap (λ (b : Bool). listed (suc n) (upTo call entries (left s rows) (cond b (length entries) 0))) (ne-eqb (suc n) 0 (λ q. omega (arith, q)))
 
   pub list-ends : (s : S) (entries rows : List (List ℕ)) (refusal count : ℕ)
@@ -95,24 +99,3 @@ module _ {S : Type 0} (call : S → List ℕ → List ℕ → Single S) where
       ap (λ (k : ℕ). listed refusal (upTo call entries (left s rows) k)) ec
       ∙ ends-by s entries rows refusal (sym er)
       ∙ ap (λ (k : ℕ). burstBy call k s entries rows) er
-
--- ---- two calls that do the same to states that R relates leave related states and the same rows
-module _ {S T : Type 0} (R : S → T → Type 0) (f : S → List ℕ → List ℕ → Single S) (g : T → List ℕ → List ℕ → Single T)
-    (alike : (s : S) (t : T) (e row : List ℕ) → R s t → R (f s e row .state) (g t e row .state) × (f s e row .row ≡ g t e row .row)) where
-  -- states that R relates, with the same rows
-  abbrev pub Alike : Burst S → Burst T → Type 0
-  Alike x y = R (x .state) (y .state) × (x .rows ≡ y .rows)
-
-  one-alike : (entries : List (List ℕ)) (n : ℕ) (x : Burst S) (y : Burst T) → Alike x y → Alike (oneMore f entries x n) (oneMore g entries y n)
-  one-alike entries n x y h =
-      let e = getD entries n [] in
-      let r = alike (x .state) (y .state) e (getD (x .rows) n []) (h .0) in
-      let same : getD (x .rows) n [] ≡ getD (y .rows) n [] = ap (λ (rows : List (List ℕ)). getD rows n []) (h .1) in (
-        subst (λ (row : List ℕ). R (f (x .state) e (getD (x .rows) n []) .state) (g (y .state) e row .state)) same (r .0),
-        (λ i. set (h .1 i) n ((r .1 ∙ ap (λ (row : List ℕ). g (y .state) e row .row) same) i)),
-      )
-
-  pub up-alike : (entries : List (List ℕ)) (x : Burst S) (y : Burst T) → Alike x y → (n : ℕ) → Alike (upTo f entries x n) (upTo g entries y n)
-  unfolding upTo
-  up-alike entries x y h zero = h
-  up-alike entries x y h (suc n) = one-alike entries n (upTo f entries x n) (upTo g entries y n) (up-alike entries x y h n)

@@ -1,3 +1,3 @@
+pub mod Examples
 pub mod Folds
-pub mod Kept
 pub mod Steps

@@ -8,18 +8,10 @@ use lib.Dec.{eqb}
 use lib.ListN.{length, getD, set}
 use Rattle.calls.specs.declared.Pending.the-variants as pending
 use Rattle.calls.specs.declared.Ordinal.the-variants as ordinal
-use Rattle.ledger_state.specs.declared.Ledger.{Ledger}
 use Rattle.ledger_steps.specs.declared.Accepted.{Accepted}
 use Rattle.ledger_steps.specs.declared.Accepted.the-variants.{Duplicate, Unknown, Unique}
 use Rattle.host_calls.specs.Calls as host_calls
 use Rattle.host_calls.specs.Calls.{replyOf}
-use Rattle.host_ledger.specs.Left.{countedWords, acceptedWords}
-use Rattle.host_burst.specs.Kept.{countedToo, keptWords}
-
--- a flag that was set stays as it is
-pub counted-more : (n : ℕ) → (n ≡ 0 → ⊥) → n ≡ countedToo n
-counted-more zero h = absurd (h refl)
-counted-more (suc n) h = refl
 
 -- of two flags that say the same the reply is the same
 pub same-reply : (sender reflector t3 time tag p q : ℕ) → eqb p 0 ≡ eqb q 0 → replyOf sender reflector t3 p time tag ≡ replyOf sender reflector t3 q time tag
@@ -33,18 +25,6 @@ pub set-outside : (rows : List (List ℕ)) (n : ℕ) (row : List ℕ) → length
 set-outside [] n row h = refl
 set-outside (x ∷ rows) zero row h = absurd (omega (arith, h))
 set-outside (x ∷ rows) (suc n) row h = ap (λ (more : List (List ℕ)). x ∷ more) (set-outside rows n row (omega (arith, h)))
-
--- what is stored, by the tests of the code
-pub kept-none : (n : ℕ) (w : List ℕ) (l : Ledger) → n ≡ 0 → w ≡ keptWords n w l
-kept-none n w l e = sym (ap (λ (k : ℕ). keptWords k w l) e)
-
-pub kept-counted : (n : ℕ) (w : List ℕ) (l : Ledger) (v : List ℕ) → v ≡ countedWords w l → n ≡ 1 → v ≡ keptWords n w l
-kept-counted n w l v h e = h ∙ sym (ap (λ (k : ℕ). keptWords k w l) e)
-
-pub kept-all : (n : ℕ) (w : List ℕ) (l : Ledger) (v : List ℕ) → v ≡ acceptedWords w l → (n ≡ 0 → ⊥) → (n ≡ 1 → ⊥) → v ≡ keptWords n w l
-kept-all zero w l v e h k = absurd (h refl)
-kept-all (suc zero) w l v e h k = absurd (k refl)
-kept-all (suc (suc n)) w l v e h k = e
 
 -- the words of an answer are six
 six : (x : Accepted) → let w = host_calls.acceptedWords x in w ≡ getD w 0 0 ∷ getD w 1 0 ∷ getD w 2 0 ∷ getD w 3 0 ∷ getD w 4 0 ∷ getD w 5 0 ∷ []

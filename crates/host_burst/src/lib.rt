@@ -1,19 +1,14 @@
-// What the calls for a whole burst have in common, with a monitor and without: when a list is refused, an entry and its row of the answers in a
-// host's words, and what of the ledger is stored once the list is served.
+// What the calls for a whole burst have in common, with a monitor and without: when a list is refused, and an entry and its row of the answers in a
+// host's words.
 ghost use mathlib.Core.Path.{_≡_};
 ghost use mathlib.Core.Bool.{cond};
 ghost use mathlib.Core.List.{[], _∷_};
 ghost use lib.Dec.{eqb};
-ghost use lib.ListN.{length, getD, set};
-ghost use Rattle.link_steps.specs.Steps.{ledgerOfAccept};
+ghost use lib.ListN.{getD, set};
 ghost use Rattle.host_calls.specs.Calls.{acceptedWords};
-ghost use Rattle.host_ledger.specs.Words.{ledgerAt};
 ghost use Rattle.host_burst.specs.Burst.{burstRefusal};
-ghost use Rattle.host_burst.specs.Entries.{replyAt, answerIn, rowAfter};
-ghost use Rattle.host_burst.specs.Kept.{countedToo, storedWith, storedAfter, keptWords};
+ghost use Rattle.host_burst.specs.Entries.{replyAt, rowAfter};
 use calls::Reply;
-use host_ledger::LEDGER_WORDS;
-use ledger_state::Ledger;
 use ledger_steps::AcceptAnswer;
 use ledger_steps::Accepted;
 use scope::WRONG_ROOM;
@@ -65,7 +60,6 @@ fn reply_of_entry(entry: [u64; 5]) -> Reply
 }
 
 // The reply of entry i; of an entry that is not there all words are 0.
-// Words of `entries`: 0 t3, 1 sender, 1 reflector, 2 pending, 3 time, 4 tag.
 pub fn reply_at(entries: &[[u64; 5]], i: usize) -> Reply
     ensures { λ r. ⌜ r ≡ replyAt (getD (now (entries .entry)) i []) ⌝ }
 {
@@ -79,7 +73,15 @@ fn served_row(accepted: Accepted) -> [u64; 7]
     ensures { λ r. ⌜ r ≡ 0 ∷ acceptedWords accepted ⌝ }
 {
     let words = host_calls::accepted_words(accepted);
-    [0, words[0], words[1], words[2], words[3], words[4], words[5]]
+    [
+        0,
+        words[0],
+        words[1],
+        words[2],
+        words[3],
+        words[4],
+        words[5],
+    ]
 }
 
 fn row_after(row: [u64; 7], given: AcceptAnswer) -> [u64; 7]
@@ -88,7 +90,15 @@ fn row_after(row: [u64; 7], given: AcceptAnswer) -> [u64; 7]
     match given {
         AcceptAnswer::Served(_, accepted) => served_row(accepted),
         AcceptAnswer::Refused(number) => {
-            [number as u64, row[1], row[2], row[3], row[4], row[5], row[6]]
+            [
+                number as u64,
+                row[1],
+                row[2],
+                row[3],
+                row[4],
+                row[5],
+                row[6],
+            ]
         }
     }
 }
@@ -102,69 +112,9 @@ pub fn put_row(rows: &mut [[u64; 7]], i: usize, given: AcceptAnswer)
     }
 }
 
-// ---- the ledger
-
-fn counted_too(stored: u8) -> u8
-    ensures { λ r. ⌜ r ≡ countedToo stored ⌝ }
+// The number of a list, once its entries are served.
+pub fn told(refusal: u8) -> u8
+    ensures { λ r. ⌜ r ≡ refusal ⌝ }
 {
-    if stored == 0 {
-        return 1;
-    }
-    stored
-}
-
-fn stored_with(stored: u8, accepted: Accepted) -> u8
-    ensures { λ r. ⌜ r ≡ storedWith stored accepted ⌝ }
-{
-    match accepted {
-        Accepted::Duplicate => counted_too(stored),
-        Accepted::Unknown => counted_too(stored),
-        Accepted::Unique(_, _, _) => 2,
-    }
-}
-
-pub fn stored_after(stored: u8, given: AcceptAnswer) -> u8
-    ensures { λ r. ⌜ r ≡ storedAfter stored given ⌝ }
-{
-    match given {
-        AcceptAnswer::Served(_, accepted) => stored_with(stored, accepted),
-        AcceptAnswer::Refused(_) => stored,
-    }
-}
-
-pub fn ledger_after(ledger: Ledger, given: AcceptAnswer) -> Ledger
-    ensures { λ r. ⌜ r ≡ ledgerOfAccept ledger given ⌝ }
-{
-    match given {
-        AcceptAnswer::Served(next, _) => next,
-        AcceptAnswer::Refused(_) => ledger,
-    }
-}
-
-fn copied(words: &[u64; LEDGER_WORDS]) -> [u64; LEDGER_WORDS]
-    ensures { λ r. ⌜ r ≡ now (words .entry) ⌝ }
-{
-    *words
-}
-
-// The ledger as it is lent, and that it has all its words: what is stored at the end is then read back.
-pub fn first_of(words: &[u64; LEDGER_WORDS]) -> Ledger
-    ensures { λ r. ⌜ (r ≡ ledgerAt (now (words .entry))) × (length (now (words .entry)) ≡ 80) ⌝ }
-{
-    let _all = copied(words);
-    host_ledger::load(words)
-}
-
-// Once a burst: what its calls have changed.
-pub fn store_kept(words: &mut [u64; LEDGER_WORDS], stored: u8, ledger: Ledger)
-    ensures { λ _. ⌜ now (words .exit) ≡ keptWords stored (now (words .entry)) ledger ⌝ }
-{
-    if stored == 0 {
-        return;
-    }
-    if stored == 1 {
-        host_ledger::store_counted(words, ledger);
-        return;
-    }
-    host_ledger::store_accepted(words, ledger);
+    refusal
 }

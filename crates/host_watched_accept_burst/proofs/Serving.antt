@@ -1,57 +1,95 @@
--- From one entry to all entries so far, as the loop goes along them. Assumes nothing.
-use mathlib.Core.Path.{_≡_, ap, _∙_}
+-- From one entry to all entries of a list: what the calls in a row leave is what the definition says. Assumes nothing.
+use mathlib.Core.Path.{_≡_, refl, ap, _∙_}
+use mathlib.Core.Bool.{cond}
 use mathlib.Core.List.{List, []}
 use native.Mathlib.Omega.{arith}
 use Prim.Native.Nat.{ℕ, _+_, _≤_, _<_}
-use lib.ListN.{getD, set}
+use lib.Dec.{eqb}
+use lib.ListN.{length, getD, set}
 use Rattle.calls.specs.declared.Reply.{Reply}
 use Rattle.probe_queue.specs.declared.Probe.{Probe}
 use Rattle.monitor.specs.declared.Monitor.{Monitor}
 use Rattle.ledger_state.specs.declared.Ledger.{Ledger}
 use Rattle.ledger_steps.specs.declared.AcceptAnswer.{AcceptAnswer}
-use Rattle.link_steps.specs.Steps.{ledgerOfAccept}
 use Rattle.ledger_watched.specs.declared.WatchedAccept.{WatchedAccept}
+use Rattle.ledger_watched.specs.declared.WatchedAccept.the-variants.{Served, Refused}
 use Rattle.ledger_watched.specs.Watched.{AcceptResult, acceptResult, acceptTo}
-use Rattle.host_burst.specs.Burst.{Burst, left, upTo}
-use Rattle.host_burst.specs.Entries.{replyAt, rowAfter}
-use Rattle.host_burst.specs.Kept.{storedAfter}
-use Rattle.host_burst.proofs.Folds.{up-none, up-more}
-use Rattle.host_watched_accept_burst.specs.declared.Kept.{Kept}
-use Rattle.host_watched_accept_burst.specs.Going.{going, ledgerPart, watchAfter, goesTo, goesOn}
-use Rattle.host_watched_accept_burst.specs.Going as state
+use Rattle.host_ledger.specs.Words.{ledgerAt}
+use Rattle.host_monitor_words.specs.Words.{monitorAt}
+use Rattle.host_watched_accept.specs.Calls.{ledgerAfter, monitorAfter, ended, watchedAcceptTo}
+use Rattle.host_burst.specs.Burst.{Burst, left, listed, burstRefusal, oneMore, upTo}
+use Rattle.host_burst.specs.Entries.{replyAt, answerIn, rowAfter}
+use Rattle.host_burst.proofs.Folds.{up-none, up-more, list-ends}
+use Rattle.host_watched_accept_burst.specs.Burst.{Lent, lent, rowed, acceptEntry, watchedBurst}
+use Rattle.host_watched_accept_burst.specs.Part.{ledgerPart}
 
-module _ (first : Ledger) (monitor : Monitor) (keys₀ slots₀ probes₀ links₀ : List (List ℕ)) (queue₀ : List Probe) (entries : List (List ℕ)) (count : ℕ) (answers₀ : List (List ℕ)) where
-  abbrev begun : Burst state.Going
-  begun = left (going first monitor 0 keys₀ slots₀ probes₀ links₀ queue₀) answers₀
+-- ---- one entry
+
+-- its row is that of the ledger's part
+row-is : (row : List ℕ) (given : WatchedAccept) (keys slots probes links : List (List ℕ)) (queue : List Probe) (w u : List ℕ)
+    → rowAfter row (ledgerPart given) ≡ rowed (ended w u (answerIn row) (acceptResult given keys slots probes links queue)) .row
+row-is row (Served l m a) keys slots probes links queue w u = refl
+row-is row (Refused n) keys slots probes links queue w u = refl
+
+entry-ends :
+    (ledger monitor : List ℕ) (keys slots probes links : List (List ℕ)) (queue : List Probe) (entries : List (List ℕ)) (i : ℕ) (answers : List (List ℕ))
+    (reply : Reply) (state : Ledger) (watch : Monitor) (given : WatchedAccept) (keys′ slots′ probes′ links′ : List (List ℕ)) (queue′ : List Probe) (ledger′ monitor′ : List ℕ)
+    (answer : AcceptAnswer) (answers′ : List (List ℕ))
+    → reply ≡ replyAt (getD entries i []) → state ≡ ledgerAt ledger → watch ≡ monitorAt monitor
+    → acceptResult given keys′ slots′ probes′ links′ queue′ ≡ acceptTo state watch keys slots probes links queue reply
+    → (ledger′ ≡ ledgerAfter ledger given) × (monitor′ ≡ monitorAfter monitor given)
+    → answer ≡ ledgerPart given
+    → answers′ ≡ set answers i (rowAfter (getD answers i []) answer)
+    → left (lent ledger′ monitor′ keys′ slots′ probes′ links′ queue′) answers′ ≡ oneMore acceptEntry entries (left (lent ledger monitor keys slots probes links queue) answers) i
+unfolding watchedAcceptTo
+entry-ends ledger monitor keys slots probes links queue entries i answers reply state watch given keys′ slots′ probes′ links′ queue′ ledger′ monitor′ answer answers′ er es em eg el ep ea =
+    let row = getD answers i [] in
+    let rowed-is : answers′ ≡ set answers i (rowed (ended ledger monitor (answerIn row) (acceptResult given keys′ slots′ probes′ links′ queue′)) .row) =
+    ea ∙ ap (λ (x : AcceptAnswer). set answers i (rowAfter row x)) ep ∙ ap (set answers i) (row-is row given keys′ slots′ probes′ links′ queue′ ledger monitor) in
+    (λ j. left (lent (el .0 j) (el .1 j) keys′ slots′ probes′ links′ queue′) (rowed-is j))
+    ∙ ap (λ (r : AcceptResult). left (rowed (ended ledger monitor (answerIn row) r) .state) (set answers i (rowed (ended ledger monitor (answerIn row) r) .row)))
+    (eg ∙ (λ j. acceptTo (es j) (em j) keys slots probes links queue (er j)))
+
+-- ---- the loop
+module _ (ledger₀ monitor₀ : List ℕ) (keys₀ slots₀ probes₀ links₀ : List (List ℕ)) (queue₀ : List Probe) (entries : List (List ℕ)) (count : ℕ) (answers₀ : List (List ℕ)) (refusal : ℕ) where
+  abbrev begun : Burst Lent
+  begun = left (lent ledger₀ monitor₀ keys₀ slots₀ probes₀ links₀ queue₀) answers₀
 
   -- what stands after i entries
-  abbrev pub Going : ℕ → Ledger → Monitor → ℕ → (keys slots probes links : List (List ℕ)) → List Probe → List (List ℕ) → Type 0
-  Going i ledger watch stored keys slots probes links queue answers = left (going ledger watch stored keys slots probes links queue) answers ≡ upTo goesOn entries begun i
+  abbrev pub Serves : ℕ → (ledger monitor : List ℕ) → (keys slots probes links : List (List ℕ)) → List Probe → List (List ℕ) → Type 0
+  Serves i ledger monitor keys slots probes links queue answers = left (lent ledger monitor keys slots probes links queue) answers ≡ upTo acceptEntry entries begun i
 
-  pub begins-serving : Going 0 first monitor 0 keys₀ slots₀ probes₀ links₀ queue₀ answers₀
-  begins-serving = up-none goesOn entries begun
+  pub begins-serving : Serves 0 ledger₀ monitor₀ keys₀ slots₀ probes₀ links₀ queue₀ answers₀
+  begins-serving = up-none acceptEntry entries begun
 
-  pub serves-on : (i : ℕ) (ledger : Ledger) (watch : Monitor) (stored : ℕ) (keys slots probes links : List (List ℕ)) (queue : List Probe) (answers : List (List ℕ))
-      (reply : Reply) (given : WatchedAccept) (keys′ slots′ probes′ links′ : List (List ℕ)) (queue′ : List Probe) (answer : AcceptAnswer) (answers′ : List (List ℕ)) (stored′ : ℕ) (ledger′ : Ledger) (watch′ : Monitor)
-      → Going i ledger watch stored keys slots probes links queue answers → i < count
-      → reply ≡ replyAt (getD entries i [])
-      → acceptResult given keys′ slots′ probes′ links′ queue′ ≡ acceptTo ledger watch keys slots probes links queue reply
+  pub serves-on : (i : ℕ) (ledger monitor : List ℕ) (keys slots probes links : List (List ℕ)) (queue : List Probe) (answers : List (List ℕ))
+      (reply : Reply) (state : Ledger) (watch : Monitor) (given : WatchedAccept) (keys′ slots′ probes′ links′ : List (List ℕ)) (queue′ : List Probe) (ledger′ monitor′ : List ℕ)
+      (answer : AcceptAnswer) (answers′ : List (List ℕ))
+      → Serves i ledger monitor keys slots probes links queue answers → i < count
+      → reply ≡ replyAt (getD entries i []) → state ≡ ledgerAt ledger → watch ≡ monitorAt monitor
+      → acceptResult given keys′ slots′ probes′ links′ queue′ ≡ acceptTo state watch keys slots probes links queue reply
+      → (ledger′ ≡ ledgerAfter ledger given) × (monitor′ ≡ monitorAfter monitor given)
       → answer ≡ ledgerPart given
       → answers′ ≡ set answers i (rowAfter (getD answers i []) answer)
-      → stored′ ≡ storedAfter stored answer → ledger′ ≡ ledgerOfAccept ledger answer → watch′ ≡ watchAfter watch given
-      → Going (i + 1) ledger′ watch′ stored′ keys′ slots′ probes′ links′ queue′ answers′
-  serves-on i ledger watch stored keys slots probes links queue answers reply given keys′ slots′ probes′ links′ queue′ answer answers′ stored′ ledger′ watch′ h less er eg ep ea es el ew =
-      let x = going ledger watch stored keys slots probes links queue in
-      let row = getD answers i [] in
-      let answered : acceptResult given keys′ slots′ probes′ links′ queue′ ≡ acceptTo ledger watch keys slots probes links queue (replyAt (getD entries i [])) = eg ∙ ap (acceptTo ledger watch keys slots probes links queue) er in
-      up-more goesOn entries begun (left x answers) (left (going ledger′ watch′ stored′ keys′ slots′ probes′ links′ queue′) answers′) i h
-      ((λ j. left (going (el j) (ew j) (es j) keys′ slots′ probes′ links′ queue′) (ea j))
-      ∙ ap (λ (p : AcceptAnswer). left (going (ledgerOfAccept ledger p) (watchAfter watch given) (storedAfter stored p) keys′ slots′ probes′ links′ queue′) (set answers i (rowAfter row p))) ep
-      ∙ ap (λ (r : AcceptResult). left (goesTo x row r .state) (set answers i (goesTo x row r .row))) answered)
+      → Serves (i + 1) ledger′ monitor′ keys′ slots′ probes′ links′ queue′ answers′
+  serves-on i ledger monitor keys slots probes links queue answers reply state watch given keys′ slots′ probes′ links′ queue′ ledger′ monitor′ answer answers′ h less er es em eg el ep ea =
+      up-more acceptEntry entries begun (left (lent ledger monitor keys slots probes links queue) answers) (left (lent ledger′ monitor′ keys′ slots′ probes′ links′ queue′) answers′) i h
+      (entry-ends ledger monitor keys slots probes links queue entries i answers reply state watch given keys′ slots′ probes′ links′ queue′ ledger′ monitor′ answer answers′ er es em eg el ep ea)
 
-  pub all-served : (i : ℕ) (ledger : Ledger) (watch : Monitor) (stored : ℕ) (keys slots probes links : List (List ℕ)) (queue : List Probe) (answers : List (List ℕ)) (r : Kept)
-      → Going i ledger watch stored keys slots probes links queue answers → i ≤ count → count ≤ i → (r .ledger ≡ ledger) × (r .watch ≡ watch) × (r .stored ≡ stored)
-      → left (going (r .ledger) (r .watch) (r .stored) keys slots probes links queue) answers ≡ upTo goesOn entries begun count
-  all-served i ledger watch stored keys slots probes links queue answers r h most least er =
+  pub all-served : (i : ℕ) (ledger monitor : List ℕ) (keys slots probes links : List (List ℕ)) (queue : List Probe) (answers : List (List ℕ)) (r : ℕ)
+      → Serves i ledger monitor keys slots probes links queue answers → i ≤ count → count ≤ i → r ≡ refusal
+      → (left (lent ledger monitor keys slots probes links queue) answers ≡ upTo acceptEntry entries begun count) × (r ≡ refusal)
+  all-served i ledger monitor keys slots probes links queue answers r h most least er =
       let e : i ≡ count = omega (arith, most, least) in
-      (λ j. left (going (er .0 j) (er .1 j) (er .2 j) keys slots probes links queue) answers) ∙ h ∙ ap (upTo goesOn entries begun) e
+      (h ∙ ap (upTo acceptEntry entries begun) e, er)
+
+-- ---- the list
+pub burst-ends :
+    (ledger monitor : List ℕ) (keys slots probes links : List (List ℕ)) (queue : List Probe) (entries answers : List (List ℕ)) (refusal count r : ℕ)
+    (ledger′ monitor′ : List ℕ) (keys′ slots′ probes′ links′ : List (List ℕ)) (queue′ : List Probe) (answers′ : List (List ℕ))
+    → refusal ≡ burstRefusal (length entries) (length answers) → count ≡ cond (eqb refusal 0) (length entries) 0
+    → (left (lent ledger′ monitor′ keys′ slots′ probes′ links′ queue′) answers′ ≡ upTo acceptEntry entries (left (lent ledger monitor keys slots probes links queue) answers) count) × (r ≡ refusal)
+    → listed r (left (lent ledger′ monitor′ keys′ slots′ probes′ links′ queue′) answers′) ≡ watchedBurst (lent ledger monitor keys slots probes links queue) entries answers
+unfolding watchedBurst
+burst-ends ledger monitor keys slots probes links queue entries answers refusal count r ledger′ monitor′ keys′ slots′ probes′ links′ queue′ answers′ ef ec er =
+    (λ i. listed (er .1 i) (er .0 i)) ∙ list-ends acceptEntry (lent ledger monitor keys slots probes links queue) entries answers refusal count ef ec

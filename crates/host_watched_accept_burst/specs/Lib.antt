@@ -1,2 +1,2 @@
 pub mod Burst
-pub mod Going
+pub mod Part

@@ -81,6 +81,30 @@ pub struct Queued {
 
 const _: () = assert!(std::mem::size_of::<Queued>() == 24);
 
+/// An entry of a burst: a reply's key, and its pending packet where `pending` is not 0.
+#[repr(C)]
+#[derive(Clone, Copy, Debug, Default, PartialEq, Eq)]
+pub struct Entry {
+    pub t3: u64,
+    pub sender: u32,
+    pub reflector: u32,
+    pub pending: u64,
+    pub time: u64,
+    pub tag: u64,
+}
+
+const _: () = assert!(std::mem::size_of::<Entry>() == 5 * 8);
+
+/// What became of an entry: 0 or the number that `accept` refuses it with, and what `accept` answers.
+#[repr(C)]
+#[derive(Clone, Copy, Debug, Default, PartialEq, Eq)]
+pub struct EntryAnswer {
+    pub number: u64,
+    pub accepted: [u64; 6],
+}
+
+const _: () = assert!(std::mem::size_of::<EntryAnswer>() == 7 * 8);
+
 /// What a record of a log says was told to `sent`.
 #[repr(C)]
 #[derive(Clone, Copy, Debug, Default, PartialEq, Eq)]
@@ -151,6 +175,21 @@ extern "C" {
         tag: u64,
         answer: &mut [u64; 6],
     ) -> u8;
+    fn ambrulicciu_accept_burst(
+        ledger: &mut [u64; LEDGER_WORDS],
+        keys: *mut [u64; 2],
+        keys_length: usize,
+        slots: *mut [u64; 3],
+        slots_length: usize,
+        probes: *mut [u64; 4],
+        probes_length: usize,
+        links: *mut [u16; 8],
+        links_length: usize,
+        entries: *const Entry,
+        entries_length: usize,
+        answers: *mut EntryAnswer,
+        answers_length: usize,
+    ) -> u8;
     fn ambrulicciu_observe(
         ledger: &mut [u64; LEDGER_WORDS],
         keys: *const [u64; 2],
@@ -209,6 +248,24 @@ extern "C" {
         time: u64,
         tag: u64,
         answer: &mut [u64; 6],
+    ) -> u8;
+    fn ambrulicciu_watched_accept_burst(
+        ledger: &mut [u64; LEDGER_WORDS],
+        monitor: &mut [u64; 12],
+        keys: *mut [u64; 2],
+        keys_length: usize,
+        slots: *mut [u64; 3],
+        slots_length: usize,
+        probes: *mut [u64; 4],
+        probes_length: usize,
+        links: *mut [u16; 8],
+        links_length: usize,
+        queue: *mut Queued,
+        queue_length: usize,
+        entries: *const Entry,
+        entries_length: usize,
+        answers: *mut EntryAnswer,
+        answers_length: usize,
     ) -> u8;
     fn ambrulicciu_monitor_fresh(monitor: &mut [u64; 12], threshold: u16, timeout: u64) -> u8;
     fn ambrulicciu_monitor_sent(monitor: &mut [u64; 12], queue: *mut Queued, queue_length: usize, sequence: u32, time: u64) -> u8;
@@ -426,6 +483,35 @@ pub fn accept(
     }
 }
 
+/// `accept` for each entry; answers: a row for each, the entry's number and what `accept` answers.
+pub fn accept_burst(
+    ledger: &mut [u64; LEDGER_WORDS],
+    keys: &mut [[u64; 2]],
+    slots: &mut [[u64; 3]],
+    probes: &mut [[u64; 4]],
+    links: &mut [[u16; 8]],
+    entries: &[Entry],
+    answers: &mut [EntryAnswer],
+) -> u8 {
+    unsafe {
+        ambrulicciu_accept_burst(
+            ledger,
+            keys.as_mut_ptr(),
+            keys.len(),
+            slots.as_mut_ptr(),
+            slots.len(),
+            probes.as_mut_ptr(),
+            probes.len(),
+            links.as_mut_ptr(),
+            links.len(),
+            entries.as_ptr(),
+            entries.len(),
+            answers.as_mut_ptr(),
+            answers.len(),
+        )
+    }
+}
+
 pub fn observe(
     ledger: &mut [u64; LEDGER_WORDS],
     keys: &[[u64; 2]],
@@ -530,6 +616,39 @@ pub fn watched_accept(
             time,
             tag,
             answer,
+        )
+    }
+}
+
+pub fn watched_accept_burst(
+    ledger: &mut [u64; LEDGER_WORDS],
+    monitor: &mut [u64; 12],
+    keys: &mut [[u64; 2]],
+    slots: &mut [[u64; 3]],
+    probes: &mut [[u64; 4]],
+    links: &mut [[u16; 8]],
+    queue: &mut [Queued],
+    entries: &[Entry],
+    answers: &mut [EntryAnswer],
+) -> u8 {
+    unsafe {
+        ambrulicciu_watched_accept_burst(
+            ledger,
+            monitor,
+            keys.as_mut_ptr(),
+            keys.len(),
+            slots.as_mut_ptr(),
+            slots.len(),
+            probes.as_mut_ptr(),
+            probes.len(),
+            links.as_mut_ptr(),
+            links.len(),
+            queue.as_mut_ptr(),
+            queue.len(),
+            entries.as_ptr(),
+            entries.len(),
+            answers.as_mut_ptr(),
+            answers.len(),
         )
     }
 }

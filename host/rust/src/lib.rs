@@ -34,6 +34,9 @@ pub use spread::{Directions, Spread};
 /// Rows of each room of a link, and of the monitor's queue.
 pub const ROWS: usize = 4096;
 
+/// Most replies of a burst.
+pub const ENTRIES: usize = 256;
+
 /// The library's version: 1,000,000 times the first part, 1,000 times the second, and the third.
 pub fn version() -> u32 {
     let mut version = [0];

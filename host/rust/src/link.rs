@@ -1,6 +1,6 @@
 //! A link: the ledger with its rooms, and its monitor if it is watched.
 use crate::{
-    calls::{self, Queued, LEDGER_WORDS},
+    calls::{self, Entry, EntryAnswer, Queued, LEDGER_WORDS},
     observation::Observation,
     refusal::{served, Refusal},
     shown::Figures,
@@ -28,6 +28,22 @@ pub enum Accepted {
     Unknown,
     Duplicate,
     Unique(Packet, Option<u32>, u32),
+}
+
+/// The words of an answer.
+fn accepted_of([class, time, tag, known, ordinal, train]: [u64; 6]) -> Accepted {
+    match class {
+        0 => Accepted::Unknown,
+        1 => Accepted::Duplicate,
+        _ => Accepted::Unique(Packet { time, tag }, (known != 0).then_some(ordinal as u32), train as u32),
+    }
+}
+
+/// The words of a reply in a burst.
+fn entry_of(key: Key, pending: Option<Packet>) -> Entry {
+    let Key { sender, reflector, t3 } = key;
+    let Packet { time, tag } = pending.unwrap_or_default();
+    Entry { t3, sender, reflector, pending: pending.is_some().into(), time, tag }
 }
 
 /// The ledger's rooms.
@@ -160,12 +176,23 @@ impl Link {
                 )
             }
         })?;
-        let [class, time, tag, known, ordinal, train] = answer;
-        Ok(match class {
-            0 => Accepted::Unknown,
-            1 => Accepted::Duplicate,
-            _ => Accepted::Unique(Packet { time, tag }, (known != 0).then_some(ordinal as u32), train as u32),
-        })
+        Ok(accepted_of(answer))
+    }
+
+    /// A burst of replies, at most [`ENTRIES`](crate::ENTRIES): [`accept`](Link::accept) for each in list order. One that is refused has its
+    /// refusal, and the rest go on; a longer list is refused as a whole, and then nothing was changed.
+    pub fn accept_burst(&mut self, replies: &[(Key, Option<Packet>)]) -> Result<Vec<Result<Accepted, Refusal>>, Refusal> {
+        let entries: Vec<Entry> = replies.iter().map(|(key, pending)| entry_of(*key, *pending)).collect();
+        let mut answers = vec![EntryAnswer::default(); entries.len()];
+        let Rooms { keys, slots, probes, links, .. } = &mut self.rooms;
+        let ledger = &mut self.ledger;
+        served(match &mut self.watch {
+            None => calls::accept_burst(ledger, keys, slots, probes, links, &entries, &mut answers),
+            Some(Watch { monitor, queue }) => {
+                calls::watched_accept_burst(ledger, monitor, keys, slots, probes, links, queue, &entries, &mut answers)
+            }
+        })?;
+        Ok(answers.iter().map(|row| served(row.number as u8).map(|()| accepted_of(row.accepted))).collect())
     }
 
     /// What the unique reply that was accepted last brought.

@@ -1,5 +1,7 @@
 //! The ledger (`Measurements` of measurements.rs), with its monitor.
 #[cfg(feature = "host")]
+pub mod bursts;
+#[cfg(feature = "host")]
 pub mod conversions;
 #[cfg(feature = "host")]
 pub mod hosted;

@@ -39,7 +39,7 @@ reply-of-requires : tie.Need-reply-of-requires
 reply-of-requires c κs = search needs
 
 returns : tie.Need-returns
-returns c = 
+returns c =
     let e = c .before .before .before .before .args .t1 in
     c .reply-of .ensures
     ∙ (λ i. replyOf (c .before .before .before .low .ensures i) (c .before .before .high .ensures i) (getD e 0 0) (c .before .pending-of .result) (getD e 3 0) (getD e 4 0))

@@ -1,6 +1,6 @@
--- `host_watched_accept_burst::ledger_part` meets its contract. Assumes nothing.
+-- `host_watched_accept_burst::ledger_part` meets its contract: in each arm the answer is known. Assumes nothing.
 use mathlib.Core.Path.{sym, ap}
-use Rattle.host_watched_accept_burst.specs.Going.{ledgerPart}
+use Rattle.host_watched_accept_burst.specs.Part.{ledgerPart}
 use borrow.Author.Needs.{needs}
 use Rattle.host_watched_accept_burst.proofs.ledger_part.Statement.{statement}
 use Rattle.host_watched_accept_burst.proofs.ledger_part.Tie as tie
