@@ -7,7 +7,7 @@ use crate::{
     table::Table,
 };
 use ambrulicciu::{
-    calls::{self, Observation, LEDGER_WORDS},
+    calls::{self, Entry, EntryAnswer, Observation, LEDGER_WORDS},
     Figures, Link, ROWS,
 };
 use std::hint::black_box;
@@ -145,6 +145,7 @@ pub fn rows(table: &mut Table) {
         alone(table, few);
     }
     full(table);
+    bursts(table);
     watched(table);
     readers(table);
 }
@@ -252,6 +253,42 @@ fn full(table: &mut Table) {
             || {
                 j += 1;
                 turn!(original, stream, black_box(j));
+            },
+        );
+        same(&ours, &original);
+    }
+}
+
+// The stream of unique replies by lists: the entries are filled in the time that is measured, and a list's time is shared by its entries.
+fn bursts(table: &mut Table) {
+    for count in [1, 8, 64, 256] {
+        let (mut ours, mut original) = (Ours::new(), Timed::new(1));
+        for i in 1..=FULL {
+            turn!(ours, Stream::New, i);
+            turn!(original, Stream::New, i);
+        }
+        let (mut i, mut j) = (FULL, FULL);
+        let (mut entries, mut answers) = (vec![Entry::default(); count], vec![EntryAnswer::default(); count]);
+        table.row(
+            &format!("`accept_burst` of {count}, unique, none observed, each; full tables"),
+            20_000 / count,
+            count,
+            || {
+                for entry in &mut entries {
+                    i += 1;
+                    let n = i as u32;
+                    *entry = Entry { t3: i, sender: 3000 + n % 2000, reflector: n, ..Entry::default() };
+                }
+                let Link { ledger, rooms: r, .. } = &mut ours.link;
+                let entries = black_box(&entries);
+                assert_eq!(calls::accept_burst(ledger, &mut r.keys, &mut r.slots, &mut r.probes, &mut r.links, entries, &mut answers), 0);
+                assert!(answers.iter().all(|a| a.number == 0 && a.accepted[0] == 2));
+            },
+            || {
+                for _ in 0..count {
+                    j += 1;
+                    turn!(original, Stream::Unique, black_box(j));
+                }
             },
         );
         same(&ours, &original);

@@ -274,6 +274,7 @@ static void try_accept(void) {
 
 /* ---- a burst: what it leaves is also held against the single calls, on the memory as it was before, byte by byte */
 
+#ifndef MEASURE
 /* The copy of lent memory as it was before the call. */
 static void *twin(const void *bytes) {
     int i = 0;
@@ -300,6 +301,7 @@ static void same(const char *call) {
             exit(1);
         }
 }
+#endif
 
 static size_t entry_count(void) {
     static const size_t lengths[6] = {0, 1, 2, 255, 256, 257};

@@ -35,7 +35,7 @@ static const char *const lines[] = {"watched",     "not watched", "sent served",
                                     "unique",      "ordinal",     "no ordinal",   "pending",      "not pending", "observed",
                                     "out of range", "not awaiting", "answered",   "unanswered",   "burst wait",  "no wait",
                                     "deadline",    "no deadline", "idle",         "active",       "failed",      "no session",
-                                    "report",      "matched"};
+                                    "report",      "matched",     "burst"};
 #define LINES (sizeof lines / sizeof *lines)
 static uint64_t reached[LINES];
 
@@ -223,6 +223,41 @@ static void accept(void) {
     }
 }
 
+/* Up to five replies in one call; the last unique one may then be observed. */
+static void burst(void) {
+    ambrulicciu_entry entries[5];
+    ambrulicciu_entry_answer answers[5], too[5];
+    size_t count = (size_t)below(6);
+    uint32_t kept = sequence;
+    memset(entries, 0, sizeof entries);
+    for (size_t i = 0; i < count; i++) {
+        entries[i].t3 = below(5) ? drawn() : t3;
+        entries[i].sender = below(10) ? sequence - (uint32_t)below(3) : (uint32_t)(500000 + below(3));
+        entries[i].reflector = reflector + (uint32_t)below(2);
+        entries[i].pending = below(3);
+        entries[i].time = drawn();
+        entries[i].tag = drawn();
+    }
+    unlike(answers, too, sizeof answers);
+    uint8_t one = ambrulicciu_link_accept_burst(&forms, entries, count, answers);
+    uint8_t other = watched ? ambrulicciu_watched_accept_burst(&direct.ledger, &direct.monitor, direct.keys, ROWS, direct.slots, ROWS,
+                                                               direct.probes, ROWS, direct.links, ROWS, direct.queue, ROWS, entries,
+                                                               count, too, count)
+                            : ambrulicciu_accept_burst(&direct.ledger, direct.keys, ROWS, direct.slots, ROWS, direct.probes, ROWS,
+                                                       direct.links, ROWS, entries, count, too, count);
+    same("accept_burst", one, other, answers, too, count * sizeof *answers);
+    reach("burst");
+    for (size_t i = 0; i < count; i++)
+        if (answers[i].accepted.class_ == AMBRULICCIU_UNIQUE) {
+            sequence = entries[i].sender;
+            reflector = entries[i].reflector;
+            t3 = entries[i].t3;
+        }
+    if (count && answers[count - 1].accepted.class_ == AMBRULICCIU_UNIQUE)
+        observe();
+    sequence = kept;
+}
+
 static void advance(void) {
     now += below(60);
     same("advance", ambrulicciu_link_advance(&forms, now),
@@ -352,7 +387,7 @@ static void sized(void) {
 }
 
 int main(int argc, char **argv) {
-    static void (*const events[])(void) = {send, send, send, accept, accept, accept, advance, stop, numbers, session};
+    static void (*const events[])(void) = {send, send, send, accept, accept, accept, burst, advance, stop, numbers, session};
     long links = argc > 1 ? atol(argv[1]) : 60, calls = argc > 2 ? atol(argv[2]) : 400;
     uint32_t version = 0;
     seed = argc > 3 ? strtoull(argv[3], NULL, 10) : 1;
