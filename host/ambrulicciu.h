@@ -40,6 +40,7 @@
  *       ambrulicciu_link_fresh(&yard, 1, secret, 3, 2000000000u);            copies 1, failed at 3 losses, timeout 2 s
  *       ambrulicciu_link_sent(&yard, sequence, ordinal, train, now, tag);    after each probe; train 0: none
  *       ambrulicciu_link_accept(&yard, sender, reflector, t3, &packet, &accepted);
+ *       ambrulicciu_link_accept_burst(&yard, entries, count, answers);       or up to 256 replies at once: the last unique one is observed
  *       if (accepted.class_ == AMBRULICCIU_UNIQUE)                           each unique reply is observed once
  *           ambrulicciu_link_observe(&yard, &observation);
  *       ambrulicciu_link_advance(&yard, now);                                on a timer: probes past their deadline are losses
@@ -339,7 +340,7 @@ uint8_t ambrulicciu_accept(ambrulicciu_ledger *ledger, ambrulicciu_key *keys, si
 /* A burst of replies, at most AMBRULICCIU_ENTRIES: ambrulicciu_accept for each entry in list order, with its answer in the row of the same
  * place. An entry that is refused has its number in its row, and the rest go on: the call returns 0. Only the last unique one awaits its
  * observation, as after single calls. Refuses 5: the whole list, before any entry is served, where `answers` has another length than
- * `entries` or there are more than AMBRULICCIU_ENTRIES. Stack: 2 KB. */
+ * `entries` or there are more than AMBRULICCIU_ENTRIES. */
 uint8_t ambrulicciu_accept_burst(ambrulicciu_ledger *ledger, ambrulicciu_key *keys, size_t keys_length, ambrulicciu_slot *slots,
                                  size_t slots_length, ambrulicciu_probe *probes, size_t probes_length, ambrulicciu_chain *links,
                                  size_t links_length, const ambrulicciu_entry *entries, size_t entries_length,
@@ -381,7 +382,7 @@ uint8_t ambrulicciu_watched_accept(ambrulicciu_ledger *ledger, ambrulicciu_monit
                                    ambrulicciu_accepted *answer);
 
 /* ambrulicciu_accept_burst with ambrulicciu_watched_accept for each entry: each unique reply goes to the monitor. What either part
- * refuses of an entry is in its row. Refuses 5: the whole list, where ambrulicciu_accept_burst does. Stack: 2 KB. */
+ * refuses of an entry is in its row. Refuses 5: the whole list, where ambrulicciu_accept_burst does. */
 uint8_t ambrulicciu_watched_accept_burst(ambrulicciu_ledger *ledger, ambrulicciu_monitor *monitor, ambrulicciu_key *keys,
                                          size_t keys_length, ambrulicciu_slot *slots, size_t slots_length, ambrulicciu_probe *probes,
                                          size_t probes_length, ambrulicciu_chain *links, size_t links_length,
