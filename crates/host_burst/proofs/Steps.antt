@@ -1,10 +1,10 @@
 -- What the proofs of the functions cite. Assumes nothing.
 use mathlib.Core.Path.{_≡_, refl, sym, ap, _∙_}
-use mathlib.Core.Bool.{cond}
+use mathlib.Core.Bool.{Bool, _&&_, cond}
 use mathlib.Core.List.{List, [], _∷_}
 use native.Mathlib.Omega.{arith}
 use Prim.Native.Nat.{ℕ, zero, suc, _≤_}
-use lib.Dec.{eqb}
+use lib.Dec.{eqb, leb}
 use lib.ListN.{length, getD, set}
 use Rattle.calls.specs.declared.Pending.the-variants as pending
 use Rattle.calls.specs.declared.Ordinal.the-variants as ordinal
@@ -12,6 +12,7 @@ use Rattle.ledger_steps.specs.declared.Accepted.{Accepted}
 use Rattle.ledger_steps.specs.declared.Accepted.the-variants.{Duplicate, Unknown, Unique}
 use Rattle.host_calls.specs.Calls as host_calls
 use Rattle.host_calls.specs.Calls.{replyOf}
+use Rattle.host_burst.specs.Burst.{burstRefusal}
 
 -- of two flags that say the same the reply is the same
 pub same-reply : (sender reflector t3 time tag p q : ℕ) → eqb p 0 ≡ eqb q 0 → replyOf sender reflector t3 p time tag ≡ replyOf sender reflector t3 q time tag
@@ -39,3 +40,7 @@ pub row-of : (x : Accepted) (w : List ℕ) → w ≡ host_calls.acceptedWords x
 row-of x w e =
     ap (λ (v : List ℕ). 0 ∷ getD v 0 0 ∷ getD v 1 0 ∷ getD v 2 0 ∷ getD v 3 0 ∷ getD v 4 0 ∷ getD v 5 0 ∷ []) e
     ∙ ap (λ (v : List ℕ). 0 ∷ v) (sym (six x))
+
+-- the refusal of a list, by the code's one test
+pub refusal-by : (entries rows : ℕ) (b : Bool) → eqb rows entries && leb entries 256 ≡ b → cond b 0 5 ≡ burstRefusal entries rows
+refusal-by entries rows b e = sym (ap (λ (x : Bool). cond x 0 5) e)
