@@ -1,0 +1,17 @@
+-- `recount_back::one_if` meets its contract. Assumes nothing.
+use native.Mathlib.Omega.{arith}
+use borrow.Author.Needs.{needs}
+use Rattle.recount_back.proofs.one_if.Statement.{statement}
+use Rattle.recount_back.proofs.one_if.Tie as tie
+
+add-result : tie.Need-add-result
+add-result c = search needs
+
+returns : tie.Need-returns
+returns c = rw (c .if1 .taken) (omega arith)
+
+returns-2 : tie.Need-returns-2
+returns-2 c = search needs
+
+pub one-if-spec : {M : Type 1} → statement M
+one-if-spec = tie.close (tie.spec add-result returns returns-2)
