@@ -1,0 +1,61 @@
+-- `recount_window::anchor` meets its contract. Assumes nothing.
+use mathlib.Core.Path.{_≡_}
+use Prim.Native.Nat.{_-_, _≤_}
+use native.Mathlib.Omega.{arith}
+use borrow.Author.Needs.{needs}
+use Rattle.recount_observed.specs.Observed.{observationAt}
+use Rattle.recount_window.specs.Window.{pointsFrom}
+use Rattle.history.specs.Given.{countersOf}
+use Rattle.history.specs.DirectLoss.{anchor}
+use Rattle.recount_window.proofs.Laws.{anchor-start, anchor-turn}
+use Rattle.recount_window.proofs.anchor.Statement.{statement}
+use Rattle.recount_window.proofs.anchor.Tie as tie
+
+abbrev Inv-loop : tie.InvT-loop
+Inv-loop log marks start n found₀ j₀ found j = (countersOf found ≡ anchor (pointsFrom (observationAt log marks) start (j - start))) × (j ≤ n) × (start ≤ j)
+
+abbrev μ-loop : tie.MeasureT-loop
+μ-loop log marks start n found₀ j₀ found j = n - j
+
+loop-holds : tie.Need-loop-holds Inv-loop μ-loop
+loop-holds c = (anchor-start _ _, search needs, search needs)
+
+point-at-requires : tie.Need-point-at-requires Inv-loop μ-loop
+point-at-requires c κs = search needs
+
+first-of-requires : tie.Need-first-of-requires Inv-loop μ-loop
+first-of-requires c κs = search needs
+
+add-j : tie.Need-add-j Inv-loop μ-loop
+add-j c = search needs
+
+loop-less : tie.Need-loop-less Inv-loop μ-loop
+loop-less c = search needs
+
+loop-again : tie.Need-loop-again Inv-loop μ-loop
+loop-again c =
+    let s = c .before .before .before .before .before .before in
+    let l = c .before .before .before .loop in (
+      anchor-turn (observationAt (s .args .log .now) (s .args .marks .now)) (s .args .start) (l .j) (l .inv .2) _ _ _ (c .before .point-at .ensures) (c .first-of .ensures) (l .inv .0),
+      search needs,
+      search needs,
+    )
+
+returns : tie.Need-returns Inv-loop μ-loop
+returns c =
+    let e : c .before .loop .j ≡ c .before .before .before .before .args .n = omega (arith, c .loop-test .left, c .before .loop .inv .1) in
+    rw e at (c .before .loop .inv .0)
+
+pub anchor-spec : {M : Type 1} → statement M
+anchor-spec =
+    tie.close
+    (tie.spec
+    Inv-loop
+    μ-loop
+    loop-holds
+    point-at-requires
+    first-of-requires
+    add-j
+    loop-less
+    loop-again
+    returns)
