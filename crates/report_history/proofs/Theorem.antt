@@ -107,13 +107,16 @@ module _ (log : List ℕ) (s : Settings) (secret : List ℕ) (queue : List Probe
         let b : length (served (freshLink m) cs) + turnedAway (freshLink m) cs ≡ length cs = turned-away-adds-up (freshLink m) cs in
         omega (arith, a, b)
 
+    -- Each number and state of the report of a log is what its served calls call for.
+    pub figures-are-history : figuresOf (endOf log secret queue rooms s .standing .link) (s .count) (endOf log secret queue rooms s .turned) ≡ reportFrom log s
+    figures-are-history =
+        ap (λ (t : Tallied). figuresOf (t .standing .link) (s .count) (t .turned)) end-is
+        ∙ figures-are (copiesOf (s .copies)) (m .monitor) (servedFrom (m .monitor) cs) (played (freshLink m) cs) (s .count) (turnedAway (freshLink m) cs) (made-calls-show m ok cs w)
+        ∙ ap (figuresFrom (copiesOf (s .copies)) (m .monitor) (servedFrom (m .monitor) cs) (s .count)) turned-is
+
     -- The text that is printed of a good log is the text of what its served calls call for.
     pub report-is-history : playedText s (endOf log secret queue rooms s) ≡ textOf (reportFrom log s)
-    report-is-history =
-        ap (playedText s) end-is
-        ∙ ap textOf
-        (figures-are (copiesOf (s .copies)) (m .monitor) (servedFrom (m .monitor) cs) (played (freshLink m) cs) (s .count) (turnedAway (freshLink m) cs) (made-calls-show m ok cs w)
-        ∙ ap (figuresFrom (copiesOf (s .copies)) (m .monitor) (servedFrom (m .monitor) cs) (s .count)) turned-is)
+    report-is-history = ap textOf figures-are-history
 
     -- So is what the call of `report_log` leaves in the buffer, and what it answers.
     pub buffer-is-history : (buffer : List ℕ) → fits queue rooms buffer ≡ true → logOf log ≡ log'.Good s → reportOfLog log secret queue rooms buffer .outcome ≡ written (textOf (reportFrom log s)) buffer

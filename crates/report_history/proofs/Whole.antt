@@ -15,11 +15,12 @@ use Rattle.link_log.specs.declared.Log.the-variants as log'
 use Rattle.link_log.specs.Logs.{logOf}
 use Rattle.report.specs.Lines.{textOf}
 use Rattle.report.specs.Report.{written}
-use Rattle.link_report.specs.LogReport.{fits, reportOfLog}
+use Rattle.link_figures.specs.Figures.{figuresOf}
+use Rattle.link_report.specs.LogReport.{endOf, fits, reportOfLog}
 use Rattle.report_history.specs.Bytes.{BytesIn}
 use Rattle.report_history.specs.Figures.{watchingBy, makingBy, reportFrom}
 use Rattle.report_history.proofs.Bytes.{log-fits, good-settings, copies-in}
-use Rattle.report_history.proofs.Theorem.{buffer-is-history}
+use Rattle.report_history.proofs.Theorem.{figures-are-history, buffer-is-history}
 
 queue-fits : (n t : ℕ) (queue : List Probe) → length queue ≡ capacity → QueueFits (watchingBy n t) queue
 queue-fits zero t queue long = tt
@@ -33,6 +34,10 @@ module _ (log : List ℕ) (h : BytesIn log) (s : Settings) (g : logOf log ≡ lo
       rooms-fit = sized;
       queue-fits = queue-fits (s .threshold) (s .timeout) queue long;
     }
+
+    -- EACH NUMBER AND STATE of the report that `linkreport` prints
+    pub figures-of-a-good-log : figuresOf (endOf log secret queue rooms s .standing .link) (s .count) (endOf log secret queue rooms s .turned) ≡ reportFrom log s
+    figures-of-a-good-log = figures-are-history log s secret queue rooms making-fits (log-fits log h (s .count))
 
     -- THE THEOREM
     pub report-of-a-good-log : (buffer : List ℕ) → fits queue rooms buffer ≡ true → reportOfLog log secret queue rooms buffer .outcome ≡ written (textOf (reportFrom log s)) buffer
