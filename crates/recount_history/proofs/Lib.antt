@@ -1,0 +1,14 @@
+pub mod Few
+pub mod Weight
+pub mod Refusals
+pub mod Marked
+pub mod Turned
+pub mod Counts
+pub mod Whole
+pub mod Slots
+pub mod Observations
+pub mod Follow
+pub mod Direct
+pub mod Trips
+pub mod Monitor
+pub mod Same
