@@ -31,6 +31,7 @@
  *       queue    98,304    the monitor's probes that await a reply, if the link is watched
  *     together  475,872    (377,472 without a monitor); ambrulicciu_link below has them all, and a word
  *   A series of quantiles: state 32, room 92,624 (signed: 150,432). A report: a buffer of 1,024. A log: at most 65,536.
+ *   A second count of a log: marks 682, fronts 2,728.
  *   A summary of bit errors, one for each direction: 64.
  *   A series of round trips with its spread: state 96, room 92,624. One-way delays in both directions: state 96, slice 300,864.
  *   A room may hold anything when a link is made fresh: it need not be cleared.
@@ -99,6 +100,7 @@ uint8_t ambrulicciu_version(uint32_t *version);
 #define AMBRULICCIU_TRAILER 24                 /* bytes of the trailer of a log */
 #define AMBRULICCIU_LOG 65536                  /* link_log::MOST_BYTES: most bytes of a log */
 #define AMBRULICCIU_TEXT 1024                  /* report::REPORT_ROOM: bytes of the buffer of a report */
+#define AMBRULICCIU_RECORDS 682                /* recount::MOST_RECORDS: most records of a log, and numbers of each room of the second count */
 
 /* ---- states and rooms --------------------------------------------------------------------------------------------------------------
  * Their words are the library's own: a host keeps them and hands them over, and reads figures by the calls below. They may be copied,
@@ -754,6 +756,14 @@ uint8_t ambrulicciu_report_log(const uint8_t *log, size_t log_length, const uint
                                size_t probes_length, uint32_t *offsets, size_t offsets_length, ambrulicciu_chain *links,
                                size_t links_length, ambrulicciu_queued *queue, size_t queue_length, uint8_t *text,
                                size_t text_length, uint64_t *length);
+
+/* The same report, counted a second time, straight from the records, by code that has the reader of the log and the report's text in common
+ * with the call above, and nothing else: a host that makes both releases a log whose two texts are equal. `marks` and `fronts` are rooms of
+ * AMBRULICCIU_RECORDS numbers, which may hold anything; a mark for each record is left in the one, and with a monitor a front in the other.
+ * Its time grows with the square of the records. Refuses 5: a room or the buffer of another size; then 9, 7, 8: the log itself.
+ * Stack: 4 KB. */
+uint8_t ambrulicciu_recount_log(const uint8_t *log, size_t log_length, uint8_t *marks, size_t marks_length, uint32_t *fronts,
+                                size_t fronts_length, uint8_t *text, size_t text_length, uint64_t *length);
 
 /* The report of a link as it stands. `watched` 0: it has no monitor, and the monitor's words are not looked at. `records`, `turned_away`:
  * how many calls were made and how many of them refused, for the first line. Refuses 5: a buffer of another size, or a ring of the ledger

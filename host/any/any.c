@@ -918,6 +918,14 @@ static void try_reports(void) {
     ready();
     done("report_log", ambrulicciu_report_log(log, size, words, r.keys, r.key_rows, r.slots, r.slot_rows, r.probes, r.probe_rows, r.offsets, r.offset_rows,
                                               r.links, r.link_rows, r.queue, r.queue_rows, text, room, length), "5978");
+    size_t mark_rows = drawn() % 8 ? AMBRULICCIU_RECORDS : drawn() % 1400, front_rows = drawn() % 8 ? AMBRULICCIU_RECORDS : drawn() % 1400;
+    log = log_of(&size);
+    uint8_t *marks = lend(mark_rows, 0);
+    uint32_t *fronts = lend(4 * front_rows, 0);
+    text = lend(room, 0);
+    length = lend(8, 0);
+    ready();
+    done("recount_log", ambrulicciu_recount_log(log, size, marks, mark_rows, fronts, front_rows, text, room, length), "5978");
     ambrulicciu_ledger *l = ledger(1);
     ambrulicciu_monitor *m = monitor(1);
     text = lend(room, 0);

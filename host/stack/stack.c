@@ -3,8 +3,9 @@
  *
  *     stack LOG..
  *
- * Each log is reported three times, with the stack below filled with 0x00, 0xff and 0x5a before, and the rooms with the same bytes: the
- * numbers and the texts must be equal. How much of the filling is gone afterwards is how much stack the call took: at most 64 KB.
+ * Each log is reported three times, and counted a second time as often, with the stack below filled with 0x00, 0xff and 0x5a before, and the
+ * rooms with the same bytes: the numbers and the texts must be equal. How much of the filling is gone afterwards is how much stack the call
+ * took: at most 64 KB.
  */
 #include "../ambrulicciu.h"
 #include <stdio.h>
@@ -14,6 +15,8 @@
 #define MOST (64 * 1024)
 
 static ambrulicciu_link rooms;
+static uint8_t marks[AMBRULICCIU_RECORDS];
+static uint32_t fronts[AMBRULICCIU_RECORDS];
 static uint8_t bytes[AMBRULICCIU_LOG + 1];
 
 /* What this leaves is what the next call finds in its frame. */
@@ -55,9 +58,23 @@ static int reported(size_t size, int byte, uint8_t text[AMBRULICCIU_TEXT]) {
     return number;
 }
 
+static int recounted(size_t size, int byte, uint8_t text[AMBRULICCIU_TEXT]) {
+    uint64_t length = 0;
+    memset(marks, byte, sizeof marks);
+    memset(fronts, byte, sizeof fronts);
+    memset(text, 0, AMBRULICCIU_TEXT);
+    if (filled(byte) != byte)
+        return -1;
+    int number = ambrulicciu_recount_log(bytes, size, marks, AMBRULICCIU_RECORDS, fronts, AMBRULICCIU_RECORDS, text, AMBRULICCIU_TEXT, &length);
+    size_t took = taken(byte);
+    if (took > most)
+        most = took;
+    return number;
+}
+
 static int same(const char *path) {
     static const int fillings[] = {0x00, 0xff, 0x5a};
-    uint8_t texts[3][AMBRULICCIU_TEXT];
+    uint8_t texts[3][AMBRULICCIU_TEXT], again[AMBRULICCIU_TEXT];
     int numbers[3];
     FILE *file = fopen(path, "rb");
     if (!file) {
@@ -72,6 +89,10 @@ static int same(const char *path) {
             fprintf(stderr, "stack: %s: another report where the stack held %#x\n", path, (unsigned)fillings[i]);
             return 0;
         }
+        if (recounted(size, fillings[i], again) != numbers[0] || memcmp(texts[0], again, AMBRULICCIU_TEXT) != 0) {
+            fprintf(stderr, "stack: %s: another second count where the stack held %#x\n", path, (unsigned)fillings[i]);
+            return 0;
+        }
     }
     return 1;
 }
@@ -80,6 +101,6 @@ int main(int count, char **paths) {
     for (int i = 1; i < count; i++)
         if (!same(paths[i]))
             return 1;
-    printf("stack: %d logs: the same report whatever the stack held, in %zu bytes of it\n", count - 1, most);
+    printf("stack: %d logs: the same report, and the same by the second count, whatever the stack held, in %zu bytes of it\n", count - 1, most);
     return count < 2 || most > MOST;
 }

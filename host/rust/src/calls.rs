@@ -411,6 +411,17 @@ extern "C" {
         text_length: usize,
         length: &mut [u64; 1],
     ) -> u8;
+    fn ambrulicciu_recount_log(
+        log: *const u8,
+        log_length: usize,
+        marks: *mut u8,
+        marks_length: usize,
+        fronts: *mut u32,
+        fronts_length: usize,
+        text: *mut u8,
+        text_length: usize,
+        length: &mut [u64; 1],
+    ) -> u8;
     fn ambrulicciu_report_link(
         ledger: &[u64; LEDGER_WORDS],
         monitor: &[u64; 12],
@@ -899,6 +910,22 @@ pub fn report_log(
             links.len(),
             queue.as_mut_ptr(),
             queue.len(),
+            text.as_mut_ptr(),
+            text.len(),
+            length,
+        )
+    }
+}
+
+pub fn recount_log(log: &[u8], marks: &mut [u8], fronts: &mut [u32], text: &mut [u8], length: &mut [u64; 1]) -> u8 {
+    unsafe {
+        ambrulicciu_recount_log(
+            log.as_ptr(),
+            log.len(),
+            marks.as_mut_ptr(),
+            marks.len(),
+            fronts.as_mut_ptr(),
+            fronts.len(),
             text.as_mut_ptr(),
             text.len(),
             length,

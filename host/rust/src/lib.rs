@@ -22,7 +22,7 @@ mod spread;
 pub use area::{area_items, area_of, counters_of, follow_up_of, tell_area, write_counters, write_follow_up, FollowUpValue};
 pub use bits::{bit_errors, bit_observation, pattern_of, BitErrors, BitObservation, BitSummary, Item};
 pub use estimate::{Estimate, Invalid, Parts};
-pub use link::{report_of_log, Accepted, Key, Link, Packet, Rooms, Session, State, Watch};
+pub use link::{recount_of_log, report_of_log, Accepted, Key, Link, Packet, Rooms, Session, State, Watch};
 pub use log::{Cut, Log, Settings};
 pub use observation::{Counters, FollowUp, Format, Observation};
 pub use quality::ClockQuality;
@@ -36,6 +36,9 @@ pub const ROWS: usize = 4096;
 
 /// Most replies of a burst.
 pub const ENTRIES: usize = 256;
+
+/// Most records of a log, and numbers of each room of the second count.
+pub const RECORDS: usize = 682;
 
 /// The library's version: 1,000,000 times the first part, 1,000 times the second, and the third.
 pub fn version() -> u32 {

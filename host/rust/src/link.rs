@@ -4,7 +4,7 @@ use crate::{
     observation::Observation,
     refusal::{served, Refusal},
     shown::Figures,
-    ROWS,
+    RECORDS, ROWS,
 };
 
 /// What tells replies apart: the sender's and the reflector's number, and the reflector's timestamp.
@@ -256,6 +256,12 @@ impl Link {
 pub fn report_of_log(log: &[u8], secret: &[u32; 8], rooms: &mut Rooms, queue: &mut [Queued]) -> Result<String, Refusal> {
     let Rooms { keys, slots, probes, offsets, links } = rooms;
     text_of(|text, length| calls::report_log(log, secret, keys, slots, probes, offsets, links, queue, text, length))
+}
+
+/// The same report, counted a second time, straight from the records, as the program linkrecount prints it.
+pub fn recount_of_log(log: &[u8]) -> Result<String, Refusal> {
+    let (mut marks, mut fronts) = ([0; RECORDS], [0; RECORDS]);
+    text_of(|text, length| calls::recount_log(log, &mut marks, &mut fronts, text, length))
 }
 
 fn text_of(write: impl FnOnce(&mut [u8], &mut [u64; 1]) -> u8) -> Result<String, Refusal> {

@@ -5,8 +5,8 @@
 #![forbid(unsafe_code)]
 
 use ambrulicciu::{
-    calls, report_of_log, Accepted, ClockQuality, Counters, Estimate, FollowUp, Format, Key, Link, Log, Observation, Packet, Parts, Quantiles,
-    Refusal, Rooms, Settings, ROWS,
+    calls, recount_of_log, report_of_log, Accepted, ClockQuality, Counters, Estimate, FollowUp, Format, Key, Link, Log, Observation, Packet,
+    Parts, Quantiles, Refusal, Rooms, Settings, ROWS,
 };
 use std::{
     collections::{HashMap, VecDeque},
@@ -208,6 +208,7 @@ fn show(host: &Host, secret: &[u32; 8], file: Option<&String>) {
     }
     let log = host.log.bytes().expect("at most 682 records");
     let again = report_of_log(&log, secret, &mut Rooms::new(), &mut vec![calls::Queued::default(); ROWS]).expect("a good log");
+    assert_eq!(again, recount_of_log(&log).expect("a good log"), "the second count of the log");
     assert_eq!(again, report, "the report of the log must be the report of the link");
     if let Some(file) = file {
         fs::write(file, log).expect("the log written");
