@@ -1,6 +1,6 @@
 // The log and the report, which the original has not.
 use crate::table::Table;
-use ambrulicciu::{calls, calls::Queued, Accepted, Key, Link, Log, Observation, Packet, Rooms, Settings, ROWS};
+use ambrulicciu::{calls, calls::Queued, Accepted, Key, Link, Log, Observation, Packet, Rooms, Settings, RECORDS, ROWS};
 use std::hint::black_box;
 
 pub fn rows(table: &mut Table) {
@@ -31,6 +31,10 @@ pub fn rows(table: &mut Table) {
     let Rooms { keys, slots, probes, offsets, links } = &mut rooms;
     table.alone("`report_log`, 681 records", 5, || {
         calls::report_log(black_box(&log), &[1; 8], keys, slots, probes, offsets, links, &mut queue, black_box(&mut text), &mut length);
+    });
+    let (mut marks, mut fronts) = ([0; RECORDS], [0; RECORDS]);
+    table.alone("`recount_log`, 681 records", 1, || {
+        calls::recount_log(black_box(&log), &mut marks, &mut fronts, black_box(&mut text), &mut length);
     });
     table.alone("`report_link`", 2000, || {
         calls::report_link(black_box(&link.ledger), &[0; 12], 0, 681, 0, black_box(&mut text), &mut length);

@@ -1,4 +1,4 @@
-// The fuzzer's side: each input is a log, reported twice with other rooms and another secret.
+// The fuzzer's side: each input is a log, reported twice with other rooms and another secret, and counted a second time (document 02, Q-13).
 //
 // All memory that is lent ends at a page that cannot be touched, and all but the log and the text begin behind one: a word read or
 // written outside stops the run.
@@ -37,12 +37,18 @@ static uint8_t *pages(size_t size) {
 #define ROOMS 6
 static const size_t ROOM_SIZES[ROOMS] = {16 * CAPACITY, 24 * CAPACITY, 32 * CAPACITY, 4 * CAPACITY, 16 * CAPACITY, 24 * CAPACITY};
 static uint8_t *rooms[ROOMS];
+// The rooms of the second count, each at the end of its pages.
+#define MARKS AMBRULICCIU_RECORDS
+#define FRONTS (4 * AMBRULICCIU_RECORDS)
+static uint8_t *marks, *fronts;
 static uint8_t *text_page;
 static uint8_t *log_end;
 
 static void lend(void) {
     for (int i = 0; i < ROOMS; i++)
         rooms[i] = pages(ROOM_SIZES[i]);
+    marks = pages(MARKS) + PAGE - MARKS;
+    fronts = pages(FRONTS) + PAGE - FRONTS;
     text_page = pages(TEXT);
     log_end = pages(MOST_BYTES + PAGE) + MOST_BYTES + PAGE;
 }
@@ -131,6 +137,29 @@ static size_t run(const uint8_t *data, size_t size, uint64_t seed, int small, ui
     return answer;
 }
 
+// The second count of the same log: the same number, or the same text.
+static void recount(const uint8_t *data, size_t size, uint64_t seed, size_t first, const uint8_t *expected) {
+    static uint8_t before[MARKS + FRONTS];
+    uint8_t *log = log_end - size, *text = text_page + PAGE - TEXT;
+    memcpy(log, data, size);
+    for (size_t i = 0; i < MARKS + FRONTS; i++)
+        before[i] = (uint8_t)next(&seed);
+    memcpy(marks, before, MARKS);
+    memcpy(fronts, before + MARKS, FRONTS);
+    memset(text, 0x5a, TEXT);
+    uint64_t answer = ~seed;
+    uint8_t number = ambrulicciu_recount_log(log, size, marks, MARKS, (uint32_t *)fronts, MARKS, text, TEXT, &answer);
+    if (memcmp(log, data, size) != 0)
+        fail("the second count changed the log");
+    if (number != AMBRULICCIU_SERVED) {
+        if (first != TEXT + (size_t)number)
+            fail("the second count refused a log with another number");
+        if (answer != ~seed || memcmp(marks, before, MARKS) != 0 || memcmp(fronts, before + MARKS, FRONTS) != 0)
+            fail("the second count refused a log, and a room was changed");
+    } else if (first != answer || memcmp(text, expected, answer) != 0)
+        fail("the second count of a log has another text");
+}
+
 int LLVMFuzzerTestOneInput(const uint8_t *data, size_t size) {
     static uint8_t first[TEXT], second[TEXT];
     if (!text_page)
@@ -142,6 +171,7 @@ int LLVMFuzzerTestOneInput(const uint8_t *data, size_t size) {
     size_t other = run(data, size, ~seed, 1, second);
     if (one != other || (one <= TEXT && memcmp(first, second, one) != 0))
         fail("the report depends on the rooms or on the secret");
+    recount(data, size, seed, one, first);
     return 0;
 }
 

@@ -35,7 +35,7 @@ use random::Random;
 /// The seed of the fixed list that the repository keeps.
 const SAMPLE_SEED: u64 = 20_261_027;
 
-const USAGE: &str = "usage: compare play START SEED SECONDS PART..   compare sample CRATES PART..   compare round CRATES SEED PART..   compare reach SEED PART..   compare logs START SEED SECONDS LEAST   compare shipped START FOLDER   compare files START FOLDER   compare host_logs SEED SECONDS   compare trim START FOLDER SEED one|all   compare bursts SEED LINKS   compare conversions SEED COUNT   compare report|list|host|yard < LOG   compare parts";
+const USAGE: &str = "usage: compare play START SEED SECONDS PART..   compare sample CRATES PART..   compare round CRATES SEED PART..   compare reach SEED PART..   compare logs START SEED SECONDS LEAST   compare shipped START FOLDER   compare files START FOLDER   compare host_logs SEED SECONDS   compare trim START FOLDER SEED one|all   compare recount START FOLDER SEED one|all   compare bursts SEED LINKS   compare conversions SEED COUNT   compare report|list|host|yard < LOG   compare parts";
 
 fn main() {
     let args: Vec<String> = env::args().collect();
@@ -103,6 +103,13 @@ fn main() {
         Some("bursts") if args.len() == 4 => {
             let number = |i: usize| args[i].parse().expect(USAGE);
             if !parts::ledger::bursts::play(number(2), number(3)) {
+                exit(1);
+            }
+        }
+        #[cfg(feature = "host")]
+        Some("recount") if args.len() == 6 => {
+            let seed = args[4].parse().expect(USAGE);
+            if !parts::logs::recount::play(&args[2], &args[3], seed, args[5] == "all") {
                 exit(1);
             }
         }

@@ -10,7 +10,8 @@ use super::{
 };
 use crate::{cover::Cover, random::Random};
 use ambrulicciu::{
-    calls, report_of_log, Counters, FollowUp, Format, Key, Link, Log, Observation, Packet, Rooms,
+    calls, recount_of_log, report_of_log, Counters, FollowUp, Format, Key, Link, Log, Observation,
+    Packet, Rooms,
 };
 use std::time::{Duration, Instant};
 
@@ -98,7 +99,9 @@ impl Held {
             Err(refused) => Err(number(*refused)),
         };
         let shown = report_of_log(bytes, &SECRET, rooms, queue);
-        same("report_log", expected, shown.map_err(|r| r as u8))?;
+        same("report_log", expected.clone(), shown.map_err(|r| r as u8))?;
+        let again = recount_of_log(bytes);
+        same("recount_log", expected, again.map_err(|r| r as u8))?;
         if let Ok((settings, records)) = read {
             written(settings, &records)?;
             played(settings, &records, &text)?;

@@ -8,6 +8,8 @@ pub mod hosted;
 mod kinds;
 mod original;
 mod record;
+#[cfg(feature = "host")]
+pub mod recount;
 mod shipped;
 #[cfg(feature = "host")]
 pub mod trim;
