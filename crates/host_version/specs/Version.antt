@@ -11,7 +11,7 @@ pub record Left : Type 0 where
 abbrev pub left : ℕ → List ℕ → Left
 left number answer = record { number = number; answer = answer }
 
--- 1,000,000 times the first part, 1,000 times the second, and the third: 0.1.0
+-- 1,000,000 times the first part, 1,000 times the second, and the third: 0.2.0
 abbrev pub VERSION : ℕ
 VERSION = 2000
 

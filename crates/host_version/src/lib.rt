@@ -2,7 +2,7 @@
 ghost use mathlib.Core.Path.{_≡_};
 ghost use Rattle.host_version.specs.Version.{left, versionLeaves};
 
-// 1,000,000 times the first part, 1,000 times the second, and the third: this is 0.1.0.
+// 1,000,000 times the first part, 1,000 times the second, and the third: this is 0.2.0.
 pub const VERSION: u32 = 2000;
 
 #[no_mangle]
