@@ -41,9 +41,9 @@
  *       ambrulicciu_link_fresh(&yard, 1, secret, 3, 2000000000u);            copies 1, failed at 3 losses, timeout 2 s
  *       ambrulicciu_link_sent(&yard, sequence, ordinal, train, now, tag);    after each probe; train 0: none
  *       ambrulicciu_link_accept(&yard, sender, reflector, t3, &packet, &accepted);
- *       ambrulicciu_link_accept_burst(&yard, entries, count, answers);       or up to 256 replies at once: the last unique one is observed
  *       if (accepted.class_ == AMBRULICCIU_UNIQUE)                           each unique reply is observed once
  *           ambrulicciu_link_observe(&yard, &observation);
+ *       ambrulicciu_link_accept_burst(&yard, entries, count, answers);       or up to 256 replies at once; only the last unique one is observed
  *       ambrulicciu_link_advance(&yard, now);                                on a timer: probes past their deadline are losses
  *       ambrulicciu_link_snapshot(&yard, &figures);                          at any time
  */
