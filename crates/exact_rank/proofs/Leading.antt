@@ -7,7 +7,7 @@ use native.Mathlib.Omega.{arith}
 use lib.ListN.{getD}
 use Rattle.sample_passes.specs.Passes.{capped, edge, sumTo, Placed}
 use Rattle.exact_rank.specs.Searches.{Leads, Led}
-use Rattle.exact_rank.specs.declared.Search.{Search}
+use Rattle.sample_place.specs.declared.Search.{Search}
 use Rattle.sample_passes.proofs.DigitCounts.{next-digit, sum-more, sum-grows}
 
 module _ (counts : List ℕ) (low high shift : ℕ) (s : Search) (leads : Leads counts low high shift s) (digit left : ℕ)

@@ -10,8 +10,9 @@ use Rattle.sample_passes.specs.Keys.{shifted}
 use Rattle.sample_passes.specs.Passes.{Gathered}
 use Rattle.exact_rank.specs.Counting.{KeyOfRank}
 use Rattle.sample_passes.specs.Counting.{below}
-use Rattle.exact_rank.specs.Searches.{Inside, AllInside, Follows, SameKeys, EndedAt, lowerPart, upperPart, Partable, Parted, PartedWith, AllParted, Stepped}
-use Rattle.exact_rank.specs.declared.Search.{Search}
+use Rattle.exact_rank.specs.Searches.{Inside, AllInside, Follows, SameKeys, PartedWith, AllParted, Stepped}
+use Rattle.sample_place.specs.Places.{EndedAt, lowerPart, upperPart, Partable, Parted}
+use Rattle.sample_place.specs.declared.Search.{Search}
 use Rattle.exact_rank.specs.declared.Four.{Four}
 use Rattle.sample_passes.proofs.Counting.{lt-or-le, below-grows, below-none}
 use Rattle.exact_rank.proofs.Stepping.{follows-self, end-follows}

@@ -10,8 +10,9 @@ use lib.Pow.{pow-pos}
 use Rattle.exact_rank.specs.Counting.{KeyOfRank}
 use Rattle.sample_passes.specs.Counting.{below}
 use Rattle.sample_passes.specs.Passes.{Least, Most, capped, edge, Counted, sumTo}
-use Rattle.exact_rank.specs.Searches.{Inside, AllInside, Follows, AllFollow, SameKeys, EndedAt, Leads, Led, LedWith, EndedWith, LeadsAll, AllLed, AllEnded, Stepped}
-use Rattle.exact_rank.specs.declared.Search.{Search}
+use Rattle.exact_rank.specs.Searches.{Inside, AllInside, Follows, AllFollow, SameKeys, Leads, Led, LedWith, EndedWith, LeadsAll, AllLed, AllEnded, Stepped}
+use Rattle.sample_place.specs.Places.{EndedAt}
+use Rattle.sample_place.specs.declared.Search.{Search}
 use Rattle.exact_rank.specs.declared.Four.{Four}
 use Rattle.sample_passes.proofs.Counting.{lt-or-le}
 use Rattle.sample_passes.proofs.DigitCounts.{next-digit, sum-more, sum-counted, sum-all}

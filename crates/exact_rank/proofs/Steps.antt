@@ -11,7 +11,7 @@ use Rattle.exact_rank.specs.Counting.{KeyOfRank}
 use Rattle.sample_passes.specs.Counting.{below}
 use Rattle.sample_passes.specs.Passes.{Least, Most, Counted}
 use Rattle.exact_rank.specs.Searches.{Inside, AllInside, Follows, AllFollow, SameKeys, Leads, Led, LedWith, LeadsAll, AllLed, AllEnded, Stepped, AllAtEnd, whole, turnedOnce}
-use Rattle.exact_rank.specs.declared.Search.{Search}
+use Rattle.sample_place.specs.declared.Search.{Search}
 use Rattle.exact_rank.specs.declared.Four.{Four}
 use Rattle.sample_passes.proofs.Counting.{below-none, below-whole}
 use Rattle.exact_rank.proofs.Stepping.{follows-self, follows-on, end-follows, ended-follows, leads-from, led-follows, led-narrower}

@@ -6,7 +6,8 @@ use Prim.Native.Nat.{ℕ, _+_, _-_, _*_, _^_, _≤_, _<_}
 use lib.ListN.{getD}
 use Rattle.sample_passes.specs.Counting.{below}
 use Rattle.sample_passes.specs.Passes.{edge, sumTo}
-use Rattle.exact_rank.specs.declared.Search.{Search}
+use Rattle.sample_place.specs.declared.Search.{Search}
+use Rattle.sample_place.specs.Places.{EndedAt, Parted}
 use Rattle.exact_rank.specs.declared.Four.{Four}
 
 -- the key of the search's rank is one of low to high; while these differ, the two counts are those of the keys below low and through high
@@ -41,12 +42,6 @@ pub record AllFollow (key : ℕ → ℕ) (xs : List ℕ) (f g : Four) : Type 0 w
 abbrev pub SameKeys : Search → Search → Type 0
 SameKeys s t = (s .low ≡ t .low) × (s .high ≡ t .high)
 
--- t is s ended at a key
-pub record EndedAt (value : ℕ) (s t : Search) : Type 0 where
-  pub low : t .low ≡ value
-  pub high : t .high ≡ value
-  pub rank : t .rank ≡ s .rank
-
 -- what the counts of the digits from low to high must be for the search s to be led to one of them
 pub record Leads (counts : List ℕ) (low high shift : ℕ) (s : Search) : Type 0 where
   pub started : s .before ≤ s .rank
@@ -73,24 +68,6 @@ LedWith counts low high shift node s t = (SameKeys s node × Led counts low high
 -- t is s ended at a key where it is for the node's rank among the node's keys, else s
 abbrev pub EndedWith : ℕ → Search → Search → Search → Type 0
 EndedWith value node s t = (SameKeys s node × (s .rank ≡ node .rank) × EndedAt value s t) ⊎ (t ≡ s)
-
--- s in the keys below a value that `under` keys are below
-abbrev pub lowerPart : ℕ → ℕ → Search → Search
-lowerPart value under s = record { low = s .low; high = value - 1; rank = s .rank; before = s .before; through = under }
-
--- s in the keys above a value that `reach` keys are at most
-abbrev pub upperPart : ℕ → ℕ → Search → Search
-upperPart value reach s = record { low = value + 1; high = s .high; rank = s .rank; before = reach; through = s .through }
-
--- a key lies below the value, or above it, wherever s is to go there
-abbrev pub Partable : ℕ → ℕ → ℕ → Search → Type 0
-Partable value under reach s = (s .rank < under → 0 < value) × (reach ≤ s .rank → value < 2 ^ 64 - 1)
-
--- t is s parted at a value: in the keys below it, ended at it, or in the keys above it
-abbrev pub Parted : ℕ → ℕ → ℕ → Search → Search → Type 0
-Parted value under reach s t =
-    ((s .rank < under) × (t ≡ lowerPart value under s))
-    ⊎ (((under ≤ s .rank) × (s .rank < reach) × EndedAt value s t) ⊎ ((reach ≤ s .rank) × (t ≡ upperPart value reach s)))
 
 -- t is s parted where it is among the node's keys, else s
 abbrev pub PartedWith : ℕ → ℕ → ℕ → Search → Search → Search → Type 0

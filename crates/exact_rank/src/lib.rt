@@ -8,18 +8,16 @@ ghost use Prim.Native.Nat.{ℕ, _+_, _-_, _*_, _^_, _<_, _≤_};
 ghost use lib.ListN.{length, take};
 ghost use Rattle.exact_rank.specs.Rank.{unsigned, signed, atRanks, Ranks, standingAt, backRanks};
 ghost use Rattle.sample_passes.specs.Keys.{shifted};
-ghost use Rattle.sample_passes.specs.Passes.{capped, sumTo, Placed};
+ghost use Rattle.sample_passes.specs.Passes.{capped};
+ghost use Rattle.sample_place.specs.Places.{Partable};
 ghost use Rattle.exact_rank.specs.Searches.{
   AllInside,
   AllFollow,
   SameKeys,
-  EndedAt,
   Leads,
   Led,
   LedWith,
   EndedWith,
-  Partable,
-  Parted,
   PartedWith,
   AllParted,
   LeadsAll,
@@ -30,22 +28,13 @@ ghost use Rattle.exact_rank.specs.Searches.{
   whole,
   turnedOnce,
 };
+use sample_place::Search;
 
 // What is added to a signed sample, so that its key is in unsigned order.
 const SIGNED: u64 = 9223372036854775808;
 
 // A range with no more keys than these is gathered; one with more is parted or divided.
 const FEW: u64 = 256;
-
-// A search for the sample of a rank, counted from 0. Its key is one of low to high. While these differ, `before` samples have
-// a key below low, and `through` have one of at most high.
-struct Search {
-    low: u64,
-    high: u64,
-    rank: u64,
-    before: u64,
-    through: u64,
-}
 
 // Four searches at once.
 struct Four {
@@ -55,36 +44,12 @@ struct Four {
     fourth: Search,
 }
 
-// The digit that holds a rank, and the rank within it.
-struct Place {
-    digit: usize,
-    left: u64,
-}
-
 // How far keys of a range are shifted, so that 256 digits hold them: the bit length of the range, less 8, not below 0.
 fn shift_of(span: u64) -> u32
     ensures { λ r. ⌜ (r < 64) × (span < 256 * 2 ^ r) × ((r ≡ 0) ⊎ (2 ^ r ≤ span)) ⌝ }
 {
     let length = 64 - u64::leading_zeros(span);
     if length < 8 { 0 } else { length - 8 }
-}
-
-// The digit of a rank among the counts.
-fn place_of(counts: &[u64; 256], rank: u64) -> Place
-    requires { ⌜ rank < sumTo (now counts) 256 ⌝ }
-    ensures { λ r. ⌜ Placed (now (counts .entry)) rank (r .digit) (r .left) ⌝ }
-{
-    let mut left = rank;
-    let mut digit: usize = 0;
-    while digit < 255 {
-        let n = counts[digit];
-        if left < n {
-            return Place { digit, left };
-        }
-        left -= n;
-        digit += 1;
-    }
-    Place { digit, left }
 }
 
 // The lowest key of a digit.
@@ -113,7 +78,7 @@ fn led(counts: &[u64; 256], low: u64, high: u64, shift: u32, search: Search) -> 
     requires { ⌜ (shift < 64) × Leads (now counts) low high shift search ⌝ }
     ensures { λ r. ⌜ Led (now (counts .entry)) low high shift search r ⌝ }
 {
-    let place = place_of(counts, search.rank - search.before);
+    let place = sample_place::place_of(counts, search.rank - search.before);
     let digit = place.digit;
     let start = start_of(low, digit, shift);
     let before = search.rank - place.left;
@@ -160,19 +125,6 @@ fn all_led(counts: &[u64; 256], low: u64, high: u64, shift: u32, four: Four) -> 
     }
 }
 
-// The search, ended at a key.
-fn ended(value: u64, search: Search) -> Search
-    ensures { λ r. ⌜ EndedAt value search r ⌝ }
-{
-    Search {
-        low: value,
-        high: value,
-        rank: search.rank,
-        before: 0,
-        through: 0,
-    }
-}
-
 // The search, ended with the node where it is for the node's rank among the node's keys.
 fn ended_with(value: u64, node: Search, search: Search) -> Search
     ensures { λ r. ⌜ EndedWith value node search r ⌝ }
@@ -180,7 +132,7 @@ fn ended_with(value: u64, node: Search, search: Search) -> Search
     if search.low == node.low {
         if search.high == node.high {
             if search.rank == node.rank {
-                return ended(value, search);
+                return sample_place::ended(value, search);
             }
         }
     }
@@ -193,7 +145,7 @@ fn all_ended(value: u64, four: Four) -> Four
 {
     let node = four.first;
     Four {
-        first: ended(value, node),
+        first: sample_place::ended(value, node),
         second: ended_with(value, node, four.second),
         third: ended_with(value, node, four.third),
         fourth: ended_with(value, node, four.fourth),
@@ -214,32 +166,6 @@ fn divided(samples: &[u64], count: usize, bias: u64, four: Four) -> Four
     all_led(&counts, low, high, shift, four)
 }
 
-// The search, parted at a value.
-fn part(value: u64, under: u64, reach: u64, search: Search) -> Search
-    requires { ⌜ Partable value under reach search ⌝ }
-    ensures { λ r. ⌜ Parted value under reach search r ⌝ }
-{
-    if search.rank < under {
-        return Search {
-            low: search.low,
-            high: value - 1,
-            rank: search.rank,
-            before: search.before,
-            through: under,
-        };
-    }
-    if search.rank < reach {
-        return ended(value, search);
-    }
-    Search {
-        low: value + 1,
-        high: search.high,
-        rank: search.rank,
-        before: reach,
-        through: search.through,
-    }
-}
-
 // The search, parted with the node where it is among the node's keys.
 fn part_with(value: u64, under: u64, reach: u64, node: Search, search: Search) -> Search
     requires { ⌜ Partable value under reach search ⌝ }
@@ -247,7 +173,7 @@ fn part_with(value: u64, under: u64, reach: u64, node: Search, search: Search) -
 {
     if search.low == node.low {
         if search.high == node.high {
-            return part(value, under, reach, search);
+            return sample_place::part(value, under, reach, search);
         }
     }
     search
@@ -261,7 +187,7 @@ fn all_parted(value: u64, under: u64, reach: u64, four: Four) -> Four
 {
     let node = four.first;
     Four {
-        first: part(value, under, reach, node),
+        first: sample_place::part(value, under, reach, node),
         second: part_with(value, under, reach, node, four.second),
         third: part_with(value, under, reach, node, four.third),
         fourth: part_with(value, under, reach, node, four.fourth),
@@ -462,24 +388,16 @@ fn read_four(samples: &[u64], ranks: [u64; 4]) -> [u64; 4]
     ]
 }
 
-// The rank as counted from the last of `count` samples.
-fn back_rank(count: usize, rank: u64) -> u64
-    requires { ⌜ rank < count ⌝ }
-    ensures { λ r. ⌜ r ≡ count - 1 - rank ⌝ }
-{
-    count as u64 - 1 - rank
-}
-
 // Four ranks as counted from the last of `count` samples.
 fn back_ranks(count: usize, ranks: [u64; 4]) -> [u64; 4]
     requires { ⌜ Ranks ranks count ⌝ }
     ensures { λ r. ⌜ r ≡ backRanks count ranks ⌝ }
 {
     [
-        back_rank(count, ranks[0]),
-        back_rank(count, ranks[1]),
-        back_rank(count, ranks[2]),
-        back_rank(count, ranks[3]),
+        sample_place::back_rank(count, ranks[0]),
+        sample_place::back_rank(count, ranks[1]),
+        sample_place::back_rank(count, ranks[2]),
+        sample_place::back_rank(count, ranks[3]),
     ]
 }
 

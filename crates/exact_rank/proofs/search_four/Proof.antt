@@ -7,7 +7,7 @@ use lib.ListN.{getD, take}
 use borrow.Author.Needs.{needs}
 use Rattle.exact_rank.specs.Rank.{atRank, atRanks}
 use Rattle.sample_passes.specs.Keys.{shifted}
-use Rattle.exact_rank.specs.declared.Search.{Search}
+use Rattle.sample_place.specs.declared.Search.{Search}
 use Rattle.exact_rank.proofs.Samples.{counted-is-sample}
 use Rattle.exact_rank.proofs.Steps.{whole-inside, end-key}
 use Rattle.exact_rank.proofs.Results.{four-results}

@@ -1,4 +1,4 @@
--- `exact_rank::place_of` meets its contract: the loop's invariant: the counts passed and what is left make the rank.
+-- `sample_place::place_of` meets its contract: the loop's invariant: the counts passed and what is left make the rank.
 -- Assumes nothing.
 use Prim.Native.Nat.{_≤_, _<_, _-_, _+_}
 use mathlib.Core.Path.{_≡_}
@@ -6,8 +6,8 @@ use native.Mathlib.Omega.{arith}
 use borrow.Author.Needs.{needs}
 use Rattle.sample_passes.specs.Passes.{sumTo}
 use Rattle.sample_passes.proofs.DigitCounts.{sum-more}
-use Rattle.exact_rank.proofs.place_of.Statement.{statement}
-use Rattle.exact_rank.proofs.place_of.Tie as tie
+use Rattle.sample_place.proofs.place_of.Statement.{statement}
+use Rattle.sample_place.proofs.place_of.Tie as tie
 
 abbrev Inv-loop : tie.InvT-loop
 Inv-loop counts rank left₀ digit₀ left digit = (digit ≤ 255) × (rank < sumTo counts 256) × (sumTo counts digit + left ≡ rank)

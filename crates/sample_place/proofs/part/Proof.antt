@@ -1,12 +1,12 @@
--- `exact_rank::part` meets its contract: by where the rank is.
+-- `sample_place::part` meets its contract: by where the rank is.
 -- Assumes nothing.
 use Prim.Native.Nat.{_-_, _+_}
 use mathlib.Core.Path.{refl}
 use mathlib.Core.Logic.{inl, inr}
 use native.Mathlib.Omega.{arith}
 use borrow.Author.Needs.{needs}
-use Rattle.exact_rank.proofs.part.Statement.{statement}
-use Rattle.exact_rank.proofs.part.Tie as tie
+use Rattle.sample_place.proofs.part.Statement.{statement}
+use Rattle.sample_place.proofs.part.Tie as tie
 
 sub-t6 : tie.Need-sub-t6
 sub-t6 c = omega (arith, c .before .before .pre .0 (c .if1 .taken))
