@@ -21,7 +21,8 @@ use Rattle.recount_window.specs.declared.Reach.{Reach}
 use Rattle.recount_window.specs.Reach.{reachOf}
 use Rattle.recount_window.specs.Window.{clears, clearsAt, clearsBy, pointsFrom, startOf, windowIn}
 use Rattle.recount_window.proofs.Runs.{window-is-a-run}
-use Rattle.recount_direct.specs.Classes.{directNumber, withoutAnchor, fromAnchor, countersClass, classIn, clearsNumber, startNext, numberTest, classTest, directIn, directBy}
+use Rattle.recount_direct.specs.Classes.{directNumber, withoutAnchor, fromAnchor, countersClass, classIn, classTest, directIn, directBy}
+use Rattle.recount_class.specs.Numbers.{clearsNumber, startNext, numberTest}
 
 -- ---- the class on a window
 

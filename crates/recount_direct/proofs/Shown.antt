@@ -20,7 +20,8 @@ use Rattle.recount_seen.specs.Seen.{eventsOf}
 use Rattle.recount_observed.specs.Observed.{observationAt}
 use Rattle.recount_window.specs.Window.{pointsFrom, startOf}
 use Rattle.recount_window.proofs.Runs.{start-most, window-is-a-run}
-use Rattle.recount_direct.specs.Missing.{valueOf, noMissing, missingOf, missingBy}
+use Rattle.recount_direct.specs.Missing.{valueOf, missingOf}
+use Rattle.recount_class.specs.Reached.{noMissing, missingBy}
 
 -- the highest offset less the seen ones above 0 is how many of 1 to the highest are missing
 module _ (a : CounterPoint) (w : List CounterPoint) (clean : Distinct (seen a w)) where

@@ -1,8 +1,8 @@
 -- The class of a record's counters as a number, and the tests of it. Assumes nothing.
-use mathlib.Core.Bool.{Bool, false, not, _&&_, _||_, cond}
+use mathlib.Core.Bool.{Bool, false, _&&_, cond}
 use mathlib.Core.List.{List}
 use mathlib.Core.Option.{Option, none, some}
-use Prim.Native.Nat.{ℕ, _+_}
+use Prim.Native.Nat.{ℕ}
 use lib.Dec.{eqb, ltb}
 use lib.ListN.{length}
 use Rattle.scope.specs.Limits.{capacity}
@@ -46,23 +46,7 @@ abbrev pub classIn : Observation → List CounterPoint → ℕ
 classIn Absent w = 8
 classIn (Made o) w = countersClass (ordinalOf (o .ordinal)) (countersOf (o .counters)) w
 
--- the window is empty after it
-abbrev pub clearsNumber : ℕ → Bool
-clearsNumber class = (eqb class 1 || eqb class 3) || eqb class 4 || eqb class 5
-
--- where the window starts after record j, which has this class
-abbrev pub startNext : (class start j : ℕ) → ℕ
-startNext class start j = cond (clearsNumber class) (j + 1) start
-
--- 0 an observation, 1 unavailable, 2 a discontinuity, 3 reordered
-abbrev pub numberTest : (kind class : ℕ) → Bool
-numberTest kind class =
-    cond (eqb kind 0) (not (eqb class 0) && not (eqb class 8))
-    (cond (eqb kind 1) ((eqb class 0 || eqb class 1) || eqb class 4)
-    (cond (eqb kind 2) (eqb class 3 || eqb class 4)
-    (cond (eqb kind 3) (eqb class 6) false)))
-
--- the same of a class of crate history
+-- what is counted of a class of crate history: 0 an observation, 1 unavailable, 2 a discontinuity, 3 reordered
 abbrev pub classTest : (kind : ℕ) → DirectClass → Bool
 classTest kind x =
     cond (eqb kind 0) (isObservation x) (cond (eqb kind 1) (isUnavailable x) (cond (eqb kind 2) (isDiscontinuity x) (cond (eqb kind 3) (isBelow x) false)))

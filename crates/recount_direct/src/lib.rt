@@ -11,13 +11,12 @@ ghost use Rattle.recount_seen.specs.Seen.{eventsOf};
 ghost use Rattle.recount_observed.specs.Observed.{observationAt};
 ghost use Rattle.recount_window.specs.Window.{pointsFrom, startOf};
 ghost use Rattle.recount_counts.specs.Tests.{passing};
-ghost use Rattle.recount_direct.specs.Classes.{directNumber, withoutAnchor, fromAnchor, countersClass, classIn, clearsNumber, startNext, numberTest, directBy};
-ghost use Rattle.recount_direct.specs.Missing.{missingBy, missingOf};
+ghost use Rattle.recount_direct.specs.Classes.{directNumber, withoutAnchor, fromAnchor, countersClass, classIn, directBy};
+ghost use Rattle.recount_direct.specs.Missing.{missingOf};
 use calls::CounterPoint;
 use calls::Counters;
 use calls::Ordinal;
 use recount_observed::Observation;
-use recount_window::Reach;
 use report::figures::Missing;
 use report::figures::Value;
 
@@ -124,23 +123,6 @@ fn class_at(log: &[u8], marks: &[u8], start: u32, j: u32) -> u8
 
 // ---- where the window starts
 
-fn clears(class: u8) -> bool
-    ensures { λ r. ⌜ r ≡ clearsNumber class ⌝ }
-{
-    (class == 1) | (class == 3) | (class == 4) | (class == 5)
-}
-
-// Past record j where its class clears the window: what clears does not become the anchor.
-fn start_next(class: u8, start: u32, j: u32) -> u32
-    requires { ⌜ j < 65536 ⌝ }
-    ensures { λ r. ⌜ r ≡ startNext class start j ⌝ }
-{
-    if clears(class) {
-        return j + 1;
-    }
-    start
-}
-
 fn start_of(log: &[u8], marks: &[u8], n: u32) -> u32
     requires { ⌜ (n ≤ length (now marks)) × (n < 65536) ⌝ }
     ensures { λ r. ⌜ r ≡ startOf (observationAt (now (log .entry)) (now (marks .entry))) capacity n ⌝ }
@@ -149,31 +131,13 @@ fn start_of(log: &[u8], marks: &[u8], n: u32) -> u32
     let mut j: u32 = 0;
     while j < n {
         let class = class_at(log, marks, start, j);
-        start = start_next(class, start, j);
+        start = recount_class::start_next(class, start, j);
         j += 1;
     }
     start
 }
 
 // ---- the counts
-
-fn passes(kind: u8, class: u8) -> bool
-    ensures { λ r. ⌜ r ≡ numberTest kind class ⌝ }
-{
-    if kind == 0 {
-        return (class != 0) & (class != 8);
-    }
-    if kind == 1 {
-        return (class == 0) | (class == 1) | (class == 4);
-    }
-    if kind == 2 {
-        return (class == 3) | (class == 4);
-    }
-    if kind == 3 {
-        return class == 6;
-    }
-    false
-}
 
 // How many of the first n records are: 0 observations, 1 unavailable, 2 discontinuities, 3 reordered.
 pub fn count(kind: u8, log: &[u8], marks: &[u8], n: u32) -> u32
@@ -185,37 +149,14 @@ pub fn count(kind: u8, log: &[u8], marks: &[u8], n: u32) -> u32
     let mut j: u32 = 0;
     while j < n {
         let class = class_at(log, marks, start, j);
-        total = recount_back::one_if(passes(kind, class), total);
-        start = start_next(class, start, j);
+        total = recount_back::one_if(recount_class::passes(kind, class), total);
+        start = recount_class::start_next(class, start, j);
         j += 1;
     }
     total
 }
 
 // ---- what is missing
-
-fn missing_by(r: Reach) -> Missing
-    requires { ⌜ r .above ≤ r .highest ⌝ }
-    ensures { λ m. ⌜ m ≡ missingBy r ⌝ }
-{
-    if r.points < 2 {
-        return Missing {
-            forward: Value::Absent,
-            reverse: Value::Absent,
-        };
-    }
-    let reverse = Value::Number((r.highest - r.above) as u64);
-    if r.received <= r.sender {
-        return Missing {
-            forward: Value::Number((r.sender - r.received) as u64),
-            reverse,
-        };
-    }
-    Missing {
-        forward: Value::Absent,
-        reverse,
-    }
-}
 
 // Of the window that the first n records leave.
 pub fn missing(log: &[u8], marks: &[u8], n: u32) -> Missing
@@ -231,7 +172,7 @@ pub fn missing(log: &[u8], marks: &[u8], n: u32) -> Missing
         },
         Counters::Point(a) => {
             let r = recount_window::reach_of(log, marks, start, n, a);
-            missing_by(r)
+            recount_class::missing_by(r)
         }
     }
 }

@@ -1,8 +1,8 @@
--- `recount_direct::missing_by` meets its contract. Assumes nothing.
+-- `recount_class::missing_by` meets its contract. Assumes nothing.
 use borrow.Author.Tests.{lt-ltb, le-ltb, le-leb, lt-leb}
 use borrow.Author.Needs.{needs}
-use Rattle.recount_direct.proofs.missing_by.Statement.{statement}
-use Rattle.recount_direct.proofs.missing_by.Tie as tie
+use Rattle.recount_class.proofs.missing_by.Statement.{statement}
+use Rattle.recount_class.proofs.missing_by.Tie as tie
 
 returns : tie.Need-returns
 returns c = rw (lt-ltb _ _ (c .if1 .taken))

@@ -1,8 +1,8 @@
--- `recount_direct::start_next` meets its contract. Assumes nothing.
+-- `recount_class::start_next` meets its contract. Assumes nothing.
 use mathlib.Core.Path.{sym, _∙_}
 use borrow.Author.Needs.{needs}
-use Rattle.recount_direct.proofs.start_next.Statement.{statement}
-use Rattle.recount_direct.proofs.start_next.Tie as tie
+use Rattle.recount_class.proofs.start_next.Statement.{statement}
+use Rattle.recount_class.proofs.start_next.Tie as tie
 
 clears-requires : tie.Need-clears-requires
 clears-requires c κs = search needs

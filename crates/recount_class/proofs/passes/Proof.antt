@@ -1,7 +1,7 @@
--- `recount_direct::passes` meets its contract. Assumes nothing.
+-- `recount_class::passes` meets its contract. Assumes nothing.
 use borrow.Author.Tests.{eq-eqb, ne-eqb}
-use Rattle.recount_direct.proofs.passes.Statement.{statement}
-use Rattle.recount_direct.proofs.passes.Tie as tie
+use Rattle.recount_class.proofs.passes.Statement.{statement}
+use Rattle.recount_class.proofs.passes.Tie as tie
 
 returns : tie.Need-returns
 returns c = simp (eq-eqb _ _ (c .if1 .taken))
