@@ -18,9 +18,10 @@ use Rattle.ledger_steps.specs.Rooms.{Rooms}
 use Rattle.link_log.specs.declared.Settings.{Settings}
 use Rattle.link_log.specs.Logs.{logOf}
 use Rattle.link_tally.specs.Tally.{Tallied}
-use Rattle.link_report.specs.declared.Checked.{Checked}
-use Rattle.link_report.specs.declared.Checked.the-variants.{Refused, Good}
-use Rattle.link_report.specs.LogReport.{endOf, checkedBy, reportBy, fits, reportOfLog}
+use Rattle.link_settings.specs.declared.Checked.{Checked}
+use Rattle.link_settings.specs.declared.Checked.the-variants.{Refused, Good}
+use Rattle.link_report.specs.LogReport.{endOf, reportBy, fits, reportOfLog}
+use Rattle.link_settings.specs.Checks.{checkedBy}
 use Rattle.host_report_log.specs.LogTold.{Left, leftBy, reportLogTo}
 use Rattle.host_report_log.proofs.ambrulicciu_report_log as report-log
 

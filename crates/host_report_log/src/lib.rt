@@ -20,7 +20,10 @@ pub extern "C" fn ambrulicciu_report_log(
     text: &mut [u8],
     length: &mut [u64; 1],
 ) -> u8
-    ensures { λ r. ⌜ left (told r (now (text .exit)) (now (length .exit))) (now (queue .exit)) (roomsOf (now (keys .exit)) (now (slots .exit)) (now (probes .exit)) (now (offsets .exit)) (now (links .exit))) ≡ reportLogTo (now (log .entry)) (now (secret .entry)) (now (queue .entry)) (roomsOf (now (keys .entry)) (now (slots .entry)) (now (probes .entry)) (now (offsets .entry)) (now (links .entry))) (now (text .entry)) (now (length .entry)) ⌝ }
+    ensures { λ r. ⌜ (
+        let before = roomsOf (now (keys .entry)) (now (slots .entry)) (now (probes .entry)) (now (offsets .entry)) (now (links .entry)) in
+        let after = roomsOf (now (keys .exit)) (now (slots .exit)) (now (probes .exit)) (now (offsets .exit)) (now (links .exit)) in
+        left (told r (now (text .exit)) (now (length .exit))) (now (queue .exit)) after ≡ reportLogTo (now (log .entry)) (now (secret .entry)) (now (queue .entry)) before (now (text .entry)) (now (length .entry))) ⌝ }
 {
     let answer = link_report::report_log(
         log,

@@ -1,33 +1,22 @@
 -- From what each callee of a part leaves to the part. Assumes nothing.
-use mathlib.Core.Path.{_≡_, refl, sym, ap, _∙_}
-use mathlib.Core.Bool.{Bool, true, false}
+use mathlib.Core.Path.{_≡_, sym, ap, _∙_}
 use mathlib.Core.List.{List}
 use Prim.Native.Nat.{ℕ}
-use lib.Dec.{T, eqb, eqb→eq}
-use Rattle.scope.specs.Limits.{capacity}
 use Rattle.calls.specs.declared.Call.{Call}
 use Rattle.calls.specs.declared.Call.the-variants as call
 use Rattle.calls.specs.declared.SentProbe.{SentProbe}
 use Rattle.calls.specs.declared.Reply.{Reply}
 use Rattle.calls.specs.declared.ReplyObservation.{ReplyObservation}
-use Rattle.probe_queue.specs.Queue.{choose}
 use Rattle.ledger_state.specs.declared.Ledger.{Ledger}
 use Rattle.ledger_steps.specs.declared.Answer.{Answer}
 use Rattle.ledger_steps.specs.declared.AcceptAnswer.{AcceptAnswer}
 use Rattle.ledger_steps.specs.Calls.{sentResult, acceptResult, observeResult, sentTo, acceptTo, observeTo}
 use Rattle.ledger_steps.specs.Rooms.{Rooms}
-use Rattle.monitor.specs.declared.Answer.{Answer as MonitorAnswer}
-use Rattle.monitor.specs.declared.Answer.the-variants as answer
-use Rattle.monitor.specs.declared.Monitor.{Monitor}
-use Rattle.monitor.specs.Refusals.{refusalOf}
-use Rattle.monitor.specs.Operations.{idleOn}
-use Rattle.monitor.specs.Answers.{idleTo}
 use Rattle.link_log.specs.declared.Played.{Played as Read}
 use Rattle.link_log.specs.declared.Played.the-variants as read
 use Rattle.link_steps.specs.declared.Watch.{Watch}
-use Rattle.link_steps.specs.Steps.{idleBy}
 use Rattle.link_parts.specs.declared.Part.{Part}
-use Rattle.link_parts.specs.Parts.{roomsOf, otherOf, Parted, parted, sentPart, acceptPart, observePart, bySent, byAccept, byObserve, callPart, partOf, idledIf}
+use Rattle.link_parts.specs.Parts.{roomsOf, otherOf, Parted, parted, sentPart, acceptPart, observePart, bySent, byAccept, byObserve, callPart, partOf}
 
 -- the monitor's refusal of a call that is known
 pub other-at : (w : Watch) (room : ℕ) (r : Read) (c c′ : Call) (n : ℕ) → r ≡ read.Call c → c ≡ c′ → n ≡ otherOf w (read.Call c′) room → n ≡ otherOf w r room
@@ -59,27 +48,3 @@ part-call other l rooms r c x er e = e ∙ sym (ap (partOf other l rooms) er)
 
 pub part-none : (other : ℕ) (l : Ledger) (rooms : Rooms) (r : Read) (p q : Part) → r ≡ read.Nothing → p ≡ q → parted q rooms ≡ partOf other l rooms read.Nothing → parted p rooms ≡ partOf other l rooms r
 part-none other l rooms r p q er ep e = (λ j. parted (ep j) rooms) ∙ e ∙ sym (ap (partOf other l rooms) er)
-
--- the monitor that an answer leaves: a refusal leaves the one before
-abbrev pub monitorBy : Monitor → MonitorAnswer → Monitor
-monitorBy m (answer.Served next) = next
-monitorBy m (answer.Refused n) = m
-
-idle-by : (m : Monitor) (n : ℕ) (b : Bool) → monitorBy m (choose b (answer.Served (idleOn m)) (answer.Refused n)) ≡ idleBy b m
-idle-by m n true = refl
-idle-by m n false = refl
-
-idle-left : (m : Monitor) → monitorBy m (idleTo m) ≡ idleBy (eqb (refusalOf m capacity) 0) m
-unfolding idleTo
-idle-left m = idle-by m (refusalOf m capacity) (eqb (refusalOf m capacity) 0)
-
--- `idle`, and any other call
-pub idles : (kind : ℕ) (m : Monitor) (a : MonitorAnswer) → kind ≡ 5 → a ≡ idleTo m → monitorBy m a ≡ idledIf (eqb kind 5) m
-idles kind m a ek ea = ap (monitorBy m) ea ∙ idle-left m ∙ sym (ap (λ (n : ℕ). idledIf (eqb n 5) m) ek)
-
-stays-by : (b : Bool) (m : Monitor) → (T b → ⊥) → m ≡ idledIf b m
-stays-by true m h = absurd (h tt)
-stays-by false m h = refl
-
-pub stays : (kind : ℕ) (m : Monitor) → (kind ≡ 5 → ⊥) → m ≡ idledIf (eqb kind 5) m
-stays kind m h = stays-by (eqb kind 5) m (λ t. h (eqb→eq kind 5 t))

@@ -13,13 +13,12 @@ use Rattle.ledger_steps.specs.declared.AcceptAnswer.{AcceptAnswer}
 use Rattle.ledger_steps.specs.Rooms.{Rooms}
 use Rattle.ledger_steps.specs.Calls.{number, acceptNumber, SentResult, AcceptResult, ObserveResult, sentTo, acceptTo, observeTo}
 use Rattle.monitor.specs.declared.Monitor.{Monitor}
-use Rattle.monitor.specs.Refusals.{refusalOf}
 use Rattle.monitor.specs.Operations as monitor
 use Rattle.link_log.specs.declared.Played.{Played as Read}
 use Rattle.link_log.specs.declared.Played.the-variants as read
 use Rattle.link_steps.specs.declared.Watch.{Watch}
 use Rattle.link_steps.specs.declared.Watch.the-variants.{Absent, Present}
-use Rattle.link_steps.specs.Steps.{watchRefusesSent, watchRefuses, idleBy, wasServed, ledgerOf, wasUnique, ledgerOfAccept}
+use Rattle.link_steps.specs.Steps.{watchRefusesSent, watchRefuses, wasServed, ledgerOf, wasUnique, ledgerOfAccept}
 use Rattle.link_parts.specs.declared.Part.{Part}
 
 -- ---- the ledger's part
@@ -129,11 +128,6 @@ timeOf (read.Call (call.Accept a)) = 0
 timeOf (read.Call (call.Observe o)) = 0
 timeOf (read.Call (call.Advance t)) = t
 timeOf (read.Call call.Idle) = 0
-
--- `idle`, where it is one; a refused one leaves the monitor as it was
-abbrev pub idledIf : Bool → Monitor → Monitor
-idledIf true m = idleBy (eqb (refusalOf m capacity) 0) m
-idledIf false m = m
 
 -- the link's monitor afterwards, if it has one
 abbrev pub watchAfter : Watch → Monitor → Watch

@@ -3,7 +3,7 @@
 ghost use mathlib.Core.Path.{_≡_};
 ghost use lib.Dec.{eqb};
 ghost use Rattle.link_steps.specs.Steps.{isUnique, watchRefuses, watchRefusesSent};
-ghost use Rattle.link_parts.specs.Parts.{roomsOf, otherOf, partWith, sentPart, observePart, acceptPart, parted, callPart, partOf, monitorOf, isWatched, kindOf, goesOn, sequenceOf, timeOf, idledIf, watchAfter};
+ghost use Rattle.link_parts.specs.Parts.{roomsOf, otherOf, partWith, sentPart, observePart, acceptPart, parted, callPart, partOf, monitorOf, isWatched, kindOf, goesOn, sequenceOf, timeOf, watchAfter};
 use calls::Call;
 use calls::SentProbe;
 use ledger_state::Ledger;
@@ -13,7 +13,6 @@ use ledger_steps::Answer;
 use link_log::Played as Read;
 use link_steps::Link;
 use link_steps::Watch;
-use monitor::Answer as MonitorAnswer;
 use monitor::Monitor;
 
 // The ledger after its part, the number of the refusal or 0, and whether the monitor's call goes on.
@@ -264,21 +263,6 @@ pub fn time_of(read: Read) -> u64
                 Call::Idle => 0,
             }
         }
-    }
-}
-
-// A refused `idle` leaves the monitor as it was.
-pub fn idled(monitor: Monitor, kind: u8) -> Monitor
-    ensures { λ r. ⌜ r ≡ idledIf (eqb kind 5) monitor ⌝ }
-{
-    if kind == 5 {
-        let answer = monitor.idle();
-        match answer {
-            MonitorAnswer::Served(next) => next,
-            MonitorAnswer::Refused(_) => monitor,
-        }
-    } else {
-        monitor
     }
 }
 

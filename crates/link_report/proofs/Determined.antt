@@ -24,9 +24,10 @@ use Rattle.link_tally.specs.Tally.{Tallied}
 use Rattle.report.specs.declared.Answer.{Answer}
 use Rattle.report.specs.declared.Answer.the-variants.{Written, Refused}
 use Rattle.report.specs.Report.{Outcome, outcome}
-use Rattle.link_report.specs.declared.Checked.{Checked}
-use Rattle.link_report.specs.declared.Checked.the-variants as checked
-use Rattle.link_report.specs.LogReport.{endOf, checkedBy, Reported, reported, reportBy, fits, reportOfLog}
+use Rattle.link_settings.specs.declared.Checked.{Checked}
+use Rattle.link_settings.specs.declared.Checked.the-variants as checked
+use Rattle.link_report.specs.LogReport.{endOf, Reported, reported, reportBy, fits, reportOfLog}
+use Rattle.link_settings.specs.Checks.{checkedBy}
 use Rattle.link_report.proofs.report_log as report-log
 use Rattle.link_report.proofs.report_log_alone as alone
 use Rattle.link_report.proofs.report_log_alone.Kinds as alone-kinds

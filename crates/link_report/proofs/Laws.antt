@@ -7,9 +7,7 @@ use lib.Dec.{eqb}
 use lib.ListN.{length}
 use Rattle.scope.specs.Limits.{capacity}
 use Rattle.probe_queue.specs.declared.Probe.{Probe}
-use Rattle.monitor.specs.Operations.{fresh}
 use Rattle.ledger_steps.specs.Rooms.{Rooms}
-use Rattle.link_steps.specs.declared.Watch.the-variants.{Present}
 use Rattle.link_steps.specs.declared.Link.{Link}
 use Rattle.link_log.specs.declared.Settings.{Settings}
 use Rattle.link_log.specs.declared.Log.{Log}
@@ -22,21 +20,11 @@ use Rattle.report.specs.declared.Answer.{Answer}
 use Rattle.report.specs.declared.Answer.the-variants as answer
 use Rattle.report.specs.Report.{Outcome, outcome, pickOutcome, written, wrong, reportOf, reportRoom}
 use Rattle.link_figures.specs.Figures.{figuresOf}
-use Rattle.link_report.specs.declared.Checked.{Checked}
-use Rattle.link_report.specs.declared.Checked.the-variants.{Refused, Good}
-use Rattle.link_report.specs.LogReport.{watchBy, linkBy, startBy, endOf, playedText, checkedOf, checkedBy, settingsBy, outcomeBy, Reported, reported, reportBy, fits, reportOfLog, emptyQueue}
-
--- a threshold that is not 0
-pub present : (n t : ℕ) → (n ≡ 0 → ⊥) → Present (fresh n t) ≡ watchBy n t
-present zero t h = absurd (h refl)
-present (suc n) t h = refl
-
--- rooms that fit, and rooms that do not
-pub by-log : (fit : Bool) (l : Log) (r : Checked) → fit ≡ true → r ≡ checkedOf l → r ≡ checkedBy fit l
-by-log fit l r y e = e ∙ sym (ap (λ (b : Bool). checkedBy b l) y)
-
-pub by-room : (fit : Bool) (l : Log) → fit ≡ false → Refused 5 ≡ checkedBy fit l
-by-room fit l n = sym (ap (λ (b : Bool). checkedBy b l) n)
+use Rattle.link_settings.specs.declared.Checked.{Checked}
+use Rattle.link_settings.specs.declared.Checked.the-variants.{Refused, Good}
+use Rattle.link_settings.specs.Checks.{checkedOf, checkedBy, settingsBy}
+use Rattle.link_settings.specs.Fresh.{watchBy, linkBy}
+use Rattle.link_report.specs.LogReport.{startBy, endOf, playedText, outcomeBy, Reported, reported, reportBy, fits, reportOfLog, emptyQueue}
 
 -- the answer by the check
 pub refused-outcome : (c : Checked) (n : ℕ) (link : Link) (turned : ℕ) (buffer : List ℕ) → c ≡ Refused n → outcome (answer.Refused n) buffer ≡ outcomeBy c link turned buffer

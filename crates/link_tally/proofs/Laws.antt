@@ -75,8 +75,3 @@ module _ (start : Link) (log : List ℕ) (count : ℕ) (keys₀ slots₀ probes�
 -- the count fits
 pub fits : (turned i count : ℕ) → turned ≤ i → i < count → count < 2 ^ 32 → turned < 2 ^ 63
 fits turned i count a b c = omega (arith, a, b, c)
-
--- a refusal's number is not 0
-pub one-more : (k n : ℕ) → (k ≡ 0 → ⊥) → n + 1 ≡ oneIf k n
-one-more zero n h = absurd (h refl)
-one-more (suc k) n h = refl

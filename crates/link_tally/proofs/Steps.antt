@@ -19,7 +19,8 @@ use Rattle.link_steps.specs.declared.Watch.{Watch}
 use Rattle.link_steps.specs.declared.Watch.the-variants.{Absent, Present}
 use Rattle.link_steps.specs.Steps.{Standing, after, refuses}
 use Rattle.link_parts.specs.declared.Part.{Part}
-use Rattle.link_parts.specs.Parts.{roomsOf, otherOf, Parted, parted, partOf, monitorOf, goesOn, kindOf, sequenceOf, timeOf, idledIf, watchAfter}
+use Rattle.link_parts.specs.Parts.{roomsOf, otherOf, Parted, parted, partOf, monitorOf, goesOn, kindOf, sequenceOf, timeOf, watchAfter}
+use Rattle.link_turn.specs.Turn.{idledIf}
 use Rattle.link_tally.specs.declared.Step.{Step}
 use Rattle.link_tally.specs.Tally.{standingOf, afterRead, refusesRead, Stepped}
 

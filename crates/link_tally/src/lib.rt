@@ -6,7 +6,8 @@ ghost use Prim.Native.Nat.{_^_, _<_};
 ghost use lib.Dec.{eqb};
 ghost use Rattle.link_log.specs.Logs.{callAt};
 ghost use Rattle.link_steps.specs.Steps.{oneIf};
-ghost use Rattle.link_parts.specs.Parts.{roomsOf, kindOf, idledIf, watchAfter};
+ghost use Rattle.link_parts.specs.Parts.{roomsOf, kindOf, watchAfter};
+ghost use Rattle.link_turn.specs.Turn.{idledIf};
 ghost use Rattle.link_tally.specs.Tally.{standingOf, tallyOf, tallied, Stepped};
 use link_log::Played as Read;
 use link_parts::Part;
@@ -30,10 +31,7 @@ fn step_of(link: Link, read: Read, part: Part, monitor: Monitor) -> Step
     ensures { λ r. ⌜ (r .link .ledger ≡ part .ledger) × (r .link .watch ≡ watchAfter (link .watch) (idledIf (eqb (kindOf read) 5) monitor)) × (r .refused ≡ part .refused) ⌝ }
 {
     let ledger = part.ledger;
-    let watch = link_parts::watch_after(
-        link,
-        link_parts::idled(monitor, link_parts::kind_of(read)),
-    );
+    let watch = link_parts::watch_after(link, link_turn::idled(monitor, link_parts::kind_of(read)));
     Step {
         link: Link { ledger, watch },
         refused: part.refused,
@@ -51,10 +49,7 @@ fn count_refused(step: Step, turned: u64) -> u64
     requires { ⌜ turned < 2 ^ 63 ⌝ }
     ensures { λ r. ⌜ r ≡ oneIf (step .refused) turned ⌝ }
 {
-    if step.refused == 0 {
-        return turned;
-    }
-    turned + 1
+    link_turn::turned_by(step.refused, turned)
 }
 
 fn tally_of(link: Link, turned: u64) -> Tally
@@ -78,7 +73,10 @@ pub fn play_record(
     links: &mut [[u16; 8]],
     queue: &mut [Probe],
 ) -> Step
-    ensures { λ r. ⌜ Stepped (standingOf link (now (queue .entry)) (roomsOf (now (keys .entry)) (now (slots .entry)) (now (probes .entry)) (now (offsets .entry)) (now (links .entry)))) (callAt (now (log .entry)) i) r (standingOf (r .link) (now (queue .exit)) (roomsOf (now (keys .exit)) (now (slots .exit)) (now (probes .exit)) (now (offsets .exit)) (now (links .exit)))) ⌝ }
+    ensures { λ r. ⌜ (
+        let before = roomsOf (now (keys .entry)) (now (slots .entry)) (now (probes .entry)) (now (offsets .entry)) (now (links .entry)) in
+        let after = roomsOf (now (keys .exit)) (now (slots .exit)) (now (probes .exit)) (now (offsets .exit)) (now (links .exit)) in
+        Stepped (standingOf link (now (queue .entry)) before) (callAt (now (log .entry)) i) r (standingOf (r .link) (now (queue .exit)) after)) ⌝ }
 {
     let read = link_log::call_at(log, i);
     let room = queue.len();
@@ -108,7 +106,10 @@ pub fn play_records(
     links: &mut [[u16; 8]],
     queue: &mut [Probe],
 ) -> Tally
-    ensures { λ r. ⌜ tallyOf (standingOf (r .link) (now (queue .exit)) (roomsOf (now (keys .exit)) (now (slots .exit)) (now (probes .exit)) (now (offsets .exit)) (now (links .exit)))) (r .turned) ≡ tallied (now (log .entry)) (tallyOf (standingOf start (now (queue .entry)) (roomsOf (now (keys .entry)) (now (slots .entry)) (now (probes .entry)) (now (offsets .entry)) (now (links .entry)))) 0) count ⌝ }
+    ensures { λ r. ⌜ (
+        let before = roomsOf (now (keys .entry)) (now (slots .entry)) (now (probes .entry)) (now (offsets .entry)) (now (links .entry)) in
+        let after = roomsOf (now (keys .exit)) (now (slots .exit)) (now (probes .exit)) (now (offsets .exit)) (now (links .exit)) in
+        tallyOf (standingOf (r .link) (now (queue .exit)) after) (r .turned) ≡ tallied (now (log .entry)) (tallyOf (standingOf start (now (queue .entry)) before) 0) count) ⌝ }
 {
     let mut link = start;
     let mut turned = 0;

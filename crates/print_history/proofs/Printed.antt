@@ -21,9 +21,10 @@ use Rattle.log_record.specs.Records.{badRecord}
 use Rattle.link_log.specs.declared.Log.{Log}
 use Rattle.link_log.specs.declared.Log.the-variants as log'
 use Rattle.link_log.specs.Logs.{tooLong, badTrailer, logOf}
-use Rattle.link_report.specs.declared.Checked.{Checked}
-use Rattle.link_report.specs.declared.Checked.the-variants as checked
-use Rattle.link_report.specs.LogReport.{endOf, checkedOf, checkedBy, refusedWith, reportBy, fits, reportOfLog}
+use Rattle.link_settings.specs.declared.Checked.{Checked}
+use Rattle.link_settings.specs.declared.Checked.the-variants as checked
+use Rattle.link_report.specs.LogReport.{endOf, refusedWith, reportBy, fits, reportOfLog}
+use Rattle.link_settings.specs.Checks.{checkedOf, checkedBy}
 use Rattle.report_history.specs.Bytes.{BytesIn}
 use Rattle.report_history.specs.Figures.{reportFrom}
 use Rattle.report_history.proofs.Whole.{report-of-a-good-log}

@@ -19,6 +19,7 @@ use Rattle.report.specs.declared.figures.Figures.{Figures}
 use Rattle.report.specs.Lines.{textOf}
 use Rattle.report.specs.Report.{written}
 use Rattle.link_figures.specs.Figures.{figuresOf}
+use Rattle.link_settings.specs.Checks as checks
 use Rattle.link_report.specs.LogReport as first
 use Rattle.link_report.specs.LogReport.{endOf, fits, reportOfLog}
 use Rattle.report_history.specs.Bytes.{BytesIn}
@@ -88,7 +89,7 @@ module _ (log : List ℕ) (h : BytesIn log) (s : Settings) (g : logOf log ≡ lo
 module _ (log : List ℕ) (h : BytesIn log) (marks fronts buffer : List ℕ) (fit : roomsFit (length marks) (length fronts) (length buffer) ≡ true)
     (secret : List ℕ) (queue : List Probe) (long : length queue ≡ capacity) (rooms : Rooms) (sized : RoomsFit capacity rooms) (fit′ : fits queue rooms buffer ≡ true) where
   by-log : (l : Log) → logOf log ≡ l
-      → second.recountBy (second.checkedOf l) log marks fronts buffer .outcome ≡ first.reportBy (first.checkedOf l) (endOf log secret queue rooms) queue rooms buffer .outcome
+      → second.recountBy (second.checkedOf l) log marks fronts buffer .outcome ≡ first.reportBy (checks.checkedOf l) (endOf log secret queue rooms) queue rooms buffer .outcome
   by-log log'.TooLong e = refl
   by-log log'.BadTrailer e = refl
   by-log (log'.BadRecord n) e = refl
@@ -101,4 +102,4 @@ module _ (log : List ℕ) (h : BytesIn log) (marks fronts buffer : List ℕ) (fi
   same-outcome =
       ap (λ (b : Bool). second.recountBy (second.checkedBy b (logOf log)) log marks fronts buffer .outcome) fit
       ∙ by-log (logOf log) refl
-      ∙ sym (ap (λ (b : Bool). first.reportBy (first.checkedBy b (logOf log)) (endOf log secret queue rooms) queue rooms buffer .outcome) fit′)
+      ∙ sym (ap (λ (b : Bool). first.reportBy (checks.checkedBy b (logOf log)) (endOf log secret queue rooms) queue rooms buffer .outcome) fit′)

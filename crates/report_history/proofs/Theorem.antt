@@ -28,7 +28,9 @@ use Rattle.link_tally.specs.Tally.{Tallied, recorded, tallied}
 use Rattle.report.specs.Lines.{textOf}
 use Rattle.report.specs.Report.{written}
 use Rattle.link_figures.specs.Figures.{sessionBy, sessionOf, figureOf, followupOf, directOf, missingOf, roundTripOf, figuresOf}
-use Rattle.link_report.specs.LogReport.{watchBy, startBy, endOf, playedText, checkedBy, reportBy as reportOfCase, fits, reportOfLog}
+use Rattle.link_report.specs.LogReport.{startBy, endOf, playedText, reportBy as reportOfCase, fits, reportOfLog}
+use Rattle.link_settings.specs.Checks.{checkedBy}
+use Rattle.link_settings.specs.Fresh.{watchBy}
 use Rattle.report_history.specs.Figures.{callThen, logCalls, watchingBy, makingBy, sessionFrom, figuresFrom, reportFrom}
 
 -- ---- the tally of a log's records is what its calls leave

@@ -47,9 +47,9 @@ use Rattle.walking.proofs.Calls.{asks, holds, twice, calls-plain, calls-gave, b
 use Rattle.link_log.specs.declared.Log.{Log}
 use Rattle.link_log.proofs.Log as Log-row
 use Rattle.link_log.proofs.Log.Laws as Log-laws
-use Rattle.link_report.specs.declared.Checked.{Checked}
-use Rattle.link_report.proofs.Checked as Checked-row
-use Rattle.link_report.proofs.Checked.Laws as Checked-laws
+use Rattle.link_settings.specs.declared.Checked.{Checked}
+use Rattle.link_settings.proofs.Checked as Checked-row
+use Rattle.link_settings.proofs.Checked.Laws as Checked-laws
 use Rattle.link_log.specs.declared.Settings.{Settings}
 use Rattle.link_log.proofs.Settings as Settings-row
 use Rattle.link_log.proofs.Settings.Laws as Settings-laws
@@ -66,24 +66,24 @@ use Rattle.report.specs.declared.Answer.{Answer}
 use Rattle.report.proofs.Answer as Answer-row
 use Rattle.report.proofs.Answer.Laws as Answer-laws
 use Rattle.link_report.proofs.Laws.{reports}
-use Rattle.link_report.proofs.rooms_fit as rooms-fit-fn
-use Rattle.link_report.proofs.rooms_fit.Symbol as rooms-fit-def
-use Rattle.link_report.proofs.rooms_fit.Met as rooms-fit-thm
+use Rattle.link_settings.proofs.rooms_fit as rooms-fit-fn
+use Rattle.link_settings.proofs.rooms_fit.Symbol as rooms-fit-def
+use Rattle.link_settings.proofs.rooms_fit.Met as rooms-fit-thm
 use Rattle.link_log.proofs.check as check-fn
 use Rattle.link_log.proofs.check.Symbol as check-def
 use Rattle.link_log.proofs.check.Met as check-thm
-use Rattle.link_report.proofs.checked_by as checked-by-fn
-use Rattle.link_report.proofs.checked_by.Symbol as checked-by-def
-use Rattle.link_report.proofs.checked_by.Met as checked-by-thm
-use Rattle.link_report.proofs.settings_of as settings-of-fn
-use Rattle.link_report.proofs.settings_of.Symbol as settings-of-def
-use Rattle.link_report.proofs.settings_of.Met as settings-of-thm
-use Rattle.link_report.proofs.link_by as link-by-fn
-use Rattle.link_report.proofs.link_by.Symbol as link-by-def
-use Rattle.link_report.proofs.link_by.Met as link-by-thm
-use Rattle.link_report.proofs.count_of as count-of-fn
-use Rattle.link_report.proofs.count_of.Symbol as count-of-def
-use Rattle.link_report.proofs.count_of.Met as count-of-thm
+use Rattle.link_settings.proofs.checked_by as checked-by-fn
+use Rattle.link_settings.proofs.checked_by.Symbol as checked-by-def
+use Rattle.link_settings.proofs.checked_by.Met as checked-by-thm
+use Rattle.link_settings.proofs.settings_of as settings-of-fn
+use Rattle.link_settings.proofs.settings_of.Symbol as settings-of-def
+use Rattle.link_settings.proofs.settings_of.Met as settings-of-thm
+use Rattle.link_settings.proofs.link_by as link-by-fn
+use Rattle.link_settings.proofs.link_by.Symbol as link-by-def
+use Rattle.link_settings.proofs.link_by.Met as link-by-thm
+use Rattle.link_settings.proofs.count_of as count-of-fn
+use Rattle.link_settings.proofs.count_of.Symbol as count-of-def
+use Rattle.link_settings.proofs.count_of.Met as count-of-thm
 use Rattle.link_tally.proofs.play_records as play-records-fn
 use Rattle.link_tally.proofs.play_records.Symbol as play-records-def
 use Rattle.link_tally.proofs.play_records.Met as play-records-thm
@@ -324,4 +324,4 @@ unfolding code.routine tablesOf
 report-log-spec 𝓤 H 𝓜 𝓖 𝓡 =
     entered 𝓤 H (tripleOf 𝓤 H (𝓖 .A) f.signature (f.spec 𝓤 H (𝓖 .A) (𝓜 .mem) (𝓡 .run)))
     (tables 𝓤 H 𝓜 𝓡 code.env .C) (tables 𝓤 H 𝓜 𝓡 code.env .Λ) #self code.function (code.unfolded 𝓤 H 𝓜 𝓡)
-    (meets 𝓤 H (𝓖 .A) (givenOf 𝓤 H 𝓜 𝓖) (𝓜 .mem) (𝓡 .run) (tablesOf 𝓤 H 𝓜 (tables 𝓤 H 𝓜 𝓡 code.env)) ((cited 𝓤 H (rooms-fit-call 𝓤 H (𝓖 .A) (𝓜 .mem) (𝓡 .run)) 𝓜 𝓡 code.env rooms-fit-def.name rooms-fit-def.routine code.calls-link-report·rooms-fit (rooms-fit-thm.met 𝓤 H 𝓜 𝓖 𝓡), (cited 𝓤 H (check-call 𝓤 H (𝓖 .A) (𝓜 .mem) (𝓡 .run)) 𝓜 𝓡 code.env check-def.name check-def.routine code.calls-link-log·check (check-thm.met 𝓤 H 𝓜 𝓖 𝓡), (cited 𝓤 H (checked-by-call 𝓤 H (𝓖 .A) (𝓜 .mem) (𝓡 .run)) 𝓜 𝓡 code.env checked-by-def.name checked-by-def.routine code.calls-link-report·checked-by (checked-by-thm.met 𝓤 H 𝓜 𝓖 𝓡), (cited 𝓤 H (settings-of-call 𝓤 H (𝓖 .A) (𝓜 .mem) (𝓡 .run)) 𝓜 𝓡 code.env settings-of-def.name settings-of-def.routine code.calls-link-report·settings-of (settings-of-thm.met 𝓤 H 𝓜 𝓖 𝓡), (cited 𝓤 H (link-by-call 𝓤 H (𝓖 .A) (𝓜 .mem) (𝓡 .run)) 𝓜 𝓡 code.env link-by-def.name link-by-def.routine code.calls-link-report·link-by (link-by-thm.met 𝓤 H 𝓜 𝓖 𝓡), (cited 𝓤 H (count-of-call 𝓤 H (𝓖 .A) (𝓜 .mem) (𝓡 .run)) 𝓜 𝓡 code.env count-of-def.name count-of-def.routine code.calls-link-report·count-of (count-of-thm.met 𝓤 H 𝓜 𝓖 𝓡), (cited 𝓤 H (play-records-call 𝓤 H (𝓖 .A) (𝓜 .mem) (𝓡 .run)) 𝓜 𝓡 code.env play-records-def.name play-records-def.routine code.calls-link-tally·play-records (play-records-thm.met 𝓤 H 𝓜 𝓖 𝓡), cited 𝓤 H (write-checked-call 𝓤 H (𝓖 .A) (𝓜 .mem) (𝓡 .run)) 𝓜 𝓡 code.env write-checked-def.name write-checked-def.routine code.calls-link-report·write-checked (write-checked-thm.met 𝓤 H 𝓜 𝓖 𝓡))))))))))
+    (meets 𝓤 H (𝓖 .A) (givenOf 𝓤 H 𝓜 𝓖) (𝓜 .mem) (𝓡 .run) (tablesOf 𝓤 H 𝓜 (tables 𝓤 H 𝓜 𝓡 code.env)) ((cited 𝓤 H (rooms-fit-call 𝓤 H (𝓖 .A) (𝓜 .mem) (𝓡 .run)) 𝓜 𝓡 code.env rooms-fit-def.name rooms-fit-def.routine code.calls-link-settings·rooms-fit (rooms-fit-thm.met 𝓤 H 𝓜 𝓖 𝓡), (cited 𝓤 H (check-call 𝓤 H (𝓖 .A) (𝓜 .mem) (𝓡 .run)) 𝓜 𝓡 code.env check-def.name check-def.routine code.calls-link-log·check (check-thm.met 𝓤 H 𝓜 𝓖 𝓡), (cited 𝓤 H (checked-by-call 𝓤 H (𝓖 .A) (𝓜 .mem) (𝓡 .run)) 𝓜 𝓡 code.env checked-by-def.name checked-by-def.routine code.calls-link-settings·checked-by (checked-by-thm.met 𝓤 H 𝓜 𝓖 𝓡), (cited 𝓤 H (settings-of-call 𝓤 H (𝓖 .A) (𝓜 .mem) (𝓡 .run)) 𝓜 𝓡 code.env settings-of-def.name settings-of-def.routine code.calls-link-settings·settings-of (settings-of-thm.met 𝓤 H 𝓜 𝓖 𝓡), (cited 𝓤 H (link-by-call 𝓤 H (𝓖 .A) (𝓜 .mem) (𝓡 .run)) 𝓜 𝓡 code.env link-by-def.name link-by-def.routine code.calls-link-settings·link-by (link-by-thm.met 𝓤 H 𝓜 𝓖 𝓡), (cited 𝓤 H (count-of-call 𝓤 H (𝓖 .A) (𝓜 .mem) (𝓡 .run)) 𝓜 𝓡 code.env count-of-def.name count-of-def.routine code.calls-link-settings·count-of (count-of-thm.met 𝓤 H 𝓜 𝓖 𝓡), (cited 𝓤 H (play-records-call 𝓤 H (𝓖 .A) (𝓜 .mem) (𝓡 .run)) 𝓜 𝓡 code.env play-records-def.name play-records-def.routine code.calls-link-tally·play-records (play-records-thm.met 𝓤 H 𝓜 𝓖 𝓡), cited 𝓤 H (write-checked-call 𝓤 H (𝓖 .A) (𝓜 .mem) (𝓡 .run)) 𝓜 𝓡 code.env write-checked-def.name write-checked-def.routine code.calls-link-report·write-checked (write-checked-thm.met 𝓤 H 𝓜 𝓖 𝓡))))))))))

@@ -3,7 +3,8 @@ use mathlib.Core.Path.{_≡_, refl, ap, _∙_}
 use Prim.Native.Nat.{ℕ}
 use lib.Dec.{eqb}
 use Rattle.monitor.specs.declared.Monitor.{Monitor}
-use Rattle.link_parts.specs.Parts.{idledIf, watchAfter}
+use Rattle.link_parts.specs.Parts.{watchAfter}
+use Rattle.link_turn.specs.Turn.{idledIf}
 use borrow.Author.Needs.{needs}
 use Rattle.link_tally.proofs.step_of.Statement.{statement}
 use Rattle.link_tally.proofs.step_of.Tie as tie

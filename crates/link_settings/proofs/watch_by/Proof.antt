@@ -1,12 +1,12 @@
--- `link_report::watch_by` meets its contract. Assumes nothing.
+-- `link_settings::watch_by` meets its contract. Assumes nothing.
 use mathlib.Core.Path.{ap, _∙_}
 use Rattle.link_steps.specs.declared.Watch.the-variants.{Present}
-use Rattle.link_report.proofs.Laws.{present}
+use Rattle.link_settings.proofs.Laws.{present}
 use borrow.Author.Needs.{needs}
-use Rattle.link_report.proofs.watch_by.Statement.{statement}
-use Rattle.link_report.proofs.watch_by.Tie as tie
-use Rattle.link_report.proofs.watch_by.Reads as reads
-use Rattle.link_report.proofs.watch_by.Lts as lts
+use Rattle.link_settings.proofs.watch_by.Statement.{statement}
+use Rattle.link_settings.proofs.watch_by.Tie as tie
+use Rattle.link_settings.proofs.watch_by.Reads as reads
+use Rattle.link_settings.proofs.watch_by.Lts as lts
 use Rattle.monitor.proofs.Monitor.new.Reads as new-reads
 
 returns : tie.Need-returns

@@ -1,9 +1,9 @@
--- `link_report::checked_of` meets its contract. Assumes nothing.
+-- `link_settings::checked_of` meets its contract. Assumes nothing.
 use mathlib.Core.Path.{sym, ap}
-use Rattle.link_report.specs.LogReport.{checkedOf}
+use Rattle.link_settings.specs.Checks.{checkedOf}
 use borrow.Author.Needs.{needs}
-use Rattle.link_report.proofs.checked_of.Statement.{statement}
-use Rattle.link_report.proofs.checked_of.Tie as tie
+use Rattle.link_settings.proofs.checked_of.Statement.{statement}
+use Rattle.link_settings.proofs.checked_of.Tie as tie
 
 enum-told : tie.Need-enum-told
 enum-told c = search needs

@@ -1,8 +1,8 @@
--- `link_report::checked_by` meets its contract. Assumes nothing.
-use Rattle.link_report.proofs.Laws.{by-log, by-room}
+-- `link_settings::checked_by` meets its contract. Assumes nothing.
+use Rattle.link_settings.proofs.Laws.{by-log, by-room}
 use borrow.Author.Needs.{needs}
-use Rattle.link_report.proofs.checked_by.Statement.{statement}
-use Rattle.link_report.proofs.checked_by.Tie as tie
+use Rattle.link_settings.proofs.checked_by.Statement.{statement}
+use Rattle.link_settings.proofs.checked_by.Tie as tie
 
 checked-of-requires : tie.Need-checked-of-requires
 checked-of-requires c κs = search needs

@@ -1,9 +1,9 @@
--- `link_report::settings_of` meets its contract. Assumes nothing.
+-- `link_settings::settings_of` meets its contract. Assumes nothing.
 use mathlib.Core.Path.{sym, ap}
-use Rattle.link_report.specs.LogReport.{settingsBy}
+use Rattle.link_settings.specs.Checks.{settingsBy}
 use borrow.Author.Needs.{needs}
-use Rattle.link_report.proofs.settings_of.Statement.{statement}
-use Rattle.link_report.proofs.settings_of.Tie as tie
+use Rattle.link_settings.proofs.settings_of.Statement.{statement}
+use Rattle.link_settings.proofs.settings_of.Tie as tie
 
 enum-told : tie.Need-enum-told
 enum-told c = search needs

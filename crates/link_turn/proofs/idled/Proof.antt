@@ -1,9 +1,9 @@
--- `link_parts::idled` meets its contract. Assumes nothing.
+-- `link_turn::idled` meets its contract. Assumes nothing.
 use mathlib.Core.Path.{_≡_, sym, ap, _∙_}
-use Rattle.link_parts.proofs.Laws.{monitorBy, idles, stays}
+use Rattle.link_turn.proofs.Laws.{monitorBy, idles, stays}
 use borrow.Author.Needs.{needs}
-use Rattle.link_parts.proofs.idled.Statement.{statement}
-use Rattle.link_parts.proofs.idled.Tie as tie
+use Rattle.link_turn.proofs.idled.Statement.{statement}
+use Rattle.link_turn.proofs.idled.Tie as tie
 
 idle-requires : tie.Need-idle-requires
 idle-requires c κs = search needs

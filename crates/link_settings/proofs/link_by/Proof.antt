@@ -1,11 +1,11 @@
--- `link_report::link_by` meets its contract. Assumes nothing.
+-- `link_settings::link_by` meets its contract. Assumes nothing.
 use borrow.Author.Needs.{needs}
-use Rattle.link_report.proofs.link_by.Statement.{statement}
-use Rattle.link_report.proofs.link_by.Tie as tie
-use Rattle.link_report.proofs.link_by.Reads as reads
-use Rattle.link_report.proofs.link_by.Lts as lts
+use Rattle.link_settings.proofs.link_by.Statement.{statement}
+use Rattle.link_settings.proofs.link_by.Tie as tie
+use Rattle.link_settings.proofs.link_by.Reads as reads
+use Rattle.link_settings.proofs.link_by.Lts as lts
 use Rattle.ledger_state.proofs.fresh.Reads as fresh-reads
-use Rattle.link_report.proofs.watch_by.Reads as watch-by-reads
+use Rattle.link_settings.proofs.watch_by.Reads as watch-by-reads
 
 fresh-requires : tie.Need-fresh-requires
 fresh-requires c κs = search needs
