@@ -1,34 +1,18 @@
 -- A mark that is stored changes nothing of what the records before it say. Assumes nothing.
 use mathlib.Core.Path.{_≡_, refl, sym, ap, subst, _∙_}
-use mathlib.Core.Bool.{Bool, true, false}
+use mathlib.Core.Bool.{Bool}
 use mathlib.Core.List.{List}
-use Prim.Native.Nat.{ℕ, zero, suc, _+_, _-_, _^_, _≤_, _<_}
+use Prim.Native.Nat.{ℕ, zero, suc, _+_, _≤_, _<_}
 use native.Mathlib.Omega.{arith}
-use lib.Dec.{eqb, leb, ltb}
+use lib.Dec.{eqb}
 use lib.ListN.{length, getD, set, length-set}
 use lib.Seq.{getD-set-same, getD-set-other}
 use borrow.Author.Count.{below-more}
-use borrow.Author.Tests.{le-leb, lt-leb, ltb-true, ltb-false}
-use Rattle.calls.specs.declared.PendingPacket.{PendingPacket}
-use Rattle.calls.specs.declared.Pending.{Pending}
-use Rattle.calls.specs.declared.Pending.the-variants.{Absent, Held}
-use Rattle.calls.specs.declared.Reply.{Reply}
-use Rattle.calls.specs.declared.ReplyObservation.{ReplyObservation}
-use Rattle.ranges.specs.Ranges.{inRange}
-use Rattle.history.specs.Counting.{tally, has}
-use Rattle.history.specs.Ledger.{Event, hasKey, accepted, rememberings, awaiting}
-use Rattle.recount_back.specs.Back.{awaits}
+use Rattle.history.specs.Counting.{tally}
+use Rattle.history.specs.Ledger.{Event}
 use Rattle.link_log.specs.Logs.{callAt}
 use Rattle.recount_seen.specs.Seen.{seenBy, seenAt, grow, eventsOf}
-use Rattle.recount_marks.specs.Marks.{replyMark, observeMark, playedMark, recordMark, markedTo, turnedIn, Marked}
-
--- the test of the code is that of the definition
-pub late-is : (timeout time : ℕ) → timeout < 2 ^ 64 → ltb (2 ^ 64 - 1 - timeout) time ≡ leb (2 ^ 64) (time + timeout)
-late-is timeout time fits = go (ltb (2 ^ 64 - 1 - timeout) time) refl
-  where
-    go : (b : Bool) → ltb (2 ^ 64 - 1 - timeout) time ≡ b → b ≡ leb (2 ^ 64) (time + timeout)
-    go true e = sym (le-leb (2 ^ 64) (time + timeout) (omega (arith, ltb-true (2 ^ 64 - 1 - timeout) time e)))
-    go false e = sym (lt-leb (2 ^ 64) (time + timeout) (omega (arith, ltb-false (2 ^ 64 - 1 - timeout) time e)))
+use Rattle.recount_marks.specs.Marks.{playedMark, recordMark, markedTo, turnedIn, Marked}
 
 module _ (log marks : List ℕ) (i m : ℕ) where
   pub events-kept : (j : ℕ) → j ≤ i → eventsOf log (set marks i m) j ≡ eventsOf log marks j
@@ -92,35 +76,3 @@ unfolding turnedIn
 turned-turn marks n a r e inv =
     let one : suc n ≡ n + 1 = omega arith in
     subst (λ (m : ℕ). r ≡ turnedIn marks m) one (e ∙ ap (tally (eqb (getD marks n 0) 0)) inv)
-
--- ---- the marks by the tests that the code makes
-
-module _ (es : List Event) (a : Reply) where
-  pub known-key : hasKey (accepted es) (a .key) ≡ true → 2 ≡ replyMark es a
-  unfolding replyMark
-  known-key k = rw k
-
-  pub known-probe : hasKey (accepted es) (a .key) ≡ false → has (rememberings es) (a .key .sender) ≡ true → 4 ≡ replyMark es a
-  unfolding replyMark
-  known-probe k p = rw (k, p)
-
-  pub no-packet : hasKey (accepted es) (a .key) ≡ false → has (rememberings es) (a .key .sender) ≡ false → (x : Pending) → a .pending ≡ x → x ≡ Absent → 3 ≡ replyMark es a
-  unfolding replyMark
-  no-packet k p x e n = rw (k, p, e, n)
-
-  pub has-packet : hasKey (accepted es) (a .key) ≡ false → has (rememberings es) (a .key .sender) ≡ false → (x : Pending) (q : PendingPacket) → a .pending ≡ x → x ≡ Held q → 5 ≡ replyMark es a
-  unfolding replyMark
-  has-packet k p x q e n = rw (k, p, e, n)
-
-module _ (es : List Event) (o : ReplyObservation) where
-  pub out-of-range : inRange o ≡ false → 0 ≡ observeMark es o
-  unfolding observeMark
-  out-of-range r = rw r
-
-  pub awaited : inRange o ≡ true → awaits (awaiting es) (o .key) ≡ true → 1 ≡ observeMark es o
-  unfolding observeMark
-  awaited r k = rw (r, k)
-
-  pub not-awaited : inRange o ≡ true → awaits (awaiting es) (o .key) ≡ false → 0 ≡ observeMark es o
-  unfolding observeMark
-  not-awaited r k = rw (r, k)

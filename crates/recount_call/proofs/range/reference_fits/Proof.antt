@@ -1,8 +1,8 @@
--- `recount_marks::range` meets its contract. Assumes nothing.
+-- `recount_call::range` meets its contract. Assumes nothing.
 use Rattle.ranges.proofs.Both.{both-read}
 use mir.Syntax.{w64}
-use Rattle.recount_marks.proofs.range.reference_fits.Statement.{statement}
-use Rattle.recount_marks.proofs.range.reference_fits.Tie as tie
+use Rattle.recount_call.proofs.range.reference_fits.Statement.{statement}
+use Rattle.recount_call.proofs.range.reference_fits.Tie as tie
 
 returns : tie.Need-returns
 returns c = both-read w64 3999999999 (c .args .seconds) (c .fits .seconds)

@@ -1,9 +1,9 @@
--- `recount_marks::reply_mark` meets its contract. Assumes nothing.
+-- `recount_call::reply_mark` meets its contract. Assumes nothing.
 use mathlib.Core.Path.{refl, sym, _∙_}
-use Rattle.recount_marks.proofs.Laws.{known-key, known-probe, no-packet, has-packet}
+use Rattle.recount_call.proofs.Laws.{known-key, known-probe, no-packet, has-packet}
 use borrow.Author.Needs.{needs}
-use Rattle.recount_marks.proofs.reply_mark.Statement.{statement}
-use Rattle.recount_marks.proofs.reply_mark.Tie as tie
+use Rattle.recount_call.proofs.reply_mark.Statement.{statement}
+use Rattle.recount_call.proofs.reply_mark.Tie as tie
 
 was-accepted-requires : tie.Need-was-accepted-requires
 was-accepted-requires c κs = search needs

@@ -1,12 +1,12 @@
--- `recount_marks::range` meets its contract. Assumes nothing.
+-- `recount_call::range` meets its contract. Assumes nothing.
 use mathlib.Core.Path.{ap, _∙_}
 use mathlib.Core.Bool.{_&&_}
 use mir.Syntax.{w32, w64}
 use mir.ValLaws.{toZ-ofZ}
 use Rattle.ranges.specs.Ranges.{inRange, referenceWithin, offsetWithin}
 use borrow.Author.Needs.{needs}
-use Rattle.recount_marks.proofs.range.in_range.Statement.{statement}
-use Rattle.recount_marks.proofs.range.in_range.Tie as tie
+use Rattle.recount_call.proofs.range.in_range.Statement.{statement}
+use Rattle.recount_call.proofs.range.in_range.Tie as tie
 
 time-fits-requires : tie.Need-time-fits-requires
 time-fits-requires c κs = search needs

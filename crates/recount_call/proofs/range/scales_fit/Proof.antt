@@ -1,7 +1,7 @@
--- `recount_marks::range` meets its contract. Assumes nothing.
+-- `recount_call::range` meets its contract. Assumes nothing.
 use borrow.Author.Needs.{needs}
-use Rattle.recount_marks.proofs.range.scales_fit.Statement.{statement}
-use Rattle.recount_marks.proofs.range.scales_fit.Tie as tie
+use Rattle.recount_call.proofs.range.scales_fit.Statement.{statement}
+use Rattle.recount_call.proofs.range.scales_fit.Tie as tie
 
 enum-told : tie.Need-enum-told
 enum-told c = search needs

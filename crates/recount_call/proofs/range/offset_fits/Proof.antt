@@ -1,8 +1,8 @@
--- `recount_marks::range` meets its contract. Assumes nothing.
+-- `recount_call::range` meets its contract. Assumes nothing.
 use Rattle.ranges.proofs.Both.{both-read}
 use mir.Syntax.{w32}
-use Rattle.recount_marks.proofs.range.offset_fits.Statement.{statement}
-use Rattle.recount_marks.proofs.range.offset_fits.Tie as tie
+use Rattle.recount_call.proofs.range.offset_fits.Statement.{statement}
+use Rattle.recount_call.proofs.range.offset_fits.Tie as tie
 
 returns : tie.Need-returns
 returns c = both-read w32 86399 (c .args .seconds) (c .fits .seconds)

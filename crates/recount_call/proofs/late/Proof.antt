@@ -1,8 +1,8 @@
--- `recount_marks::late` meets its contract. Assumes nothing.
-use Rattle.recount_marks.proofs.Laws.{late-is}
+-- `recount_call::late` meets its contract. Assumes nothing.
+use Rattle.recount_call.proofs.Laws.{late-is}
 use borrow.Author.Needs.{needs}
-use Rattle.recount_marks.proofs.late.Statement.{statement}
-use Rattle.recount_marks.proofs.late.Tie as tie
+use Rattle.recount_call.proofs.late.Statement.{statement}
+use Rattle.recount_call.proofs.late.Tie as tie
 
 sub-result : tie.Need-sub-result
 sub-result c = search needs

@@ -1,10 +1,10 @@
--- `recount_marks::observe_mark` meets its contract. Assumes nothing.
+-- `recount_call::observe_mark` meets its contract. Assumes nothing.
 use mathlib.Core.Path.{sym, _∙_}
 use borrow.Author.Tests.{not-true, not-false}
-use Rattle.recount_marks.proofs.Laws.{out-of-range, awaited, not-awaited}
+use Rattle.recount_call.proofs.Laws.{out-of-range, awaited, not-awaited}
 use borrow.Author.Needs.{needs}
-use Rattle.recount_marks.proofs.observe_mark.Statement.{statement}
-use Rattle.recount_marks.proofs.observe_mark.Tie as tie
+use Rattle.recount_call.proofs.observe_mark.Statement.{statement}
+use Rattle.recount_call.proofs.observe_mark.Tie as tie
 
 in-range-requires : tie.Need-in-range-requires
 in-range-requires c κs = search needs

@@ -1,11 +1,11 @@
--- `recount_marks::range` meets its contract. Assumes nothing.
+-- `recount_call::range` meets its contract. Assumes nothing.
 use mathlib.Core.Path.{sym, ap, _∙_}
 use mir.Syntax.{w64}
 use mir.ValLaws.{toZ-ofZ}
 use Rattle.ranges.specs.Ranges.{timeWithin, timeFits}
 use borrow.Author.Needs.{needs}
-use Rattle.recount_marks.proofs.range.time_fits.Statement.{statement}
-use Rattle.recount_marks.proofs.range.time_fits.Tie as tie
+use Rattle.recount_call.proofs.range.time_fits.Statement.{statement}
+use Rattle.recount_call.proofs.range.time_fits.Tie as tie
 
 enum-told : tie.Need-enum-told
 enum-told c = search needs

@@ -1,8 +1,8 @@
--- `recount_marks::probe_mark` meets its contract. Assumes nothing.
+-- `recount_call::probe_mark` meets its contract. Assumes nothing.
 use mathlib.Core.Path.{sym, _∙_}
 use borrow.Author.Needs.{needs}
-use Rattle.recount_marks.proofs.probe_mark.Statement.{statement}
-use Rattle.recount_marks.proofs.probe_mark.Tie as tie
+use Rattle.recount_call.proofs.probe_mark.Statement.{statement}
+use Rattle.recount_call.proofs.probe_mark.Tie as tie
 
 late-requires : tie.Need-late-requires
 late-requires c κs = search needs
