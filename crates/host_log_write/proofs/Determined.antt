@@ -9,9 +9,6 @@ use denote.Triple.Clauses as Clauses
 use denote.Ref.{now}
 use Rattle.log_record.specs.Records.{Wrote}
 use Rattle.link_log.specs.Logs.{Wrote as WroteTrailer}
-use Rattle.host_log_write.proofs.ambrulicciu_log_write_sent as sent
-use Rattle.host_log_write.proofs.ambrulicciu_log_write_sent.Kinds as sent-kinds
-use Rattle.host_log_write.proofs.ambrulicciu_log_write_sent.Reads as sent-reads
 use Rattle.host_log_write.proofs.ambrulicciu_log_write_accept as accept
 use Rattle.host_log_write.proofs.ambrulicciu_log_write_accept.Kinds as accept-kinds
 use Rattle.host_log_write.proofs.ambrulicciu_log_write_accept.Reads as accept-reads
@@ -27,12 +24,6 @@ use Rattle.host_log_write.proofs.ambrulicciu_log_write_idle.Reads as id
 use Rattle.host_log_write.proofs.ambrulicciu_log_write_trailer as trailer
 use Rattle.host_log_write.proofs.ambrulicciu_log_write_trailer.Kinds as trailer-kinds
 use Rattle.host_log_write.proofs.ambrulicciu_log_write_trailer.Reads as trailer-reads
-
-pub write-sent-unique :
-    (κs : Lfts 1) (a : World.ArgsD sent.signature κs) (r₁ r₂ : World.ResD sent.signature κs)
-    (s₁ s₂ : Clauses.AtExit (Kinds'.endedOf 1 sent-kinds.ps sent-kinds.r) κs)
-    → sent-reads.Post κs a r₁ s₁ → sent-reads.Post κs a r₂ s₂ → (r₁ ≡ r₂) × (now (s₁ .0) ≡ now (s₂ .0))
-write-sent-unique κs a r₁ r₂ s₁ s₂ p q = let e = p ∙ sym q in (ap (λ (w : Wrote). w .number) e, ap (λ (w : Wrote). w .bytes) e)
 
 pub write-accept-unique :
     (κs : Lfts 1) (a : World.ArgsD accept.signature κs) (r₁ r₂ : World.ResD accept.signature κs)

@@ -16,10 +16,7 @@ use Rattle.calls.specs.declared.Time.the-variants as time
 use Rattle.host_numbers.specs.Numbers.{isSet}
 use Rattle.host_numbers.proofs.Back.{joined-below}
 use Rattle.host_observation.specs.Observation.{word, double, flagsAt, observationAt}
-use Rattle.host_log_write.specs.Told.{sentTold, acceptTold, observeTold, advanceTold, idleTold}
-
-pub sent-fits : (sequence ordinal train time tag : ℕ) → U32 sequence → U32 ordinal → U32 train → U64 time → U64 tag → EntryFits (sentTold sequence ordinal train time tag)
-sent-fits sequence ordinal train time tag hs ho hn ht hg = record { sequence = hs; ordinal = ho; train = hn; packet = record { time = ht; tag = hg } }
+use Rattle.host_log_write.specs.Told.{acceptTold, observeTold, advanceTold, idleTold}
 
 -- ---- what is there by a flag
 

@@ -14,7 +14,7 @@ use Rattle.record_parts.specs.Parts.{flag, estimatesBy}
 use Rattle.ranges.specs.Ranges.{estimatesFit}
 use Rattle.log_record.specs.Records.{scalesFit, writtenTo}
 use Rattle.host_observation.specs.Observation.{word, flagsAt, observationAt}
-use Rattle.host_log_write.specs.Told.{sentTold, acceptTold, observeTold, advanceTold, idleTold}
+use Rattle.host_log_write.specs.Told.{acceptTold, observeTold, advanceTold, idleTold}
 
 -- the number of every writer of a record
 abbrev pub numberBy : List ℕ → ℕ
@@ -30,9 +30,6 @@ wires-fit true s r = λ i. le-leb (s / 256 % 64) 63 (six s) i && le-leb (r / 256
   where
     six : (n : ℕ) → n / 256 % 64 ≤ 63
     six n = omega arith
-
-pub sent-number : (bytes : List ℕ) (sequence ordinal train time tag : ℕ) → writtenTo bytes (sentTold sequence ordinal train time tag) .number ≡ numberBy bytes
-sent-number bytes sequence ordinal train time tag = by-size bytes (sentTold sequence ordinal train time tag) refl
 
 pub accept-number : (bytes : List ℕ) (sender reflector t3 pending time tag : ℕ)
     → writtenTo bytes (acceptTold sender reflector t3 pending time tag) .number ≡ numberBy bytes

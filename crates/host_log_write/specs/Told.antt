@@ -9,10 +9,6 @@ use Rattle.record_parts.specs.Parts.{pendingBy}
 use Rattle.host_numbers.specs.Numbers.{isSet}
 use Rattle.host_observation.specs.Observation.{observationAt}
 
--- "0 sent (4 sequence, 8 ordinal, 12 time, 20 tag)", and its train at 28 (document 02, Q-3)
-abbrev pub sentTold : (sequence ordinal train time tag : ℕ) → Entry
-sentTold sequence ordinal train time tag = entry.Sent (record { sequence = sequence; ordinal = ordinal; train = train; packet = record { time = time; tag = tag } })
-
 -- "1 accept (4 sender, 8 reflector, 12 T3; flag 1 pending: 20 time, 28 tag)"
 abbrev pub acceptTold : (sender reflector t3 pending time tag : ℕ) → Entry
 acceptTold sender reflector t3 pending time tag =

@@ -1,38 +1,15 @@
-// What a host calls to write a log (document 01, 'Log and program'): the 96 bytes of each call's record, and the 24 bytes of the trailer.
+// What a host calls to write a log (document 01, 'Log and program'): the 96 bytes of each call's record, and the 24 bytes of the trailer. That of a `sent` is
+// crate host_log_write_sent.
 ghost use mathlib.Core.Path.{_≡_};
 ghost use Rattle.log_record.specs.Records.{wrote, writtenTo};
 ghost use Rattle.link_log.specs.Logs.{wrote as wroteTrailer, trailerTo};
-ghost use Rattle.host_log_write.specs.Told.{sentTold, acceptTold, observeTold, advanceTold, idleTold};
-use calls::PendingPacket;
+ghost use Rattle.host_log_write.specs.Told.{acceptTold, observeTold, advanceTold, idleTold};
 use calls::Reply;
 use calls::ReplyKey;
-use calls::SentProbe;
 use calls::Time;
 use record_parts::Entry;
 
-// The record of a `sent`, over 96 lent bytes; 5 for another number of bytes.
-#[no_mangle]
-pub extern "C" fn ambrulicciu_log_write_sent(
-    bytes: &mut [u8],
-    sequence: u32,
-    ordinal: u32,
-    train: u32,
-    time: u64,
-    tag: u64,
-) -> u8
-    ensures { λ r. ⌜ wrote r (now (bytes .exit)) ≡ writtenTo (now (bytes .entry)) (sentTold sequence ordinal train time tag) ⌝ }
-{
-    let packet = PendingPacket { time, tag };
-    let probe = SentProbe {
-        sequence,
-        ordinal,
-        train,
-        packet,
-    };
-    log_record::write(bytes, Entry::Sent(probe))
-}
-
-// The record of an `accept`. Where `pending` is 0 there is no pending packet, and time and tag are not looked at.
+// The record of an `accept`, over 96 lent bytes; 5 for another number of bytes. Where `pending` is 0 there is no pending packet, and time and tag are not looked at.
 #[no_mangle]
 pub extern "C" fn ambrulicciu_log_write_accept(
     bytes: &mut [u8],
