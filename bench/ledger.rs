@@ -14,9 +14,9 @@ use std::hint::black_box;
 
 const SECRET: [u32; 8] = [2654435761, 2246822519, 3266489917, 668265263, 374761393, 2166136261, 16777619, 2747636419];
 const FEW: u64 = 500;
-const FULL: u64 = 5000;
+pub const FULL: u64 = 5000;
 
-struct Ours {
+pub struct Ours {
     link: Link,
     answer: [u64; 6],
 }
@@ -26,11 +26,11 @@ impl Ours {
         Ours { link: Link::new(1, &SECRET), answer: [0; 6] }
     }
 
-    fn watched() -> Ours {
+    pub fn watched() -> Ours {
         Ours { link: Link::watched(1, &SECRET, 3, 1_000_000_000), ..Ours::new() }
     }
 
-    fn sent(&mut self, sequence: u32, ordinal: u32, tag: u64) {
+    pub fn sent(&mut self, sequence: u32, ordinal: u32, tag: u64) {
         let Link { ledger, rooms, watch } = &mut self.link;
         let number = match watch {
             None => calls::sent(ledger, &mut rooms.probes, &mut rooms.links, sequence, ordinal, 0, tag, tag),
@@ -41,7 +41,7 @@ impl Ours {
         assert_eq!(number, 0);
     }
 
-    fn accept(&mut self, sender: u32, reflector: u32, t3: u64) -> bool {
+    pub fn accept(&mut self, sender: u32, reflector: u32, t3: u64) -> bool {
         let Link { ledger, rooms: r, watch } = &mut self.link;
         let (keys, slots, probes, links) = (&mut r.keys, &mut r.slots, &mut r.probes, &mut r.links);
         let answer = &mut self.answer;
@@ -61,7 +61,7 @@ impl Ours {
         assert_eq!(calls::observe(ledger, &r.keys, &mut r.slots, &mut r.offsets, &mut r.links, told), 0);
     }
 
-    fn observe(&mut self, words: &[u64; 12]) {
+    pub fn observe(&mut self, words: &[u64; 12]) {
         self.hand_over(black_box(&told_of(words)));
     }
 
@@ -74,7 +74,7 @@ impl Ours {
 
 // What the observe of reply i is told, in plain words: numbers, T3, round trip, T4, reference, ordinal, counters in two words, the follow-up's
 // sequence and timestamp, 1 if there are no counters and no follow-up, the estimates as on the wire.
-fn words(sender: u32, i: u64, bare: bool) -> [u64; 12] {
+pub fn words(sender: u32, i: u64, bare: bool) -> [u64; 12] {
     let n = u64::from(i as u32);
     let timestamp = (1_790_000_000 << 32) + i % 1000;
     let (numbers, rtt, before) = (u64::from(sender) | n << 32, 20_000_000 + i % 1000, u64::from((i as u32).wrapping_sub(1)));
@@ -361,7 +361,7 @@ fn readers(table: &mut Table) {
     );
 }
 
-fn same(ours: &Ours, original: &Timed) {
+pub fn same(ours: &Ours, original: &Timed) {
     let (f, s) = (ours.link.snapshot(), original.snapshot());
     let counts = [s.requested_replies, s.unique_replies, s.duplicate_replies, s.unknown_replies, s.probes_evicted, s.replies_evicted, s.follow_up.matched];
     let shown = [f.requested, f.unique, f.duplicate, f.unknown, f.probes_evicted, f.replies_evicted, f.follow_up.matched];

@@ -2,6 +2,7 @@
 #![allow(dead_code)]
 
 mod ledger;
+mod links;
 mod monitor;
 mod numbers;
 mod quantiles;
@@ -31,9 +32,19 @@ pub mod tlv;
 
 fn main() {
     let mut table = table::Table::new();
-    if std::env::args().nth(1).as_deref() == Some("shapes") {
-        shapes::rows(&mut table);
-        return table.print();
+    let told: Vec<String> = std::env::args().skip(1).collect();
+    let number = |otherwise| told.get(1).and_then(|n| n.parse().ok()).unwrap_or(otherwise);
+    match told.first().map(String::as_str) {
+        Some("lines") => return links::lines(number(16)),
+        Some("links") => {
+            links::rows(&mut table, number(1000));
+            return table.print();
+        }
+        Some("shapes") => {
+            shapes::rows(&mut table);
+            return table.print();
+        }
+        _ => {}
     }
     ledger::rows(&mut table);
     monitor::rows(&mut table);

@@ -4,6 +4,7 @@ use std::time::Instant;
 
 pub struct Table {
     rows: Vec<(String, f64, Option<f64>)>,
+    notes: Vec<String>,
 }
 
 const TURNS: usize = 40;
@@ -25,13 +26,18 @@ fn machine() -> String {
 
 impl Table {
     pub fn new() -> Table {
-        Table { rows: Vec::new() }
+        Table { rows: Vec::new(), notes: Vec::new() }
     }
 
-    // How far it is, on standard error.
-    fn keep(&mut self, name: &str, ours: f64, original: Option<f64>) {
+    // A row: ns on either side. How far it is stands on standard error.
+    pub fn keep(&mut self, name: &str, ours: f64, original: Option<f64>) {
         self.rows.push((name.to_string(), ours, original));
         eprintln!("bench: {} rows: {name}", self.rows.len());
+    }
+
+    // A line behind the rows.
+    pub fn note(&mut self, text: String) {
+        self.notes.push(text);
     }
 
     // `times` calls a turn, the two in turns; `each` calls of the work are inside one call.
@@ -79,6 +85,9 @@ impl Table {
                 Some(b) => println!("| {name} | {} | {} | {:.2} |", shown(*a), shown(*b), a / b),
                 None => println!("| {name} | {} | it has none | |", shown(*a)),
             }
+        }
+        for note in &self.notes {
+            println!("{note}");
         }
     }
 }
