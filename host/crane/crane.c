@@ -6,26 +6,14 @@
  * The link is simulated: each direction turns one bit in 2,000, now and then a run. The reflector here counts as a real one does, by the
  * same call. What is printed is also held against a plain count of the bits that were turned.
  */
+#define EXAMPLE "crane"
 #include "../ambrulicciu.h"
+#include "../example.h"
 #include <stdio.h>
 #include <stdlib.h>
 #include <string.h>
 
 #define PADDING 1000
-
-static uint64_t seed = 1;
-
-static uint64_t drawn(void) {
-    seed = seed * 6364136223846793005u + 1442695040888963407u;
-    return seed >> 33;
-}
-
-static void must(uint8_t number) {
-    if (number) {
-        fprintf(stderr, "crane: refused %u\n", number);
-        exit(1);
-    }
-}
 
 /* Turns bits on the way; what was turned twice is as it was, so the bits are counted at the end. */
 static void carried(uint8_t *padding) {

@@ -6,7 +6,9 @@
  * The link is simulated: 2 ms each way and a tail, and a reflector whose clock is 20 ms ahead, so that the reverse delays are negative.
  * What is printed is also held against plain lists of the same samples.
  */
+#define EXAMPLE "spread"
 #include "../ambrulicciu.h"
+#include "../example.h"
 #include <math.h>
 #include <stdio.h>
 #include <stdlib.h>
@@ -19,19 +21,6 @@ __extension__ typedef unsigned __int128 wide;
 
 static uint64_t room[AMBRULICCIU_QUANTILES_ROOM];
 static uint64_t slice[AMBRULICCIU_DIRECTIONS_SLICE];
-static uint64_t seed = 1;
-
-static uint64_t drawn(void) {
-    seed = seed * 6364136223846793005u + 1442695040888963407u;
-    return seed >> 33;
-}
-
-static void must(uint8_t number) {
-    if (number) {
-        fprintf(stderr, "spread: refused %u\n", number);
-        exit(1);
-    }
-}
 
 static void same(const char *what, double shown, double plain) {
     if (fabs(shown - plain) > 1e-9 * fmax(fabs(plain), 1)) {
