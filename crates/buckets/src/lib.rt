@@ -11,12 +11,11 @@ const HALF: u64 = 9223372036854775808;
 
 const SIGNED_ZERO: usize = 7296;
 
-// The bit length less 8, not below 0.
+// The bit length less 8, not below 0: with bit 7 set a value below 128 has eight digits, and any other keeps its length. No comparison is left.
 fn bucket_shift(value: u64) -> u32
     ensures { λ r. ⌜ (r ≡ shiftOf value) × (r ≤ 56) × (value / 2 ^ r < 256) ⌝ }
 {
-    let length = 64 - u64::leading_zeros(value);
-    if length < 8 { 0 } else { length - 8 }
+    56 - u64::leading_zeros(value | 128)
 }
 
 // `magnitude_index`

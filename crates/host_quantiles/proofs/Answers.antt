@@ -1,18 +1,19 @@
 -- What the proofs of the calls cite: each case of the library's answer. Assumes nothing.
-use mathlib.Core.Path.{_≡_, refl, sym, ap, _∙_}
+use mathlib.Core.Path.{_≡_, refl, sym, ap, _∙_, subst}
 use mathlib.Core.Bool.{Bool, true, false, not}
 use borrow.Author.Tests.{ne-eqb}
 use mathlib.Core.List.{List}
-use Prim.Native.Nat.{ℕ, suc, _<_, _≤_}
+use Prim.Native.Nat.{ℕ, suc, _+_, _^_, _<_}
 use native.Mathlib.Omega.{arith}
 use lib.Ieee.{Float}
 use lib.ListN.{getD, set}
-use lib.Seq.{set-getD}
+use lib.Seq.{set-getD, getD-set-other}
 use Rattle.host_numbers.specs.Numbers.{flagWord, isSet}
 use Rattle.quantiles.specs.declared.Quantiles.{Quantiles}
 use Rattle.quantiles.specs.declared.Recording.{Recording}
 use Rattle.quantiles.specs.declared.Recording.the-variants as recording
 use Rattle.quantiles.specs.Record as record-call
+use Rattle.quantiles.specs.Between.{oneMore, Tried}
 use Rattle.quantiles.proofs.Determined.{refusal-changes-nothing}
 use Rattle.percentiles.specs.declared.Showing.{Showing}
 use Rattle.percentiles.specs.declared.Showing.the-variants as showing
@@ -81,12 +82,42 @@ kind-unsigned ws q is e = is ∙ ap (stateOf ws) (sym (ap isSet e))
 pub kind-signed : (ws : List ℕ) (q : Quantiles) → q ≡ stateOf ws true → (getD ws 0 0 ≡ 0 → ⊥) → q ≡ quantilesAt ws
 kind-signed ws q is n = is ∙ ap (stateOf ws) (sym (ap not (ne-eqb (getD ws 0 0) 0 n)))
 
--- which sample it is
-pub early : (ws : List ℕ) (q : Quantiles) (s : Bool) → q ≡ stateOf ws s → (getD ws 1 0 ≡ 0 → ⊥) → getD ws 1 0 < 4096 → (0 < q .count) × (q .count < 4096)
-early ws q s is n l = let e : q .count ≡ getD ws 1 0 = ap (λ (p : Quantiles). p .count) is in (omega arith, omega arith)
+-- a sample that changes neither the least nor the greatest leaves their words as they are
+one-more-words : (ws : List ℕ) → wordsWith ws (oneMore (quantilesAt ws)) ≡ set ws 1 (getD ws 1 0 + 1)
+one-more-words ws =
+    ap (λ (x : ℕ). set (set after 2 x) 3 (getD ws 3 0)) (sym (getD-set-other ws 1 2 (getD ws 1 0 + 1) 0 (λ e. two e)))
+    ∙ ap (λ (l : List ℕ). set l 3 (getD ws 3 0)) (set-getD after 2 0)
+    ∙ ap (λ (x : ℕ). set after 3 x) (sym (getD-set-other ws 1 3 (getD ws 1 0 + 1) 0 (λ e. three e)))
+    ∙ set-getD after 3 0
+  where
+    after : List ℕ
+    after = set ws 1 (getD ws 1 0 + 1)
 
-pub late : (ws : List ℕ) (q : Quantiles) (s : Bool) → q ≡ stateOf ws s → (getD ws 1 0 ≡ 4096 → ⊥) → 4096 ≤ getD ws 1 0 → 4096 < q .count
-late ws q s is n l = let e : q .count ≡ getD ws 1 0 = ap (λ (p : Quantiles). p .count) is in omega arith
+    two : _≡_ {A = ℕ} 2 1 → ⊥
+    two e = omega arith
+
+    three : _≡_ {A = ℕ} 3 1 → ⊥
+    three e = omega arith
+
+-- where a try took the sample, the count's word alone is what the call leaves
+pub record-tried : (ws room after recorded : List ℕ) (value : ℕ) (q : Quantiles) → q ≡ quantilesAt ws → (t : Bool) → t ≡ true → Tried t q room value after
+    → recordLeft 0 (set ws 1 (q .count + 1)) after (set recorded 0 1) ≡ recordTo ws room value recorded
+unfolding record-call.outcome
+record-tried ws room after recorded value q is t was tried =
+    ap (λ (p : Quantiles). recordLeft 0 (set ws 1 (p .count + 1)) after (set recorded 0 1)) is
+    ∙ ap (λ (l : List ℕ). recordLeft 0 l after (set recorded 0 1)) (sym (one-more-words ws))
+    ∙ ap (λ (p : Quantiles). recordLeft 0 (wordsWith ws (oneMore p)) after (set recorded 0 1)) (sym is)
+    ∙ record-counted ws room after recorded value q (recording.Counted (oneMore q)) is (subst (λ (b : Bool). Tried b q room value after) was tried .1) (oneMore q) refl
+
+-- and the count has room for it
+pub tried-fits : (q : Quantiles) (room after : List ℕ) (value : ℕ) (t : Bool) → t ≡ true → Tried t q room value after → q .count + 1 < 2 ^ 64
+tried-fits q room after value t was tried = subst (λ (b : Bool). Tried b q room value after) was tried .0
+
+-- where it did not, the room is as it was
+pub not-tried : (ws room after recorded : List ℕ) (value n : ℕ) (words left answered : List ℕ) (q : Quantiles) (t : Bool) → t ≡ false → Tried t q room value after
+    → recordLeft n words left answered ≡ recordTo ws after value recorded → recordLeft n words left answered ≡ recordTo ws room value recorded
+not-tried ws room after recorded value n words left answered q t was tried e =
+    e ∙ ap (λ (r : List ℕ). recordTo ws r value recorded) (subst (λ (b : Bool). Tried b q room value after) was tried)
 
 -- ---- percentiles
 

@@ -74,8 +74,8 @@ fn record_any(quantiles: &mut [u64; 4], room: &mut [u64], value: u64, recorded: 
 }
 
 // One sample more: `recorded` has 1; or 0 at a count of 2^64-1, and then nothing else changes.
-// The first sample and sample 4,097 are left to `record_any`, which stands by itself in the compiled code since two places call it; the others
-// go a way that is short for each kind.
+// A sample between the least and the greatest so far goes a way that is short for each kind, and writes the count alone. Any other is left to
+// `record_any`, which stands by itself in the compiled code since two places call it.
 #[no_mangle]
 pub extern "C" fn ambrulicciu_quantiles_record(
     quantiles: &mut [u64; 4],
@@ -85,29 +85,22 @@ pub extern "C" fn ambrulicciu_quantiles_record(
 ) -> u8
     ensures { λ r. ⌜ recordLeft r (now (quantiles .exit)) (now (room .exit)) (now (recorded .exit)) ≡ recordTo (now (quantiles .entry)) (now (room .entry)) value (now (recorded .entry)) ⌝ }
 {
-    let count = quantiles[1];
-    if count == 0 {
-        return record_any(quantiles, room, value, recorded);
-    }
-    if count == 4096 {
-        return record_any(quantiles, room, value, recorded);
-    }
     if quantiles[0] == 0 {
         let state = state_of(quantiles, false);
-        if count < 4096 {
-            let answer = state.record_sample(room, value);
-            return keep(quantiles, recorded, answer);
+        if state.record_between(room, value) {
+            quantiles[1] = state.count + 1;
+            recorded[0] = 1;
+            return 0;
         }
-        let answer = state.record_later(room, value);
-        return keep(quantiles, recorded, answer);
+        return record_any(quantiles, room, value, recorded);
     }
     let state = state_of(quantiles, true);
-    if count < 4096 {
-        let answer = state.record_sample(room, value);
-        return keep(quantiles, recorded, answer);
+    if state.record_between(room, value) {
+        quantiles[1] = state.count + 1;
+        recorded[0] = 1;
+        return 0;
     }
-    let answer = state.record_later(room, value);
-    keep(quantiles, recorded, answer)
+    record_any(quantiles, room, value, recorded)
 }
 
 // The value of each percentile, in the word of `shown` that has its place: `present` has 1; or 0 without samples, and then `shown` stays.

@@ -1,7 +1,7 @@
 // `Quantiles` of src/stats/quantiles.rs: its state by value, and `record`. `Storage` is a lent room of u64 words: 4,096 samples,
 // then the buckets, then a total for each block of 128 buckets. The type parameter is the flag `signed`, and an i64 is its two's complement word.
 ghost use mathlib.Core.Path.{_≡_};
-ghost use mathlib.Core.Bool.{false};
+ghost use mathlib.Core.Bool.{true, false};
 ghost use mathlib.Core.List.{_++_};
 ghost use Prim.Native.Nat.{_+_, _-_, _/_, _<_, _≤_, _^_};
 ghost use lib.ListN.{length, getD, set, take, drop, replicate};
@@ -11,6 +11,10 @@ ghost use Rattle.buckets.specs.Signed.{bucketCount, order, indexOf};
 ghost use Rattle.histogram.specs.Histogram.{bumped};
 ghost use Rattle.quantiles.specs.State.{roomSize, samples, buckets as bucketsOf, totals, crossed};
 ghost use Rattle.quantiles.specs.Record.{outcome, recorded, grown, filledBuckets, filledTotals};
+ghost use Rattle.quantiles.specs.Between.{between, Tried};
+
+// A count that has no room for one more.
+const MOST: u64 = 18446744073709551615;
 
 // How many samples were recorded, and the least and the greatest of them. At count 0 there is none, whatever `min` and `max` hold.
 pub struct Quantiles {
@@ -178,6 +182,50 @@ fn add_later(q: Quantiles, room: &mut [u64], value: u64) -> Recording
     Recording::Counted(grow(q, value))
 }
 
+// Whether a value changes neither the least nor the greatest.
+fn is_between(q: Quantiles, value: u64) -> bool
+    ensures { λ r. ⌜ r ≡ between q value ⌝ }
+{
+    let low = buckets::ordered(q.signed, q.min);
+    let is = buckets::ordered(q.signed, value);
+    let high = buckets::ordered(q.signed, q.max);
+    (low <= is) & (is <= high)
+}
+
+// Tries a sample of the exact mode.
+fn try_sample(q: Quantiles, room: &mut [u64], value: u64) -> bool
+    requires { ⌜ (between q value ≡ true) × (0 < q .count) × (q .count < 4096) ⌝ }
+    ensures { λ r. ⌜ Tried r q (now (room .entry)) value (now (room .exit)) ⌝ }
+{
+    if room.len() != room_size(q.signed) {
+        return false;
+    }
+    let behind = q.count as usize;
+    room[behind] = value;
+    true
+}
+
+// Tries a sample of a histogram: its bucket and its block have one more, unless one of them is full.
+fn try_later(q: Quantiles, room: &mut [u64], value: u64) -> bool
+    requires { ⌜ (between q value ≡ true) × (4096 < q .count) × (q .count + 1 < 2 ^ 64) ⌝ }
+    ensures { λ r. ⌜ Tried r q (now (room .entry)) value (now (room .exit)) ⌝ }
+{
+    if room.len() != room_size(q.signed) {
+        return false;
+    }
+    let place = buckets::bucket_of(q.signed, value);
+    let at = scope::CAPACITY + place;
+    let block = totals_start(q.signed) + place / 128;
+    if room[at] == MOST {
+        return false;
+    }
+    if room[block] == MOST {
+        return false;
+    }
+    count_in(q.signed, room, place);
+    true
+}
+
 impl Quantiles {
     // `record` of the first sample, which is the least and the greatest.
     fn record_first(self, room: &mut [u64], value: u64) -> Recording
@@ -197,7 +245,7 @@ impl Quantiles {
     }
 
     // `record` of a sample of the exact mode, not the first.
-    pub fn record_sample(self, room: &mut [u64], value: u64) -> Recording
+    fn record_sample(self, room: &mut [u64], value: u64) -> Recording
         requires { ⌜ (0 < self .count) × (self .count < 4096) ⌝ }
         ensures { λ r. ⌜ outcome self r (now (room .exit)) ≡ recorded self (now (room .entry)) value ⌝ }
     {
@@ -225,7 +273,7 @@ impl Quantiles {
     }
 
     // `record` of a later sample.
-    pub fn record_later(self, room: &mut [u64], value: u64) -> Recording
+    fn record_later(self, room: &mut [u64], value: u64) -> Recording
         requires { ⌜ 4096 < self .count ⌝ }
         ensures { λ r. ⌜ outcome self r (now (room .exit)) ≡ recorded self (now (room .entry)) value ⌝ }
     {
@@ -238,8 +286,24 @@ impl Quantiles {
         add_later(self, room, value)
     }
 
-    // `record`: one sample more, in the room that holds the others. A caller that is to be fast asks for `record_sample` or `record_later` itself,
-    // with a flag that the compiler knows, and for this only at the first sample and at sample 4,097.
+    // `record` of a sample that changes neither the least nor the greatest, where it is not the first and not sample 4,097; any other is left
+    // alone. A minimum that is not above the sample, and a maximum that is not below it, are in order: no test of its own is left of that.
+    pub fn record_between(self, room: &mut [u64], value: u64) -> bool
+        ensures { λ r. ⌜ Tried r self (now (room .entry)) value (now (room .exit)) ⌝ }
+    {
+        if is_between(self, value) {
+            if (4096 < self.count) & (self.count < MOST) {
+                return try_later(self, room, value);
+            }
+            if (0 < self.count) & (self.count < 4096) {
+                return try_sample(self, room, value);
+            }
+        }
+        false
+    }
+
+    // `record`: one sample more, in the room that holds the others. A caller that is to be fast asks for `record_between` first, with a flag that
+    // the compiler knows, and for this where that took nothing.
     pub fn record(self, room: &mut [u64], value: u64) -> Recording
         ensures { λ r. ⌜ outcome self r (now (room .exit)) ≡ recorded self (now (room .entry)) value ⌝ }
     {

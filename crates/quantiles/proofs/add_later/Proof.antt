@@ -10,29 +10,12 @@ use Rattle.buckets.specs.Signed.{bucketCount, indexOf}
 use Rattle.histogram.specs.Histogram.{bumped}
 use Rattle.quantiles.specs.State.{roomSize, samples, buckets, totals, blockOf}
 use Rattle.quantiles.specs.Record.{outcome, taken}
-use Rattle.quantiles.proofs.Parts.{bucket-word, total-word}
-use Rattle.quantiles.proofs.Tally.{parts-in, total-in}
+use Rattle.quantiles.proofs.Tally.{total-in}
+use Rattle.quantiles.proofs.Places.{bucket-is, total-is, value-bucket, value-total, up}
 use Rattle.quantiles.proofs.Ways.{way-passes, way-block-passes, way-full, way-later}
 use borrow.Author.Needs.{needs}
 use Rattle.quantiles.proofs.add_later.Statement.{statement}
 use Rattle.quantiles.proofs.add_later.Tie as tie
-
--- the words that the code reads are those of the value's bucket and of its block
-module _ (s : Bool) (room : List ℕ) (v place start : ℕ) (h : length room ≡ roomSize s) (is : place ≡ indexOf s v) (below : place < bucketCount s) (at : start ≡ 4096 + bucketCount s) where
-  bucket-is : getD (buckets s room) place 0 ≡ getD room (4096 + place) 0
-  bucket-is = bucket-word 4096 (bucketCount s) room (parts-in s (length room) h) place below
-
-  total-is : getD (totals s room) (place / 128) 0 ≡ getD room (start + place / 128) 0
-  total-is = total-word 4096 (bucketCount s) room (parts-in s (length room) h) (place / 128) ∙ ap (λ (k : ℕ). getD room (k + place / 128) 0) (sym at)
-
-  value-bucket : getD (buckets s room) (indexOf s v) 0 ≡ getD room (4096 + place) 0
-  value-bucket = ap (λ (k : ℕ). getD (buckets s room) k 0) (sym is) ∙ bucket-is
-
-  value-total : getD (totals s room) (blockOf s v) 0 ≡ getD room (start + place / 128) 0
-  value-total = ap (λ (k : ℕ). getD (totals s room) (k / 128) 0) (sym is) ∙ total-is
-
-up : (x y : ℕ) → y ≡ x → x < 2 ^ 64 → (x ≡ 2 ^ 64 - 1 → ⊥) → y + 1 < 2 ^ 64
-up x y e l n = omega arith
 
 bucket-of-requires : tie.Need-bucket-of-requires
 bucket-of-requires c κs = search needs
