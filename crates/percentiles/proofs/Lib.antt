@@ -4,3 +4,4 @@ pub mod Ways
 pub mod Determined
 pub mod Blocks
 pub mod Examples
+pub mod Adds

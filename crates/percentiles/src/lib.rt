@@ -22,13 +22,33 @@ pub enum Showing {
     Shown,
 }
 
+// Whether counts add up to a number. One sum modulo 2^64 tells it where no count is large, with one addition a count; otherwise the sum is exact.
+fn add_up(counts: &[u64], number: u64) -> bool
+    requires { ⌜ length (now counts) ≤ 65536 ⌝ }
+    ensures { λ r. ⌜ r ≡ eqb (total (now (counts .entry))) number ⌝ }
+{
+    let mut sum: u64 = 0;
+    let mut any: u64 = 0;
+    let mut i = 0;
+    while i < counts.len() {
+        let here = counts[i];
+        sum = std::num::wrapping_add_u64(sum, here);
+        any = any | here;
+        i += 1;
+    }
+    if any < 281474976710656 {
+        return sum == number;
+    }
+    histogram::total_is(counts, number)
+}
+
 // Whether the totals add up to the count.
 fn totals_are(q: Quantiles, room: &[u64]) -> bool
     requires { ⌜ length (now room) ≡ roomSize (q .signed) ⌝ }
     ensures { λ r. ⌜ r ≡ eqb (total (totals (q .signed) (now (room .entry)))) (q .count) ⌝ }
 {
     let start = quantiles::totals_start(q.signed);
-    histogram::total_is(&room[start..], q.count)
+    add_up(&room[start..], q.count)
 }
 
 // The block that holds a rank.
@@ -61,7 +81,7 @@ fn block_lies(signed: bool, room: &[u64], k: usize) -> bool
     let from = 4096 + 128 * k;
     let end = block_end(signed, from);
     let at = quantiles::totals_start(signed) + k;
-    let whole = histogram::total_is(&room[from..end], room[at]);
+    let whole = add_up(&room[from..end], room[at]);
     if signed & (k == 114) {
         return !whole | (room[18688] != 0);
     }

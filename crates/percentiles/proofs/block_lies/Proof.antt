@@ -27,26 +27,26 @@ totals-start-requires c κs = search needs
 add-at : tie.Need-add-at
 add-at c = search needs
 
-mul-total-is : tie.Need-mul-total-is
-mul-total-is c = search needs
+mul-add-up : tie.Need-mul-add-up
+mul-add-up c = search needs
 
-sub-total-is : tie.Need-sub-total-is
-sub-total-is c = search needs
+sub-add-up : tie.Need-sub-add-up
+sub-add-up c = search needs
 
-part-total-is-start : tie.Need-part-total-is-start
-part-total-is-start c = search needs
+part-add-up-start : tie.Need-part-add-up-start
+part-add-up-start c = search needs
 
-part-total-is-end : tie.Need-part-total-is-end
-part-total-is-end c = search needs
+part-add-up-end : tie.Need-part-add-up-end
+part-add-up-end c = search needs
 
-mul-total-is-2 : tie.Need-mul-total-is-2
-mul-total-is-2 c = search needs
+mul-add-up-2 : tie.Need-mul-add-up-2
+mul-add-up-2 c = search needs
 
-shared-slice-read-total-is : tie.Need-shared-slice-read-total-is
-shared-slice-read-total-is c = search needs
+shared-slice-read-add-up : tie.Need-shared-slice-read-add-up
+shared-slice-read-add-up c = search needs
 
-total-is-requires : tie.Need-total-is-requires
-total-is-requires c κs =
+add-up-requires : tie.Need-add-up-requires
+add-up-requires c κs =
     let a = c .before .before .before .before .before .args in
     let e = c .before .before .before .block-end in
     subst (λ (l : List ℕ). length l ≤ 65536) (sym (lent-block (a .signed) (now (a .room)) (a .k) (e .result) (c .before .before .before .before .before .pre .0) (c .before .before .before .before .before .pre .1) (e .ensures .0)))
@@ -61,8 +61,8 @@ returns c =
     let p = c .before .before .before .before .before .before .before .before .pre in
     let e = c .before .before .before .before .before .before .block-end in
     let t = c .before .before .before .before .before .totals-start in
-    lies-last (a .signed) (now (a .room)) (a .k) (c .before .before .total-is .result)
-    (c .before .before .total-is .ensures ∙ ap₂ (λ (l : List ℕ) (n : ℕ). eqb (total l) n) (lent-block (a .signed) (now (a .room)) (a .k) (e .result) (p .0) (p .1) (e .ensures .0)) (sym (block-word (a .signed) (now (a .room)) (a .k) (t .result) (p .0) (t .ensures))))
+    lies-last (a .signed) (now (a .room)) (a .k) (c .before .before .add-up .result)
+    (c .before .before .add-up .ensures ∙ ap₂ (λ (l : List ℕ) (n : ℕ). eqb (total l) n) (lent-block (a .signed) (now (a .room)) (a .k) (e .result) (p .0) (p .1) (e .ensures .0)) (sym (block-word (a .signed) (now (a .room)) (a .k) (t .result) (p .0) (t .ensures))))
     (c .before .if1 .taken) (p .0)
 
 returns-2 : tie.Need-returns-2
@@ -71,8 +71,8 @@ returns-2 c =
     let p = c .before .before .before .before .before .before .before .pre in
     let e = c .before .before .before .before .before .block-end in
     let t = c .before .before .before .before .totals-start in
-    lies-other (a .signed) (now (a .room)) (a .k) (c .before .total-is .result)
-    (c .before .total-is .ensures ∙ ap₂ (λ (l : List ℕ) (n : ℕ). eqb (total l) n) (lent-block (a .signed) (now (a .room)) (a .k) (e .result) (p .0) (p .1) (e .ensures .0)) (sym (block-word (a .signed) (now (a .room)) (a .k) (t .result) (p .0) (t .ensures))))
+    lies-other (a .signed) (now (a .room)) (a .k) (c .before .add-up .result)
+    (c .before .add-up .ensures ∙ ap₂ (λ (l : List ℕ) (n : ℕ). eqb (total l) n) (lent-block (a .signed) (now (a .room)) (a .k) (e .result) (p .0) (p .1) (e .ensures .0)) (sym (block-word (a .signed) (now (a .room)) (a .k) (t .result) (p .0) (t .ensures))))
     (c .if1 .left)
 
 pub block-lies-spec : {M : Type 1} → statement M
@@ -84,13 +84,13 @@ block-lies-spec =
     block-end-requires
     totals-start-requires
     add-at
-    mul-total-is
-    sub-total-is
-    part-total-is-start
-    part-total-is-end
-    mul-total-is-2
-    shared-slice-read-total-is
-    total-is-requires
+    mul-add-up
+    sub-add-up
+    part-add-up-start
+    part-add-up-end
+    mul-add-up-2
+    shared-slice-read-add-up
+    add-up-requires
     shared-slice-read-result
     returns
     returns-2)

@@ -14,36 +14,36 @@ use Rattle.percentiles.proofs.totals_are.Tie as tie
 totals-start-requires : tie.Need-totals-start-requires
 totals-start-requires c κs = search needs
 
-mul-total-is : tie.Need-mul-total-is
-mul-total-is c = search needs
+mul-add-up : tie.Need-mul-add-up
+mul-add-up c = search needs
 
-sub-total-is : tie.Need-sub-total-is
-sub-total-is c = search needs
+sub-add-up : tie.Need-sub-add-up
+sub-add-up c = search needs
 
-part-total-is-start : tie.Need-part-total-is-start
-part-total-is-start c = search needs
+part-add-up-start : tie.Need-part-add-up-start
+part-add-up-start c = search needs
 
-part-total-is-end : tie.Need-part-total-is-end
-part-total-is-end c = search needs
+part-add-up-end : tie.Need-part-add-up-end
+part-add-up-end c = search needs
 
-total-is-requires : tie.Need-total-is-requires
-total-is-requires c κs =
+add-up-requires : tie.Need-add-up-requires
+add-up-requires c κs =
     let a = c .before .before .before .args in
     subst (λ (n : ℕ). n ≤ 65536) (sym (ap length (lent-totals (a .q .signed) (now (a .room)) (c .before .totals-start .result) (c .before .totals-start .ensures)) ∙ totals-length (a .q .signed) (now (a .room)) (c .before .before .before .pre))) (few-blocks (a .q .signed))
 
 returns : tie.Need-returns
 returns c =
     let a = c .before .before .before .before .args in
-    c .total-is .ensures ∙ ap (λ (l : List ℕ). eqb (total l) (a .q .count)) (lent-totals (a .q .signed) (now (a .room)) (c .before .before .totals-start .result) (c .before .before .totals-start .ensures))
+    c .add-up .ensures ∙ ap (λ (l : List ℕ). eqb (total l) (a .q .count)) (lent-totals (a .q .signed) (now (a .room)) (c .before .before .totals-start .result) (c .before .before .totals-start .ensures))
 
 pub totals-are-spec : {M : Type 1} → statement M
 totals-are-spec =
     tie.close
     (tie.spec
     totals-start-requires
-    mul-total-is
-    sub-total-is
-    part-total-is-start
-    part-total-is-end
-    total-is-requires
+    mul-add-up
+    sub-add-up
+    part-add-up-start
+    part-add-up-end
+    add-up-requires
     returns)
