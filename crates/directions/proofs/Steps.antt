@@ -8,7 +8,7 @@ use borrow.Author.Tests.{lt-ltb, le-ltb}
 use borrow.Rule.Slice.PartMut.{same-len-mid}
 use lib.Dec.{T, ltb, ltb→lt}
 use lib.IntN.{ℤ, _+ℤ_}
-use lib.ListN.{length, take, drop, length-drop}
+use lib.ListN.{length, take, drop, length-drop, take-append-drop}
 use lib.Seq.{length-take-le, take-at, drop-at, drop-drop}
 use mir.Syntax.{w64}
 use mir.Val.{toZ}
@@ -20,11 +20,15 @@ use Rattle.delays.specs.declared.Sum.{Sum}
 use Rattle.delays.specs.Sums.{valueOf, nanosecondsOf, totalOf, sumOf}
 use Rattle.delays.specs.Shown.{value-back}
 use Rattle.quantiles.specs.declared.Quantiles.{Quantiles}
+use Rattle.quantiles.specs.declared.Recording.the-variants as quantile-answer
 use Rattle.quantiles.specs.Record as quantile-record
+use Rattle.quantiles.specs.Record.{taken, recorded}
+use Rattle.quantiles.specs.Between.{oneMore, Tried}
 use Rattle.series.specs.declared.Sampling.{Sampling}
 use Rattle.series.specs.declared.Sampling.the-variants as sampling
 use Rattle.series.specs.Series as series
 use Rattle.series.proofs.Determined.{taken-fits}
+use Rattle.series.proofs.Ways.{way-fits}
 use Rattle.directions.specs.declared.OwdDirection.{OwdDirection}
 use Rattle.directions.specs.declared.Directions.{Directions}
 use Rattle.directions.specs.declared.Recording.{Recording}
@@ -34,6 +38,7 @@ use Rattle.directions.specs.declared.Measuring.the-variants as measuring
 use Rattle.directions.specs.Direction.{grownOf, left, Outcome, outcome, recordTo}
 use Rattle.directions.specs.Directions as both
 use Rattle.directions.specs.Directions.{partSize, startOf, putAt, Untouched, recordPart, recordOwn, own, outcomeBoth, inBoth, recordIn}
+use Rattle.directions.specs.Tried.{TriedOwn}
 
 -- ---- one sample more
 
@@ -147,6 +152,10 @@ module _ (d : OwdDirection) (slice : List ℕ) (start v : ℕ) where
       ∙ put-outcome r part
       ∙ ap in-slice (got ∙ ap (λ (n : ℕ). recordTo d (take n (drop start slice)) v) is)
 
+pub start-small : (reverse : Bool) (start : ℕ) → start ≡ startOf reverse → start ≤ partSize
+start-small false start e = omega (arith, e)
+start-small true start e = omega (arith, e)
+
 -- ---- the ways through `record` of a direction in its part
 
 untouched-all : (start : ℕ) (slice : List ℕ) → Untouched start slice slice
@@ -175,6 +184,35 @@ module _ (d : OwdDirection) (slice : List ℕ) (reverse : Bool) (v : ℕ) where
 pub part-fits : (reverse : Bool) (size start n : ℕ) → size ≡ partSize → start ≡ startOf reverse → size + size ≤ n → start + partSize ≤ n
 part-fits false size start n is from h = omega (arith, is, from, h)
 part-fits true size start n is from h = omega (arith, is, from, h)
+
+-- ---- a try
+
+-- a part that was lent on and comes back as it was
+back-again : (start k : ℕ) (slice part : List ℕ) → part ≡ take k (drop start slice) → take start slice ++ (part ++ drop k (drop start slice)) ≡ slice
+back-again start k slice part e =
+    ap (λ (l : List ℕ). take start slice ++ (l ++ drop k (drop start slice))) e
+    ∙ ap (λ (l : List ℕ). take start slice ++ l) (take-append-drop k (drop start slice))
+    ∙ take-append-drop start slice
+
+module _ (d : OwdDirection) (slice : List ℕ) (reverse : Bool) (v size start k : ℕ) (part : List ℕ) (fit : series.sumFits (d .sum) ≡ true) (sized : size ≡ partSize) (from : start ≡ startOf reverse)
+    (long : size + size ≤ length slice) (is : k ≡ partSize) (same : length part ≡ length (take k (drop start slice))) where
+  -- the sample was taken: as `record` of the direction does it, with its sum
+  took : taken (oneMore (d .quantiles)) part ≡ recorded (d .quantiles) (take k (drop start slice)) v
+      → left 0 true (grownOf d (oneMore (d .quantiles)) v) part ≡ recordTo d (take k (drop start slice)) v
+  unfolding quantile-record.outcome
+  took got =
+      way-counted d (take k (drop start slice)) v part true (sampling.Counted (oneMore (d .quantiles))) (sym fit)
+      (way-fits (d .quantiles) (take k (drop start slice)) v (quantile-answer.Counted (oneMore (d .quantiles))) (quantile-answer.Counted (oneMore (d .quantiles))) part true refl got refl)
+      (oneMore (d .quantiles)) (grownOf d (oneMore (d .quantiles)) v) refl refl
+
+  pub tried-own : (t : Bool) → Tried t (d .quantiles) (take k (drop start slice)) v part
+      → TriedOwn t d slice reverse v (take start slice ++ (part ++ drop k (drop start slice)))
+  unfolding outcome
+  tried-own false e = back-again start k slice part e
+  tried-own true e =
+      let w = way-part d slice reverse v size start (recording.Counted (grownOf d (oneMore (d .quantiles)) v)) (take start slice ++ (part ++ drop k (drop start slice))) sized from long
+      (part-left d slice start v k (recording.Counted (grownOf d (oneMore (d .quantiles)) v)) part is (took (e .1)), put-untouched start k slice part is (part-fits reverse size start (length slice) sized from long) same) in
+      (e .0, w .0, w .1)
 
 -- ---- and of both
 

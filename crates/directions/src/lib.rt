@@ -10,6 +10,7 @@ ghost use lib.ListN.{length};
 ghost use Rattle.series.specs.Series.{sumFits};
 ghost use Rattle.directions.specs.Direction.{fresh, grownOf, outcome, recordTo};
 ghost use Rattle.directions.specs.Directions.{partSize, startOf, own, withOwn, recordPart, recordOwn, Untouched, freshBoth, outcomeBoth, recordIn};
+ghost use Rattle.directions.specs.Tried.{TriedOwn};
 
 pub struct OwdDirection {
     pub quantiles: Quantiles,
@@ -108,6 +109,22 @@ pub fn record_own(own: OwdDirection, slice: &mut [u64], reverse: bool, value: u6
     }
     let start = start_of(reverse);
     record_part(own, slice, start, value)
+}
+
+// Tries a sample that changes neither the least nor the greatest, in its direction's part of the slice; the sum is the caller's. Any other is left
+// to `record_own`.
+pub fn try_own(own: OwdDirection, slice: &mut [u64], reverse: bool, value: u64) -> bool
+    requires { ⌜ sumFits (own .sum) ≡ true ⌝ }
+    ensures { λ r. ⌜ TriedOwn r own (now (slice .entry)) reverse value (now (slice .exit)) ⌝ }
+{
+    let size = quantiles::room_size(true);
+    if slice.len() < size + size {
+        return false;
+    }
+    let quantiles = own.quantiles;
+    let start = start_of(reverse);
+    let end = start + size;
+    quantiles.record_between(&mut slice[start..end], value)
 }
 
 // The forward direction is T2 - T1, from sender to reflector; the reverse T4 - T3.

@@ -1,8 +1,8 @@
 -- Both directions in twelve lent words, six each. Assumes nothing.
 use mathlib.Core.Bool.{Bool, true, false}
 use mathlib.Core.List.{List, [], _∷_}
-use Prim.Native.Nat.{ℕ}
-use lib.ListN.{getD}
+use Prim.Native.Nat.{ℕ, _+_}
+use lib.ListN.{getD, set}
 use Rattle.host_numbers.specs.Numbers.{flagWord, isSet}
 use Rattle.directions.specs.declared.OwdDirection.{OwdDirection}
 use Rattle.directions.specs.declared.Directions.{Directions}
@@ -37,3 +37,7 @@ directionsWords ds =
     ∷ flagWord (ds .forward .sum .negative) ∷ ds .forward .sum .high ∷ ds .forward .sum .low
     ∷ ds .reverse .quantiles .count ∷ ds .reverse .quantiles .min ∷ ds .reverse .quantiles .max
     ∷ flagWord (ds .reverse .sum .negative) ∷ ds .reverse .sum .high ∷ ds .reverse .sum .low ∷ []
+
+-- the words with other words for a direction's count and sum; its least and its greatest stay
+abbrev pub moreWords : List ℕ → ℕ → ℕ → Bool → ℕ → ℕ → List ℕ
+moreWords ws at count negative high low = set (set (set (set ws at count) (at + 3) (flagWord negative)) (at + 4) high) (at + 5) low

@@ -11,7 +11,7 @@ ghost use Prim.Native.Nat.{_≤_};
 ghost use lib.Seq.{sets};
 ghost use Rattle.directions.specs.Directions.{startOf, own, Untouched};
 ghost use Rattle.host_numbers.specs.Numbers.{isSet};
-ghost use Rattle.host_directions.specs.Words.{directionsAt, wordsStart, directionWords, directionsWords};
+ghost use Rattle.host_directions.specs.Words.{directionsAt, wordsStart, directionWords, directionsWords, moreWords};
 ghost use Rattle.host_directions.specs.Calls.{wordsLeft, freshTo, recordLeft, recordTo, showTo};
 
 fn store(words: &mut [u64; 12], directions: Directions)
@@ -67,6 +67,18 @@ fn load_own(words: &[u64; 12], reverse: bool) -> OwdDirection
     }
 }
 
+// Its sum alone.
+fn load_sum(words: &[u64; 12], reverse: bool) -> Sum
+    ensures { λ r. ⌜ r ≡ own (directionsAt (now (words .entry))) reverse .sum ⌝ }
+{
+    let at = words_start(reverse);
+    Sum {
+        negative: words[at + 3] != 0,
+        high: words[at + 4],
+        low: words[at + 5],
+    }
+}
+
 // Its six words alone; the other direction's stay.
 fn store_own(words: &mut [u64; 12], reverse: bool, own: OwdDirection)
     ensures { λ _. ⌜ now (words .exit) ≡ sets (now (words .entry)) (wordsStart reverse) (directionWords own) ⌝ }
@@ -80,9 +92,19 @@ fn store_own(words: &mut [u64; 12], reverse: bool, own: OwdDirection)
     words[at + 5] = own.sum.low;
 }
 
-// One sample of a direction: `recorded` has 1; or 0 at a count of 2^64-1, and then nothing else changes. The other direction's words stay.
-#[no_mangle]
-pub extern "C" fn ambrulicciu_directions_record(
+// What a sample leaves of a direction's words that changes neither its least nor its greatest, nor the sign of its sum.
+fn store_more(words: &mut [u64; 12], reverse: bool, count: u64, negative: bool, high: u64, low: u64)
+    ensures { λ _. ⌜ now (words .exit) ≡ moreWords (now (words .entry)) (wordsStart reverse) count negative high low ⌝ }
+{
+    let at = words_start(reverse);
+    words[at] = count;
+    words[at + 3] = host_numbers::flag(negative);
+    words[at + 4] = high;
+    words[at + 5] = low;
+}
+
+// Any sample.
+fn record_any(
     directions: &mut [u64; 12],
     slice: &mut [u64],
     reverse: u32,
@@ -107,6 +129,61 @@ pub extern "C" fn ambrulicciu_directions_record(
             0
         }
     }
+}
+
+// One sample of a direction: `recorded` has 1; or 0 at a count of 2^64-1, and then nothing else changes. The other direction's words stay.
+// A sample between the least and the greatest so far, after which the sum has the sign it had, goes a way that is short for each direction. Any
+// other is left to `record_any`, which stands by itself in the compiled code since more than one place calls it.
+#[no_mangle]
+pub extern "C" fn ambrulicciu_directions_record(
+    directions: &mut [u64; 12],
+    slice: &mut [u64],
+    reverse: u32,
+    value: u64,
+    recorded: &mut [u64; 1],
+) -> u8
+    ensures { λ r. ⌜ (recordLeft r (now (directions .exit)) (now (slice .exit)) (now (recorded .exit)) ≡ recordTo (now (directions .entry)) (now (slice .entry)) reverse value (now (recorded .entry))) × Untouched (startOf (isSet reverse)) (now (slice .entry)) (now (slice .exit)) ⌝ }
+{
+    if reverse == 0 {
+        let before = load_sum(directions, false);
+        let sum = series::try_sum(before, value);
+        if sum.kept {
+            let own = load_own(directions, false);
+            if directions::try_own(own, slice, false, value) {
+                store_more(
+                    directions,
+                    false,
+                    own.quantiles.count + 1,
+                    before.negative,
+                    sum.high,
+                    sum.low,
+                );
+                recorded[0] = 1;
+                return 0;
+            }
+            return record_any(directions, slice, reverse, value, recorded);
+        }
+        return record_any(directions, slice, reverse, value, recorded);
+    }
+    let before = load_sum(directions, true);
+    let sum = series::try_sum(before, value);
+    if sum.kept {
+        let own = load_own(directions, true);
+        if directions::try_own(own, slice, true, value) {
+            store_more(
+                directions,
+                true,
+                own.quantiles.count + 1,
+                before.negative,
+                sum.high,
+                sum.low,
+            );
+            recorded[0] = 1;
+            return 0;
+        }
+        return record_any(directions, slice, reverse, value, recorded);
+    }
+    record_any(directions, slice, reverse, value, recorded)
 }
 
 // Minimum, average and maximum of a direction in ms; any words are shown. A value that is not there is 0, with a 0 before it.

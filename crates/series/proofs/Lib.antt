@@ -1,3 +1,4 @@
-mod Ways
+pub mod Ways
 mod Spans
 pub mod Determined
+pub mod Kept

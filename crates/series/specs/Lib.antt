@@ -1,2 +1,3 @@
 pub mod Series
 pub mod Shown
+pub mod Step
