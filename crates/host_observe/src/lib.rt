@@ -20,6 +20,7 @@ ghost use Rattle.follow_ups.specs.Bounds as follow_ups;
 ghost use Rattle.follow_ups.specs.Followed.{counted, followed};
 ghost use Rattle.ledger_steps.specs.Refusals.{refusalOfObserve};
 ghost use Rattle.ledger_checks.specs.Sound.{SoundObserve};
+ghost use Rattle.host_observation.specs.Observation.{observationAt};
 ghost use Rattle.ledger_steps.specs.Observe.{directIn, followIn, observeOn};
 ghost use Rattle.host_ledger.specs.Parts.{delaysAt, delaysWords, directAt, followAt, followCountsWords, followWords};
 ghost use Rattle.host_ledger.specs.Words.{ledgerAt};
@@ -43,7 +44,9 @@ fn refusal(
     offsets: usize,
     links: usize,
     told: ReplyObservation,
+    words: &[u32; 24],
 ) -> u8
+    requires { ⌜ told ≡ observationAt (now words) ⌝ }
     ensures { λ r. ⌜ r ≡ refusalOfObserve (ledgerAt (now (ledger .entry))) (now (keys .entry)) slots offsets links told ⌝ }
 {
     let placed = (keys.len() == CAPACITY)
@@ -57,7 +60,7 @@ fn refusal(
     let ring = host_checks::keys_ring(ledger);
     let key = told.key;
     let awaiting = is_set(ledger[10]) & key_ring::is_newest(keys, ring, key);
-    let ranged = ranges::in_range(told);
+    let ranged = host_own_slot::in_range(words);
     let counted = host_checks::room_for_call(ledger);
     ledger_state::first_refusal(true, ranged, true, counted, awaiting, true)
 }
@@ -167,8 +170,9 @@ fn observed(
     offsets: &mut [u32],
     links: &mut [[u16; 8]],
     told: ReplyObservation,
+    words: &[u32; 24],
 )
-    requires { ⌜ SoundObserve (ledgerAt (now ledger)) (now keys) (length (now slots)) (length (now offsets)) (length (now links)) told ⌝ }
+    requires { ⌜ SoundObserve (ledgerAt (now ledger)) (now keys) (length (now slots)) (length (now offsets)) (length (now links)) told × (told ≡ observationAt (now words)) ⌝ }
     ensures { λ _. ⌜ left 0 (now (ledger .exit)) (now (slots .exit)) (now (offsets .exit)) (now (links .exit)) ≡ servedLeaves (told .counters) (now (ledger .entry)) (observeOn (ledgerAt (now (ledger .entry))) (now (keys .entry)) (now (slots .entry)) (now (offsets .entry)) (now (links .entry)) told) ⌝ }
 {
     let secret = host_checks::secret_words(ledger);
@@ -180,7 +184,7 @@ fn observed(
     count_round_trip(ledger, told.rtt);
     count_direct(ledger, offsets, links, secret, told);
     count_follow_up(ledger, keys, slots, links, ring, secret, told);
-    ledger_follow::raise_own(copies, keys, slots, links, ring, secret, told);
+    host_own_slot::raise_own(copies, keys, slots, links, ring, secret, words);
 }
 
 // `flags` are those of document 01's observe record: 1 T4, 2 ordinal, 4 counters, 8 follow-up, 32 estimates, 64 PTP, 128 unknown
@@ -200,9 +204,17 @@ pub extern "C" fn ambrulicciu_observe(
     ensures { λ r. ⌜ left r (now (ledger .exit)) (now (slots .exit)) (now (offsets .exit)) (now (links .exit)) ≡ observeLeaves (now (ledger .entry)) (now (keys .entry)) (now (slots .entry)) (now (offsets .entry)) (now (links .entry)) (now (observation .entry)) ⌝ }
 {
     let told = host_observation::observation_of(observation);
-    let number = refusal(ledger, keys, slots.len(), offsets.len(), links.len(), told);
+    let number = refusal(
+        ledger,
+        keys,
+        slots.len(),
+        offsets.len(),
+        links.len(),
+        told,
+        observation,
+    );
     if number == 0 {
-        observed(ledger, keys, slots, offsets, links, told);
+        observed(ledger, keys, slots, offsets, links, told, observation);
         return 0;
     }
     number

@@ -17,7 +17,7 @@ refusal-requires c κs = search needs
 observed-requires : tie.Need-observed-requires
 observed-requires c κs =
     let s = c .before .before .before .before .before .before .before .before .before in
-    observe-sound (ledgerAt (now (s .args .ledger))) (now (s .args .keys)) _ _ _ _ (sym (c .before .before .before .before .before .refusal .ensures) ∙ c .before .before .before .before .if1 .taken)
+    (observe-sound (ledgerAt (now (s .args .ledger))) (now (s .args .keys)) _ _ _ _ (sym (c .before .before .before .before .before .refusal .ensures) ∙ c .before .before .before .before .if1 .taken), c .before .before .before .before .before .before .before .observation-of .ensures)
 
 same-length : tie.Need-same-length
 same-length c = search needs

@@ -1,9 +1,11 @@
 -- `host_observe::observed` meets its contract. Assumes nothing.
-use mathlib.Core.Path.{refl, sym, subst, _∙_}
+use mathlib.Core.Path.{refl, sym, ap, subst, _∙_}
 use denote.Ref.{now}
 use Rattle.scope.specs.Limits.{capacity}
 use Rattle.chains.specs.Hash.{numberHash}
 use Rattle.chains.specs.Rings.{RingFits}
+use Rattle.key_ring.specs.Table.{hashOf}
+use Rattle.ledger_steps.specs.Observe.{ownIn}
 use Rattle.ledger_observe.proofs.Steps.{follow-ranged}
 use Rattle.host_ledger.specs.Words.{ledgerAt}
 use Rattle.host_observe.proofs.Steps.{calls-fit, rtt-bounded, direct-bounded, follow-bounded, observed-as}
@@ -27,7 +29,7 @@ element-copy-out-calls : tie.Need-element-copy-out-calls
 element-copy-out-calls c = search needs
 
 add-ledger : tie.Need-add-ledger
-add-ledger c = calls-fit (now (c .before .before .before .before .before .before .before .args .ledger)) (now (c .before .before .before .before .before .before .before .args .keys)) _ _ _ (c .before .before .before .before .before .before .before .args .told) (c .before .before .before .before .before .before .before .pre)
+add-ledger c = calls-fit (now (c .before .before .before .before .before .before .before .args .ledger)) (now (c .before .before .before .before .before .before .before .args .keys)) _ _ _ (c .before .before .before .before .before .before .before .args .told) (c .before .before .before .before .before .before .before .pre .0)
 
 element-write-ledger : tie.Need-element-write-ledger
 element-write-ledger c = search needs
@@ -36,32 +38,32 @@ element-write-ledger-2 : tie.Need-element-write-ledger-2
 element-write-ledger-2 c = search needs
 
 count-round-trip-requires : tie.Need-count-round-trip-requires
-count-round-trip-requires c κs = rtt-bounded (now (c .before .before .before .before .before .before .before .before .args .ledger)) (now (c .before .before .before .before .before .before .before .before .args .keys)) _ _ _ (c .before .before .before .before .before .before .before .before .args .told) (c .before .before .before .before .before .before .before .before .pre)
+count-round-trip-requires c κs = rtt-bounded (now (c .before .before .before .before .before .before .before .before .args .ledger)) (now (c .before .before .before .before .before .before .before .before .args .keys)) _ _ _ (c .before .before .before .before .before .before .before .before .args .told) (c .before .before .before .before .before .before .before .before .pre .0)
 
 count-direct-requires : tie.Need-count-direct-requires
 count-direct-requires c κs =
     let s = c .before .before .before .before .before .before .before .before .before .before .before .before in
-    let bounded = direct-bounded (now (c .before .before .before .before .before .before .before .before .before .before .before .before .args .ledger)) (now (c .before .before .before .before .before .before .before .before .before .before .before .before .args .keys)) _ _ _ (c .before .before .before .before .before .before .before .before .before .before .before .before .args .told) (c .before .before .before .before .before .before .before .before .before .before .before .before .pre) _ (c .before .before .before .count-round-trip .ensures) in
-    (s .pre .offsets-size, s .pre .links-size, bounded .0, bounded .1)
+    let bounded = direct-bounded (now (c .before .before .before .before .before .before .before .before .before .before .before .before .args .ledger)) (now (c .before .before .before .before .before .before .before .before .before .before .before .before .args .keys)) _ _ _ (c .before .before .before .before .before .before .before .before .before .before .before .before .args .told) (c .before .before .before .before .before .before .before .before .before .before .before .before .pre .0) _ (c .before .before .before .count-round-trip .ensures) in
+    (s .pre .0 .offsets-size, s .pre .0 .links-size, bounded .0, bounded .1)
 
 count-follow-up-requires : tie.Need-count-follow-up-requires
 count-follow-up-requires c κs =
     let s = c .before .before .before .before .before .before .before .before .before .before .before .before .before .before .before .before .before .before .before in (
-      s .pre .keys-size,
-      s .pre .slots-size,
-      c .before .before .before .before .before .before .count-direct .kept .1 .1 .0 ∙ s .pre .links-size,
-      subst (RingFits capacity) (sym (c .before .before .before .before .before .before .before .before .before .before .before .before .before .before .keys-ring .ensures)) (s .pre .rings .keys-ring),
-      follow-bounded (now (c .before .before .before .before .before .before .before .before .before .before .before .before .before .before .before .before .before .before .before .args .ledger)) (now (c .before .before .before .before .before .before .before .before .before .before .before .before .before .before .before .before .before .before .before .args .keys)) _ _ _ (c .before .before .before .before .before .before .before .before .before .before .before .before .before .before .before .before .before .before .before .args .told) (c .before .before .before .before .before .before .before .before .before .before .before .before .before .before .before .before .before .before .before .pre) (numberHash (c .before .before .before .before .before .before .before .before .before .before .before .before .before .before .before .before .secret-words .result)) _ _ _ _ _ _ (c .before .before .before .before .before .before .before .before .before .before .count-round-trip .ensures) (c .before .before .before .before .before .before .count-direct .ensures),
-      follow-ranged (s .args .told) (s .pre .ranged),
+      s .pre .0 .keys-size,
+      s .pre .0 .slots-size,
+      c .before .before .before .before .before .before .count-direct .kept .1 .1 .0 ∙ s .pre .0 .links-size,
+      subst (RingFits capacity) (sym (c .before .before .before .before .before .before .before .before .before .before .before .before .before .before .keys-ring .ensures)) (s .pre .0 .rings .keys-ring),
+      follow-bounded (now (c .before .before .before .before .before .before .before .before .before .before .before .before .before .before .before .before .before .before .before .args .ledger)) (now (c .before .before .before .before .before .before .before .before .before .before .before .before .before .before .before .before .before .before .before .args .keys)) _ _ _ (c .before .before .before .before .before .before .before .before .before .before .before .before .before .before .before .before .before .before .before .args .told) (c .before .before .before .before .before .before .before .before .before .before .before .before .before .before .before .before .before .before .before .pre .0) (numberHash (c .before .before .before .before .before .before .before .before .before .before .before .before .before .before .before .before .secret-words .result)) _ _ _ _ _ _ (c .before .before .before .before .before .before .before .before .before .before .count-round-trip .ensures) (c .before .before .before .before .before .before .count-direct .ensures),
+      follow-ranged (s .args .told) (s .pre .0 .ranged),
     )
 
 raise-own-requires : tie.Need-raise-own-requires
 raise-own-requires c κs =
     let s = c .before .before .before .before .before .before .before .before .before .before .before .before .before .before .before .before .before .before .before .before .before .before .before in (
-      s .pre .keys-size,
-      c .before .before .before .count-follow-up .kept .1 .1 .0 ∙ s .pre .slots-size,
-      c .before .before .before .before .before .before .before .before .before .before .count-direct .kept .1 .1 .0 ∙ s .pre .links-size,
-      subst (RingFits capacity) (sym (c .before .before .before .before .before .before .before .before .before .before .before .before .before .before .before .before .before .before .keys-ring .ensures)) (s .pre .rings .keys-ring),
+      s .pre .0 .keys-size,
+      c .before .before .before .count-follow-up .kept .1 .1 .0 ∙ s .pre .0 .slots-size,
+      c .before .before .before .before .before .before .before .before .before .before .count-direct .kept .1 .1 .0 ∙ s .pre .0 .links-size,
+      subst (RingFits capacity) (sym (c .before .before .before .before .before .before .before .before .before .before .before .before .before .before .before .before .before .before .keys-ring .ensures)) (s .pre .0 .rings .keys-ring),
     )
 
 same-length : tie.Need-same-length
@@ -80,7 +82,7 @@ returns c =
     observed-as (now (s .args .ledger)) (now (s .args .keys)) (now (s .args .slots)) (now (s .args .offsets)) (now (s .args .links)) (s .args .told)
     _ _ _ _ _ _ _ _ _ _
     (c .before .before .before .before .before .before .before .before .before .before .before .before .before .before .before .before .before .before .before .before .before .before .secret-words .ensures) (c .before .before .before .before .before .before .before .before .before .before .before .before .before .before .before .before .before .before .before .before .keys-ring .ensures) refl
-    (c .before .before .before .before .before .before .before .before .before .before .before .before .before .before .before .before .count-round-trip .ensures) (c .before .before .before .before .before .before .before .before .before .before .before .before .count-direct .ensures) (c .before .before .before .before .before .count-follow-up .ensures) (c .before .raise-own .ensures)
+    (c .before .before .before .before .before .before .before .before .before .before .before .before .before .before .before .before .count-round-trip .ensures) (c .before .before .before .before .before .before .before .before .before .before .before .before .count-direct .ensures) (c .before .before .before .before .before .count-follow-up .ensures) (c .before .raise-own .ensures ∙ ap (ownIn capacity (hashOf _) (numberHash _) _ _ _ _ _) (sym (s .pre .1)))
 
 pub observed-spec : {M : Type 1} → statement M
 observed-spec =

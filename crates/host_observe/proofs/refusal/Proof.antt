@@ -1,10 +1,11 @@
 -- `host_observe::refusal` meets its contract. Assumes nothing.
-use mathlib.Core.Path.{sym, subst, _∙_}
+use mathlib.Core.Path.{sym, ap, subst, _∙_}
 use mathlib.Core.Bool.{true, _&&_}
 use denote.Ref.{now}
 use Rattle.scope.specs.Limits.{capacity}
 use Rattle.chains.specs.Rings.{RingFits}
 use Rattle.key_ring.specs.Table.{newestIs}
+use Rattle.ranges.specs.Ranges.{inRange}
 use Rattle.ledger_state.specs.Refusal.{firstRefusal}
 use Rattle.ledger_checks.proofs.Sound.{observe-placed}
 use Rattle.ledger_checks.proofs.Observed.{placed-is, misplaced-is, tested-is}
@@ -48,7 +49,7 @@ returns-2 c =
     let keys = now (c .before .before .before .before .before .before .before .before .before .before .args .keys) in
     let key = c .before .before .before .before .before .before .before .before .before .before .args .told .key in
     c .first-refusal .ensures
-    ∙ (λ i. firstRefusal true (c .before .before .in-range .ensures i) true (c .before .room-for-call .ensures i) (c .before .before .before .before .is-set .ensures i && (c .before .before .before .is-newest .ensures ∙ (λ j. newestIs capacity keys (c .before .before .before .before .before .before .before .keys-ring .ensures j) key)) i) true)
+    ∙ (λ i. firstRefusal true ((c .before .before .in-range .ensures ∙ sym (ap inRange (c .before .before .before .before .before .before .before .before .before .before .pre))) i) true (c .before .room-for-call .ensures i) (c .before .before .before .before .is-set .ensures i && (c .before .before .before .is-newest .ensures ∙ (λ j. newestIs capacity keys (c .before .before .before .before .before .before .before .keys-ring .ensures j) key)) i) true)
     ∙ tested-is (ledgerAt (now (c .before .before .before .before .before .before .before .before .before .before .args .ledger))) (now (c .before .before .before .before .before .before .before .before .before .before .args .keys)) (c .before .before .before .before .before .before .before .before .before .before .args .slots) (c .before .before .before .before .before .before .before .before .before .before .args .offsets) (c .before .before .before .before .before .before .before .before .before .before .args .links) (c .before .before .before .before .before .before .before .before .before .before .args .told) (placed-is (ledgerAt (now (c .before .before .before .before .before .before .before .before .before .before .args .ledger))) (now (c .before .before .before .before .before .before .before .before .before .before .args .keys)) (c .before .before .before .before .before .before .before .before .before .before .args .slots) (c .before .before .before .before .before .before .before .before .before .before .args .offsets) (c .before .before .before .before .before .before .before .before .before .before .args .links) (c .before .before .before .before .before .before .before .before .before .rings-fit .result) (c .before .before .before .before .before .before .before .before .before .rings-fit .ensures) (c .before .before .before .before .before .before .before .before .if1 .left))
 
 pub refusal-spec : {M : Type 1} → statement M
