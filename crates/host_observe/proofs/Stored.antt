@@ -24,17 +24,12 @@ use Rattle.direct.specs.declared.Direct.{Direct}
 use Rattle.direct.specs.Outcomes.{seenIn}
 use Rattle.offset_set.specs.Offsets.{offsetSet}
 use Rattle.follow_ups.specs.declared.FollowUps.{FollowUps}
-use Rattle.clock_quality.specs.declared.ClockQuality.{ClockQuality}
-use Rattle.clock_quality.specs.Bounds as quality
-use Rattle.follow_ups.specs.Bounds.{InBounds}
 use Rattle.follow_ups.specs.Followed.{counted, followed}
 use Rattle.ledger_steps.specs.Observe.{directOutcome, directBy, directIn, followOutcome, followBy, followIn}
 use Rattle.ledger_follow.specs.Class.{classOutcome, classIn}
 use Rattle.ledger_follow.proofs.Steps.{follow-as, counted-as}
 use Rattle.host_ledger.specs.Parts.{directAt, directWords, followAt, followCountsWords, followWords}
 use Rattle.host_ledger.specs.Left.{followStored}
-use Rattle.host_observed.specs.Last.{qualityWithoutLast, withoutLast}
-use Rattle.host_observed.proofs.Last.{match-replaces}
 use Rattle.host_observe.specs.Observe.{directLeft, directLeaves, followLeft, followLeaves}
 
 -- ---- direct loss
@@ -97,18 +92,6 @@ module _ (w : List ℕ) where
       (ap (λ (x : Class). followStored w (followed (followAt 44 w) x offset)) e
       ∙ ap (λ (b : Bool). cond b (sets w 44 (followCountsWords (counted (class.Matched m) (followAt 44 w .counts)))) (sets w 44 (followWords (followed (followAt 44 w) (class.Matched m) offset))))
       (eq-false (getD w 45 0 + 1) (getD w 45 0) (λ z. omega arith)))
-
--- without the last estimates the counts are as bounded
-pub bounded-without : (f : FollowUps) → InBounds f → InBounds (withoutLast f)
-bounded-without f h = record { counts = h .counts; delay = h .delay; quality = quality-bounded (f .quality) (h .quality) }
-  where
-    quality-bounded : (q : ClockQuality) → quality.Bounded q → quality.Bounded (qualityWithoutLast q)
-    quality-bounded q b = record { samples = b .samples; both = b .both; unsynchronized = b .unsynchronized; invalid = b .invalid; unknown = b .unknown; «invalid_sender» = b .«invalid_sender»; «invalid_reflector» = b .«invalid_reflector»; «invalid_both» = b .«invalid_both» }
-
--- it was counted without the last estimates
-pub replaced : (f before after : FollowUps) (m : Match) (offset given : ℤ) → given ≡ offset → before ≡ withoutLast f → after ≡ followed before (class.Matched m) given
-    → after ≡ followed f (class.Matched m) offset
-replaced f before after m offset given e₁ e₂ e₃ = e₃ ∙ (λ i. followed (e₂ i) (class.Matched m) (e₁ i)) ∙ match-replaces f m offset
 
 module _ (N : ℕ) (byKey : ReplyKey → ℕ) (byNumber : ℕ → ℕ) (w : List ℕ) (ring : Ring) (keys slots links : List (List ℕ)) (o : ReplyObservation) where
   -- no follow-up

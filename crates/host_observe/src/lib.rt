@@ -3,14 +3,13 @@
 // cite one definition, `observeTo`.
 ghost use mathlib.Core.Path.{_≡_};
 ghost use Prim.Native.Nat.{_≤_};
-ghost use lib.IntN.{pos};
 ghost use lib.ListN.{length};
 ghost use lib.Seq.{sets};
 ghost use Rattle.scope.specs.Limits.{capacity};
 ghost use Rattle.chains.specs.Hash.{numberHash};
 ghost use Rattle.chains.specs.Rings.{RingFits};
 ghost use Rattle.correlation.specs.declared.follow.Class.the-variants as classes;
-ghost use Rattle.correlation.specs.Class.{MatchedInRange, offsetInRange};
+ghost use Rattle.correlation.specs.Class.{MatchedInRange, delayOf, offsetInRange};
 ghost use Rattle.key_ring.specs.Table.{hashOf};
 ghost use Rattle.delays.specs.Bounds as delays;
 ghost use Rattle.delays.specs.Delays.{recordedOf};
@@ -65,15 +64,6 @@ fn refusal(
     ledger_state::first_refusal(true, ranged, true, counted, awaiting, true)
 }
 
-// One round trip more: every observation has one.
-fn count_round_trip(ledger: &mut [u64; LEDGER_WORDS], ns: u64)
-    requires { ⌜ delays.Bounded (delaysAt 25 (now ledger)) ⌝ }
-    ensures { λ _. ⌜ now (ledger .exit) ≡ sets (now (ledger .entry)) 25 (delaysWords (recordedOf (delaysAt 25 (now (ledger .entry))) (nanosecondsOf (pos ns)))) ⌝ }
-{
-    let before = host_observed::rtt_of(ledger);
-    host_observed::store_rtt(ledger, round_trips::recorded(before, ns));
-}
-
 // The direct counters of the reply, where it has them.
 fn count_direct(
     ledger: &mut [u64; LEDGER_WORDS],
@@ -96,13 +86,29 @@ fn count_direct(
     }
 }
 
-// A matched follow-up changes all that there is of follow-ups.
+// The delay of a matched follow-up.
+fn count_delay(ledger: &mut [u64; LEDGER_WORDS], times: Match, offset: i32)
+    requires { ⌜ delays.Bounded (delaysAt 50 (now ledger)) × MatchedInRange (classes.Matched times) × offsetInRange offset ⌝ }
+    ensures { λ _. ⌜ now (ledger .exit) ≡ sets (now (ledger .entry)) 50 (delaysWords (recordedOf (delaysAt 50 (now (ledger .entry))) (nanosecondsOf (delayOf (times .t4) (times .t3) offset)))) ⌝ }
+{
+    let ns = correlation::follow::delay(times.t4, times.t3, offset);
+    let before = host_observed::delay_of(ledger);
+    let after = before.recorded(delays::from_i64(ns));
+    host_observed::store_delay(ledger, after);
+}
+
+// A matched follow-up changes all that there is of follow-ups: two counts, the delay and the clock quality.
 fn count_matched(ledger: &mut [u64; LEDGER_WORDS], times: Match, offset: i32)
     requires { ⌜ follow_ups.InBounds (followAt 44 (now ledger)) × MatchedInRange (classes.Matched times) × offsetInRange offset ⌝ }
     ensures { λ _. ⌜ now (ledger .exit) ≡ sets (now (ledger .entry)) 44 (followWords (followed (followAt 44 (now (ledger .entry))) (classes.Matched times) offset)) ⌝ }
 {
-    let before = host_observed::follow_without_last(ledger);
-    host_observed::store_follow(ledger, before.follow(Class::Matched(times), offset));
+    let observations = ledger[44];
+    let matched = ledger[45];
+    ledger[44] = observations + 1;
+    ledger[45] = matched + 1;
+    count_delay(ledger, times, offset);
+    let wires = times.quality;
+    host_clock_sample::count(ledger, wires);
 }
 
 // Any other follow-up is only counted.
@@ -181,7 +187,7 @@ fn observed(
     let calls = ledger[5];
     ledger[5] = calls + 1;
     ledger[10] = 0;
-    count_round_trip(ledger, told.rtt);
+    host_round_trip::count(ledger, told.rtt);
     count_direct(ledger, offsets, links, secret, told);
     count_follow_up(ledger, keys, slots, links, ring, secret, told);
     host_own_slot::raise_own(copies, keys, slots, links, ring, secret, words);
