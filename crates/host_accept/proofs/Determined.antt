@@ -14,7 +14,7 @@ use Rattle.ledger_steps.specs.Refusals.{refusalOfAccept}
 use Rattle.ledger_steps.specs.Accept.{AcceptOutcome, acceptOn}
 use Rattle.ledger_steps.specs.Calls.{acceptBy, acceptTo}
 use Rattle.host_ledger.specs.Words.{ledgerAt}
-use Rattle.host_accept.specs.Accept.{AcceptLeft, acceptLeft, acceptFrom, acceptOf}
+use Rattle.host_accept_words.specs.Accept.{AcceptLeft, acceptLeft, acceptFrom, acceptOf}
 use Rattle.host_accept.proofs.ambrulicciu_accept as accept
 use Rattle.host_accept.proofs.ambrulicciu_accept.Kinds as accept-kinds
 use Rattle.host_accept.proofs.ambrulicciu_accept.Reads as accept-reads

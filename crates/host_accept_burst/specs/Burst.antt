@@ -1,7 +1,7 @@
 -- What `ambrulicciu_accept_burst` returns and leaves: `ambrulicciu_accept` for each entry, in list order. Assumes nothing.
 use mathlib.Core.List.{List, _∷_}
 use Prim.Native.Nat.{ℕ}
-use Rattle.host_accept.specs.Accept.{AcceptLeft, acceptOf}
+use Rattle.host_accept_words.specs.Accept.{AcceptLeft, acceptOf}
 use Rattle.host_burst.specs.Burst.{Single, Listed, single, burstTo}
 use Rattle.host_burst.specs.Entries.{replyAt, answerIn}
 

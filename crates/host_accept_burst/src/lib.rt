@@ -1,30 +1,59 @@
 // `ambrulicciu_accept_burst`: `accept` for a list of replies, on the words and the rooms that a host lends (document 02, Q-2).
-// Each function but the first is a straight line of calls, so that the walk of it is short; what depends on a test is in the functions that it calls.
-// The ledger is taken out of its words at each entry: as a value that goes around the loop it would be copied whole (docs/DECISIONS.md).
+// Whether any entry can be refused is looked at once a list (crate host_lasting). The words of the hash are taken out of the ledger's at each entry:
+// kept over the list they would lie on the stack, and each of their uses would fetch them from there.
 ghost use mathlib.Core.Path.{_≡_};
-ghost use Rattle.host_accept.specs.Accept.{wordsAfter};
-ghost use Rattle.host_burst.specs.Burst.{left, listed, upTo};
+ghost use mathlib.Core.Bool.{true, _&&_};
+ghost use lib.ListN.{length};
+ghost use Rattle.ledger_state.specs.Refusal.{firstRefusal, sized as sizedRoom, ringsFit, roomForCall};
+ghost use Rattle.host_ledger.specs.Words.{ledgerAt};
+ghost use Rattle.host_burst.specs.Burst.{left, listed, oneMore, upTo};
 ghost use Rattle.host_accept_burst.specs.Burst.{lent, acceptEntry, acceptBurst};
-use host_burst::put_row;
+use host_accept_words::refusal_unless;
+use host_accept_words::served;
+use host_burst::put_refused;
+use host_burst::put_served;
 use host_burst::refusal_of_list;
 use host_burst::reply_at;
 use host_burst::served_of_list;
-use host_burst::told;
 use host_ledger::LEDGER_WORDS;
-use host_served::store_served;
-use ledger_steps::AcceptAnswer;
+use scope::CAPACITY;
 
-// What the answer leaves of the ledger's words: a refusal changes none.
-fn store_given(ledger: &mut [u64; LEDGER_WORDS], given: AcceptAnswer)
-    ensures { λ _. ⌜ now (ledger .exit) ≡ wordsAfter (now (ledger .entry)) given ⌝ }
+// How many words a ledger has, for the proof: the code of it is nothing.
+fn counted(_words: [u64; LEDGER_WORDS])
+    ensures { λ _. ⌜ length «_words» ≡ 80 ⌝ }
+{}
+
+// Entry i; `sure` is whether it is known that the ledger refuses no entry that is left.
+fn serve_entry(
+    ledger: &mut [u64; LEDGER_WORDS],
+    keys: &mut [[u64; 2]],
+    slots: &mut [[u64; 3]],
+    probes: &mut [[u64; 4]],
+    links: &mut [[u16; 8]],
+    sure: bool,
+    entries: &[[u64; 5]],
+    answers: &mut [[u64; 7]],
+    i: usize,
+)
+    requires { ⌜ (sure ≡ true → firstRefusal (sizedRoom (length (now keys)) && sizedRoom (length (now slots)) && sizedRoom (length (now probes)) && sizedRoom (length (now links)) && ringsFit (ledgerAt (now ledger))) true true (roomForCall (ledgerAt (now ledger))) true true ≡ 0) ⌝ }
+    ensures { λ _. ⌜ left (lent (now (ledger .exit)) (now (keys .exit)) (now (slots .exit)) (now (probes .exit)) (now (links .exit))) (now (answers .exit)) ≡ oneMore acceptEntry (now (entries .entry)) (left (lent (now (ledger .entry)) (now (keys .entry)) (now (slots .entry)) (now (probes .entry)) (now (links .entry))) (now (answers .entry))) i ⌝ }
 {
-    match given {
-        AcceptAnswer::Served(next, accepted) => store_served(ledger, next, accepted),
-        AcceptAnswer::Refused(_) => {}
+    let sized = (keys.len() == CAPACITY)
+        & (slots.len() == CAPACITY)
+        & (probes.len() == CAPACITY)
+        & (links.len() == CAPACITY);
+    let refused = refusal_unless(sure, ledger, sized);
+    if refused == 0 {
+        let reply = reply_at(entries, i);
+        let mut words = [0, 0, 0, 0, 0, 0];
+        served(ledger, keys, slots, probes, links, reply, &mut words);
+        put_served(answers, i, words);
+        return;
     }
+    put_refused(answers, i, refused);
 }
 
-// The first `count` entries; `refusal` is handed back.
+// The first `count` entries.
 fn serve(
     ledger: &mut [u64; LEDGER_WORDS],
     keys: &mut [[u64; 2]],
@@ -34,20 +63,30 @@ fn serve(
     entries: &[[u64; 5]],
     count: usize,
     answers: &mut [[u64; 7]],
-    refusal: u8,
-) -> u8
-    ensures { λ r. ⌜ (left (lent (now (ledger .exit)) (now (keys .exit)) (now (slots .exit)) (now (probes .exit)) (now (links .exit))) (now (answers .exit)) ≡ upTo acceptEntry (now (entries .entry)) (left (lent (now (ledger .entry)) (now (keys .entry)) (now (slots .entry)) (now (probes .entry)) (now (links .entry))) (now (answers .entry))) count) × (r ≡ refusal) ⌝ }
+)
+    ensures { λ _. ⌜ left (lent (now (ledger .exit)) (now (keys .exit)) (now (slots .exit)) (now (probes .exit)) (now (links .exit))) (now (answers .exit)) ≡ upTo acceptEntry (now (entries .entry)) (left (lent (now (ledger .entry)) (now (keys .entry)) (now (slots .entry)) (now (probes .entry)) (now (links .entry))) (now (answers .entry))) count ⌝ }
 {
+    counted(*ledger);
+    let sized = (keys.len() == CAPACITY)
+        & (slots.len() == CAPACITY)
+        & (probes.len() == CAPACITY)
+        & (links.len() == CAPACITY);
+    let sure = host_lasting::lasts(ledger, sized, count);
     let mut i = 0;
     while i < count {
-        let reply = reply_at(entries, i);
-        let state = host_ledger::load(ledger);
-        let given = ledger_accept::accept(state, keys, slots, probes, links, reply);
-        store_given(ledger, given);
-        put_row(answers, i, given);
+        serve_entry(
+            ledger,
+            keys,
+            slots,
+            probes,
+            links,
+            sure,
+            entries,
+            answers,
+            i,
+        );
         i = i + 1;
     }
-    told(refusal)
 }
 
 // Words of `entries`: 0 t3, 1 sender (u32), reflector (u32), 2 pending, 3 time, 4 tag.
@@ -64,19 +103,8 @@ pub extern "C" fn ambrulicciu_accept_burst(
 ) -> u8
     ensures { λ r. ⌜ listed r (left (lent (now (ledger .exit)) (now (keys .exit)) (now (slots .exit)) (now (probes .exit)) (now (links .exit))) (now (answers .exit))) ≡ acceptBurst (lent (now (ledger .entry)) (now (keys .entry)) (now (slots .entry)) (now (probes .entry)) (now (links .entry))) (now (entries .entry)) (now (answers .entry)) ⌝ }
 {
-    let length = entries.len();
-    let rows = answers.len();
-    let refusal = refusal_of_list(length, rows);
-    let count = served_of_list(refusal, length);
-    serve(
-        ledger,
-        keys,
-        slots,
-        probes,
-        links,
-        entries,
-        count,
-        answers,
-        refusal,
-    )
+    let refusal = refusal_of_list(entries.len(), answers.len());
+    let count = served_of_list(refusal, entries.len());
+    serve(ledger, keys, slots, probes, links, entries, count, answers);
+    refusal
 }

@@ -12,7 +12,11 @@ use Rattle.ledger_steps.specs.declared.Accepted.{Accepted}
 use Rattle.ledger_steps.specs.declared.Accepted.the-variants.{Duplicate, Unknown, Unique}
 use Rattle.host_calls.specs.Calls as host_calls
 use Rattle.host_calls.specs.Calls.{replyOf}
+use Rattle.ledger_steps.specs.Accept.{AcceptOutcome}
+use Rattle.ledger_steps.specs.Calls.{acceptBy}
+use Rattle.host_accept_words.specs.Accept.{acceptFrom}
 use Rattle.host_burst.specs.Burst.{burstRefusal}
+use Rattle.host_burst.specs.Entries.{answerIn, refusedRow, rowAfter}
 
 -- of two flags that say the same the reply is the same
 pub same-reply : (sender reflector t3 time tag p q : ℕ) → eqb p 0 ≡ eqb q 0 → replyOf sender reflector t3 p time tag ≡ replyOf sender reflector t3 q time tag
@@ -28,18 +32,23 @@ set-outside (x ∷ rows) zero row h = absurd (omega (arith, h))
 set-outside (x ∷ rows) (suc n) row h = ap (λ (more : List (List ℕ)). x ∷ more) (set-outside rows n row (omega (arith, h)))
 
 -- the words of an answer are six
-six : (x : Accepted) → let w = host_calls.acceptedWords x in w ≡ getD w 0 0 ∷ getD w 1 0 ∷ getD w 2 0 ∷ getD w 3 0 ∷ getD w 4 0 ∷ getD w 5 0 ∷ []
+pub six : (x : Accepted) → let w = host_calls.acceptedWords x in w ≡ getD w 0 0 ∷ getD w 1 0 ∷ getD w 2 0 ∷ getD w 3 0 ∷ getD w 4 0 ∷ getD w 5 0 ∷ []
 six Duplicate = refl
 six Unknown = refl
 six (Unique packet ordinal.Absent train) = refl
 six (Unique packet (ordinal.Number n) train) = refl
 
--- the row of a served reply, as the code puts it together
-pub row-of : (x : Accepted) (w : List ℕ) → w ≡ host_calls.acceptedWords x
-    → 0 ∷ getD w 0 0 ∷ getD w 1 0 ∷ getD w 2 0 ∷ getD w 3 0 ∷ getD w 4 0 ∷ getD w 5 0 ∷ [] ≡ 0 ∷ host_calls.acceptedWords x
-row-of x w e =
-    ap (λ (v : List ℕ). 0 ∷ getD v 0 0 ∷ getD v 1 0 ∷ getD v 2 0 ∷ getD v 3 0 ∷ getD v 4 0 ∷ getD v 5 0 ∷ []) e
-    ∙ ap (λ (v : List ℕ). 0 ∷ v) (sym (six x))
+-- the row of an entry that is refused
+pub refused-row : (row : List ℕ) (n : ℕ) (words : List ℕ) → (n ≡ 0 → ⊥) → refusedRow row n ≡ rowAfter row n words
+refused-row row zero words h = absurd (h refl)
+refused-row row (suc n) words h = refl
+
+-- The row of a call, whatever words its answer began with: what the call leaves in the words that stand in the row.
+-- k is the call's refusal, o what it leaves where it is served.
+pub row-of-call : (w begun row : List ℕ) (k : ℕ) (o : AcceptOutcome) (keys slots probes links : List (List ℕ))
+    → let x = acceptFrom w begun (acceptBy k o keys slots probes links) in let y = acceptFrom w (answerIn row) (acceptBy k o keys slots probes links) in rowAfter row (x .number) (x .answer) ≡ y .number ∷ y .answer
+row-of-call w begun row zero o keys slots probes links = ap (λ (v : List ℕ). 0 ∷ v) (sym (six (o .accepted)))
+row-of-call w begun row (suc k) o keys slots probes links = refl
 
 -- the refusal of a list, by the code's one test
 pub refusal-by : (entries rows : ℕ) (b : Bool) → eqb rows entries && leb entries 256 ≡ b → cond b 0 5 ≡ burstRefusal entries rows

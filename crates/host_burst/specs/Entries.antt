@@ -1,14 +1,11 @@
 -- An entry of a burst, "a key with or without its pending packet", and its row of the answers, in the words that a host lends. Any words are an entry
 -- and a row. Assumes nothing.
 use mathlib.Core.List.{List, [], _∷_}
-use Prim.Native.Nat.{ℕ}
+use Prim.Native.Nat.{ℕ, zero, suc}
 use lib.ListN.{getD}
 use Rattle.calls.specs.declared.Reply.{Reply}
-use Rattle.ledger_steps.specs.declared.AcceptAnswer.{AcceptAnswer}
-use Rattle.ledger_steps.specs.Calls.{acceptNumber}
 use Rattle.host_numbers.specs.Numbers.{lower, upper}
 use Rattle.host_calls.specs.Calls.{replyOf}
-use Rattle.host_accept.specs.Accept.{answerAfter}
 
 -- words of an entry: 0 T3; 1 the sender's number in the lower half, the reflector's in the upper; 2 not 0 where a packet is pending; 3, 4 its time and tag
 abbrev pub replyAt : List ℕ → Reply
@@ -18,6 +15,15 @@ replyAt e = replyOf (lower (getD e 1 0)) (upper (getD e 1 0)) (getD e 0 0) (getD
 abbrev pub answerIn : List ℕ → List ℕ
 answerIn row = getD row 1 0 ∷ getD row 2 0 ∷ getD row 3 0 ∷ getD row 4 0 ∷ getD row 5 0 ∷ getD row 6 0 ∷ []
 
--- a row after the library's answer: the entry's number, then what the single call leaves of its answer
-abbrev pub rowAfter : List ℕ → AcceptAnswer → List ℕ
-rowAfter row given = acceptNumber given ∷ answerAfter (answerIn row) given
+-- a row of a served entry: 0, and the words of the answer
+abbrev pub servedRow : List ℕ → List ℕ
+servedRow words = 0 ∷ getD words 0 0 ∷ getD words 1 0 ∷ getD words 2 0 ∷ getD words 3 0 ∷ getD words 4 0 ∷ getD words 5 0 ∷ []
+
+-- a row of an entry that is refused: its number; the words behind it stay
+abbrev pub refusedRow : List ℕ → ℕ → List ℕ
+refusedRow row n = n ∷ answerIn row
+
+-- a row after a call for its entry, of the call's number and its answer's words
+abbrev pub rowAfter : List ℕ → ℕ → List ℕ → List ℕ
+rowAfter row zero words = servedRow words
+rowAfter row (suc n) words = refusedRow row (suc n)

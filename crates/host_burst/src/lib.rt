@@ -2,15 +2,12 @@
 // host's words.
 ghost use mathlib.Core.Path.{_≡_};
 ghost use mathlib.Core.Bool.{cond};
-ghost use mathlib.Core.List.{[], _∷_};
+ghost use mathlib.Core.List.{[]};
 ghost use lib.Dec.{eqb};
 ghost use lib.ListN.{getD, set};
-ghost use Rattle.host_calls.specs.Calls.{acceptedWords};
 ghost use Rattle.host_burst.specs.Burst.{burstRefusal};
-ghost use Rattle.host_burst.specs.Entries.{replyAt, rowAfter};
+ghost use Rattle.host_burst.specs.Entries.{replyAt, servedRow, refusedRow, rowAfter};
 use calls::Reply;
-use ledger_steps::AcceptAnswer;
-use ledger_steps::Accepted;
 use scope::WRONG_ROOM;
 
 // Most entries of a list (document 02, Q-2).
@@ -69,10 +66,9 @@ pub fn reply_at(entries: &[[u64; 5]], i: usize) -> Reply
     host_calls::reply_of(0, 0, 0, 0, 0, 0)
 }
 
-fn served_row(accepted: Accepted) -> [u64; 7]
-    ensures { λ r. ⌜ r ≡ 0 ∷ acceptedWords accepted ⌝ }
+fn served_row(words: [u64; 6]) -> [u64; 7]
+    ensures { λ r. ⌜ r ≡ servedRow words ⌝ }
 {
-    let words = host_calls::accepted_words(accepted);
     [
         0,
         words[0],
@@ -84,32 +80,47 @@ fn served_row(accepted: Accepted) -> [u64; 7]
     ]
 }
 
-fn row_after(row: [u64; 7], given: AcceptAnswer) -> [u64; 7]
-    ensures { λ r. ⌜ r ≡ rowAfter row given ⌝ }
+fn refused_row(row: [u64; 7], number: u8) -> [u64; 7]
+    ensures { λ r. ⌜ r ≡ refusedRow row number ⌝ }
 {
-    match given {
-        AcceptAnswer::Served(_, accepted) => served_row(accepted),
-        AcceptAnswer::Refused(number) => {
-            [
-                number as u64,
-                row[1],
-                row[2],
-                row[3],
-                row[4],
-                row[5],
-                row[6],
-            ]
-        }
+    [
+        number as u64,
+        row[1],
+        row[2],
+        row[3],
+        row[4],
+        row[5],
+        row[6],
+    ]
+}
+
+// The row of entry i, which was served with these words of its answer; none is written where there is no such row.
+pub fn put_served(rows: &mut [[u64; 7]], i: usize, words: [u64; 6])
+    ensures { λ _. ⌜ now (rows .exit) ≡ set (now (rows .entry)) i (servedRow words) ⌝ }
+{
+    if i < rows.len() {
+        rows[i] = served_row(words);
     }
 }
 
-// The row of entry i is written; none where there is no such row.
-pub fn put_row(rows: &mut [[u64; 7]], i: usize, given: AcceptAnswer)
-    ensures { λ _. ⌜ now (rows .exit) ≡ set (now (rows .entry)) i (rowAfter (getD (now (rows .entry)) i []) given) ⌝ }
+// The row of entry i, which was refused.
+pub fn put_refused(rows: &mut [[u64; 7]], i: usize, number: u8)
+    ensures { λ _. ⌜ now (rows .exit) ≡ set (now (rows .entry)) i (refusedRow (getD (now (rows .entry)) i []) number) ⌝ }
 {
     if i < rows.len() {
-        rows[i] = row_after(rows[i], given);
+        rows[i] = refused_row(rows[i], number);
     }
+}
+
+// The row of entry i after a call with this number and these words of its answer.
+pub fn put_row(rows: &mut [[u64; 7]], i: usize, number: u8, words: [u64; 6])
+    ensures { λ _. ⌜ now (rows .exit) ≡ set (now (rows .entry)) i (rowAfter (getD (now (rows .entry)) i []) number words) ⌝ }
+{
+    if number == 0 {
+        put_served(rows, i, words);
+        return;
+    }
+    put_refused(rows, i, number);
 }
 
 // The number of a list, once its entries are served.

@@ -4,16 +4,12 @@ use mathlib.Core.Path.{_≡_, refl, _∙_}
 use mathlib.Core.Bool.{Bool}
 use mathlib.Core.List.{List, []}
 use Prim.Native.Nat.{ℕ, zero, suc, _<_, _^_}
-use lib.ListN.{length, set, length-set}
-use lib.Seq.{sets, length-sets}
+use lib.ListN.{length}
 use Rattle.calls.specs.declared.Reply.{Reply}
 use Rattle.probe_queue.specs.declared.Probe.{Probe}
 use Rattle.monitor.specs.declared.Monitor.{Monitor}
 use Rattle.monitor.specs.Refusals as monitor
 use Rattle.monitor.specs.Operations.{replyIf}
-use Rattle.ledger_state.specs.declared.Ledger.{Ledger}
-use Rattle.ledger_steps.specs.declared.Accepted.{Accepted}
-use Rattle.ledger_steps.specs.declared.Accepted.the-variants.{Duplicate, Unknown, Unique}
 use Rattle.ledger_steps.specs.declared.AcceptAnswer.{AcceptAnswer}
 use Rattle.ledger_steps.specs.Rooms.{Rooms}
 use Rattle.ledger_steps.specs.Refusals.{refusalOfAccept}
@@ -23,39 +19,18 @@ use Rattle.ledger_watched.specs.Watched as watched
 use Rattle.link_steps.specs.declared.Watch.the-variants.{Present}
 use Rattle.link_steps.specs.Steps.{ledgerOfAccept, wasUnique, standing, unwatched, refuses, after}
 use Rattle.host_calls.specs.Calls.{replyOf}
-use Rattle.host_ledger.specs.Parts.{repliesWords}
-use Rattle.host_ledger.specs.Words.{tablesWords, ledgerAt}
-use Rattle.host_ledger.specs.Left.{countedWords, acceptedWords}
+use Rattle.host_ledger.specs.Words.{ledgerAt}
 use Rattle.host_ledger_back.proofs.Accept.{accept-back}
 use Rattle.host_served.specs.Served.{servedWords}
-use Rattle.host_accept.specs.Accept.{acceptOf}
-use Rattle.host_accept.specs.Accept as plain
+use Rattle.host_served.proofs.Long.{served-long}
+use Rattle.host_accept_words.specs.Accept.{acceptOf}
+use Rattle.host_accept_words.specs.Accept as plain
 use Rattle.host_monitor_words.specs.Words.{monitorAt}
 use Rattle.host_monitor_words.proofs.Stored.{stored}
 use Rattle.host_monitor_words.proofs.Fitting.{fits-at, fits-reply}
 use Rattle.host_watched_accept.specs.Calls.{ledgerAfter, monitorAfter, watchedAcceptTo}
 use Rattle.host_link.specs.Hosted.{HostWatch, alone, watching, hostLink, accept, acceptRooms, playHost}
 use Rattle.host_link.proofs.Agreeing.{Agrees}
-
--- the words that `accept` leaves are as many as before
-counted-long : (w : List ℕ) (next : Ledger) → length (countedWords w next) ≡ length w
-unfolding countedWords
-counted-long w next =
-    let first = set w 5 (next .calls) in
-    let second = set first 13 (next .counts .replies .totals .duplicate) in
-    length-set second 14 (next .counts .replies .totals .unknown) ∙ length-set first 13 (next .counts .replies .totals .duplicate) ∙ length-set w 5 (next .calls)
-
-accepted-long : (w : List ℕ) (next : Ledger) → length (acceptedWords w next) ≡ length w
-unfolding acceptedWords
-accepted-long w next =
-    let first = set w 5 (next .calls) in
-    length-set (sets (sets first 6 (tablesWords (next .tables))) 11 (repliesWords (next .counts .replies))) 72 (next .counts .replies .evicted .unanswered)
-    ∙ length-sets (sets first 6 (tablesWords (next .tables))) 11 (repliesWords (next .counts .replies)) ∙ length-sets first 6 (tablesWords (next .tables)) ∙ length-set w 5 (next .calls)
-
-served-long : (w : List ℕ) (next : Ledger) (a : Accepted) → length (servedWords w next a) ≡ length w
-served-long w next Duplicate = counted-long w next
-served-long w next Unknown = counted-long w next
-served-long w next (Unique packet ordinal train) = accepted-long w next
 
 module _ (w : List ℕ) (long : length w ≡ 80) (keys slots probes links : List (List ℕ)) (a : Reply) (h : a .key .reflector < 2 ^ 32) where
   abbrev answerBy : ℕ → AcceptAnswer

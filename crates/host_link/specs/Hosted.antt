@@ -17,7 +17,7 @@ use Rattle.host_calls.specs.Calls.{probeOf, replyOf}
 use Rattle.host_ledger.specs.Words.{ledgerAt}
 use Rattle.host_fresh.specs.Fresh.{freshOf}
 use Rattle.host_sent.specs.Sent.{SentLeft, sentOf}
-use Rattle.host_accept.specs.Accept.{AcceptLeft, acceptOf}
+use Rattle.host_accept_words.specs.Accept.{AcceptLeft, acceptOf}
 use Rattle.host_observation.specs.Observation.{observationAt}
 use Rattle.host_observe.specs.Observe as observed
 use Rattle.host_monitor_words.specs.Words.{monitorAt}

@@ -14,7 +14,7 @@ use Rattle.link_history.specs.Fresh.{Making, MakingFits, freshLink}
 use Rattle.link_history.specs.Shows.{awaitsFrom}
 use Rattle.link_mixed.specs.Mixed.{ledgerServed, monitorServed}
 use Rattle.link_mixed.specs.Shows.{MixedShows, AllMixedFit}
-use Rattle.host_accept.specs.Accept.{acceptOf}
+use Rattle.host_accept_words.specs.Accept.{acceptOf}
 use Rattle.host_watched_accept.specs.Calls.{watchedAcceptTo}
 use Rattle.host_link.specs.Hosted.{HostWatch, HostLink, HostCall, HostFits, hostLink, said, playHost, hostFresh}
 use Rattle.host_link.specs.Hosted as link

@@ -1,54 +1,74 @@
 -- From one entry to all entries of a list: what the calls in a row leave is what the definition says. Assumes nothing.
-use mathlib.Core.Path.{_≡_, refl, ap, _∙_}
+use mathlib.Core.Path.{_≡_, refl, sym, ap, _∙_}
 use mathlib.Core.Bool.{cond}
-use mathlib.Core.List.{List, []}
+use mathlib.Core.List.{List, [], _∷_}
 use native.Mathlib.Omega.{arith}
-use Prim.Native.Nat.{ℕ, _+_, _≤_, _<_}
+use Prim.Native.Nat.{ℕ, zero, suc, _+_, _≤_, _<_}
 use lib.Dec.{eqb}
 use lib.ListN.{length, getD, set}
 use Rattle.calls.specs.declared.Reply.{Reply}
 use Rattle.probe_queue.specs.declared.Probe.{Probe}
 use Rattle.monitor.specs.declared.Monitor.{Monitor}
 use Rattle.ledger_state.specs.declared.Ledger.{Ledger}
-use Rattle.ledger_steps.specs.declared.AcceptAnswer.{AcceptAnswer}
 use Rattle.ledger_watched.specs.declared.WatchedAccept.{WatchedAccept}
-use Rattle.ledger_watched.specs.declared.WatchedAccept.the-variants.{Served, Refused}
-use Rattle.ledger_watched.specs.Watched.{AcceptResult, acceptResult, acceptTo}
+use Rattle.monitor.specs.Refusals as monitor
+use Rattle.ledger_steps.specs.Refusals.{refusalOfAccept}
+use Rattle.ledger_steps.specs.Accept.{AcceptOutcome, acceptOn}
+use Rattle.ledger_steps.specs.Calls.{acceptBy}
+use Rattle.ledger_steps.specs.Calls as ledger
+use Rattle.ledger_watched.specs.Watched.{AcceptResult, acceptNumber, bothAccept, acceptResult, acceptTo}
 use Rattle.host_ledger.specs.Words.{ledgerAt}
 use Rattle.host_monitor_words.specs.Words.{monitorAt}
-use Rattle.host_watched_accept.specs.Calls.{ledgerAfter, monitorAfter, ended, watchedAcceptTo}
+use Rattle.host_watched_accept.specs.Calls.{ledgerAfter, monitorAfter, answerAfter, ended, watchedAcceptTo}
 use Rattle.host_burst.specs.Burst.{Burst, left, listed, burstRefusal, oneMore, upTo}
 use Rattle.host_burst.specs.Entries.{replyAt, answerIn, rowAfter}
+use Rattle.host_burst.proofs.Steps.{six}
 use Rattle.host_burst.proofs.Folds.{up-none, up-more, list-ends}
 use Rattle.host_watched_accept_burst.specs.Burst.{Lent, lent, rowed, acceptEntry, watchedBurst}
-use Rattle.host_watched_accept_burst.specs.Part.{ledgerPart}
 
 -- ---- one entry
 
--- its row is that of the ledger's part
-row-is : (row : List ℕ) (given : WatchedAccept) (keys slots probes links : List (List ℕ)) (queue : List Probe) (w u : List ℕ)
-    → rowAfter row (ledgerPart given) ≡ rowed (ended w u (answerIn row) (acceptResult given keys slots probes links queue)) .row
-row-is row (Served l m a) keys slots probes links queue w u = refl
-row-is row (Refused n) keys slots probes links queue w u = refl
+-- its row, whatever words its answer began with: k is the call's refusal, o what it leaves where it is served
+abbrev zeros : List ℕ
+zeros = 0 ∷ 0 ∷ 0 ∷ 0 ∷ 0 ∷ 0 ∷ []
+
+-- the answer of the call with this refusal, with a monitor that then stands
+abbrev givenBy : ℕ → AcceptOutcome → Monitor → (keys slots probes links : List (List ℕ)) → WatchedAccept
+givenBy k o m keys slots probes links = bothAccept (acceptBy k o keys slots probes links .answer) m
+
+row-by : (row : List ℕ) (k : ℕ) (o : AcceptOutcome) (m : Monitor) (keys slots probes links : List (List ℕ))
+    → let g = givenBy k o m keys slots probes links in rowAfter row (acceptNumber g) (answerAfter zeros g) ≡ acceptNumber g ∷ answerAfter (answerIn row) g
+row-by row zero o m keys slots probes links = ap (λ (v : List ℕ). 0 ∷ v) (sym (six (o .accepted)))
+row-by row (suc k) o m keys slots probes links = refl
+
+row-is : (row : List ℕ) (l : Ledger) (m : Monitor) (keys slots probes links : List (List ℕ)) (queue : List Probe) (a : Reply)
+    → let g = acceptTo l m keys slots probes links queue a .answer in rowAfter row (acceptNumber g) (answerAfter zeros g) ≡ acceptNumber g ∷ answerAfter (answerIn row) g
+unfolding acceptTo ledger.acceptTo
+row-is row l m keys slots probes links queue a =
+    row-by row (refusalOfAccept (monitor.refusalOf m (length queue)) l (length keys) (length slots) (length probes) (length links)) (acceptOn l keys slots probes links a) _ keys slots probes links
 
 entry-ends :
     (ledger monitor : List ℕ) (keys slots probes links : List (List ℕ)) (queue : List Probe) (entries : List (List ℕ)) (i : ℕ) (answers : List (List ℕ))
     (reply : Reply) (state : Ledger) (watch : Monitor) (given : WatchedAccept) (keys′ slots′ probes′ links′ : List (List ℕ)) (queue′ : List Probe) (ledger′ monitor′ : List ℕ)
-    (answer : AcceptAnswer) (answers′ : List (List ℕ))
+    (number : ℕ) (words : List ℕ) (answers′ : List (List ℕ))
     → reply ≡ replyAt (getD entries i []) → state ≡ ledgerAt ledger → watch ≡ monitorAt monitor
     → acceptResult given keys′ slots′ probes′ links′ queue′ ≡ acceptTo state watch keys slots probes links queue reply
     → (ledger′ ≡ ledgerAfter ledger given) × (monitor′ ≡ monitorAfter monitor given)
-    → answer ≡ ledgerPart given
-    → answers′ ≡ set answers i (rowAfter (getD answers i []) answer)
+    → number ≡ acceptNumber given
+    → words ≡ answerAfter zeros given
+    → answers′ ≡ set answers i (rowAfter (getD answers i []) number words)
     → left (lent ledger′ monitor′ keys′ slots′ probes′ links′ queue′) answers′ ≡ oneMore acceptEntry entries (left (lent ledger monitor keys slots probes links queue) answers) i
 unfolding watchedAcceptTo
-entry-ends ledger monitor keys slots probes links queue entries i answers reply state watch given keys′ slots′ probes′ links′ queue′ ledger′ monitor′ answer answers′ er es em eg el ep ea =
+entry-ends ledger monitor keys slots probes links queue entries i answers reply state watch given keys′ slots′ probes′ links′ queue′ ledger′ monitor′ number words answers′ er es em eg el en ew ea =
     let row = getD answers i [] in
-    let rowed-is : answers′ ≡ set answers i (rowed (ended ledger monitor (answerIn row) (acceptResult given keys′ slots′ probes′ links′ queue′)) .row) =
-    ea ∙ ap (λ (x : AcceptAnswer). set answers i (rowAfter row x)) ep ∙ ap (set answers i) (row-is row given keys′ slots′ probes′ links′ queue′ ledger monitor) in
-    (λ j. left (lent (el .0 j) (el .1 j) keys′ slots′ probes′ links′ queue′) (rowed-is j))
-    ∙ ap (λ (r : AcceptResult). left (rowed (ended ledger monitor (answerIn row) r) .state) (set answers i (rowed (ended ledger monitor (answerIn row) r) .row)))
-    (eg ∙ (λ j. acceptTo (es j) (em j) keys slots probes links queue (er j)))
+    let whole : acceptResult given keys′ slots′ probes′ links′ queue′ ≡ acceptTo (ledgerAt ledger) (monitorAt monitor) keys slots probes links queue (replyAt (getD entries i [])) =
+    eg ∙ (λ j. acceptTo (es j) (em j) keys slots probes links queue (er j)) in
+    let rowed-is : answers′ ≡ set answers i (rowed (ended ledger monitor (answerIn row) (acceptTo (ledgerAt ledger) (monitorAt monitor) keys slots probes links queue (replyAt (getD entries i [])))) .row) =
+    ea ∙ (λ j. set answers i (rowAfter row (en j) (ew j)))
+    ∙ ap (λ (r : AcceptResult). set answers i (rowAfter row (acceptNumber (r .answer)) (answerAfter zeros (r .answer)))) whole
+    ∙ ap (set answers i) (row-is row (ledgerAt ledger) (monitorAt monitor) keys slots probes links queue (replyAt (getD entries i []))) in
+    (λ j. left (lent (el .0 j) (el .1 j) keys′ slots′ probes′ links′ queue′) answers′)
+    ∙ (λ j. left (rowed (ended ledger monitor (answerIn row) (whole j)) .state) (rowed-is j))
 
 -- ---- the loop
 module _ (ledger₀ monitor₀ : List ℕ) (keys₀ slots₀ probes₀ links₀ : List (List ℕ)) (queue₀ : List Probe) (entries : List (List ℕ)) (count : ℕ) (answers₀ : List (List ℕ)) (refusal : ℕ) where
@@ -64,17 +84,18 @@ module _ (ledger₀ monitor₀ : List ℕ) (keys₀ slots₀ probes₀ links₀ 
 
   pub serves-on : (i : ℕ) (ledger monitor : List ℕ) (keys slots probes links : List (List ℕ)) (queue : List Probe) (answers : List (List ℕ))
       (reply : Reply) (state : Ledger) (watch : Monitor) (given : WatchedAccept) (keys′ slots′ probes′ links′ : List (List ℕ)) (queue′ : List Probe) (ledger′ monitor′ : List ℕ)
-      (answer : AcceptAnswer) (answers′ : List (List ℕ))
+      (number : ℕ) (words : List ℕ) (answers′ : List (List ℕ))
       → Serves i ledger monitor keys slots probes links queue answers → i < count
       → reply ≡ replyAt (getD entries i []) → state ≡ ledgerAt ledger → watch ≡ monitorAt monitor
       → acceptResult given keys′ slots′ probes′ links′ queue′ ≡ acceptTo state watch keys slots probes links queue reply
       → (ledger′ ≡ ledgerAfter ledger given) × (monitor′ ≡ monitorAfter monitor given)
-      → answer ≡ ledgerPart given
-      → answers′ ≡ set answers i (rowAfter (getD answers i []) answer)
+      → number ≡ acceptNumber given
+      → words ≡ answerAfter zeros given
+      → answers′ ≡ set answers i (rowAfter (getD answers i []) number words)
       → Serves (i + 1) ledger′ monitor′ keys′ slots′ probes′ links′ queue′ answers′
-  serves-on i ledger monitor keys slots probes links queue answers reply state watch given keys′ slots′ probes′ links′ queue′ ledger′ monitor′ answer answers′ h less er es em eg el ep ea =
+  serves-on i ledger monitor keys slots probes links queue answers reply state watch given keys′ slots′ probes′ links′ queue′ ledger′ monitor′ number words answers′ h less er es em eg el en ew ea =
       up-more acceptEntry entries begun (left (lent ledger monitor keys slots probes links queue) answers) (left (lent ledger′ monitor′ keys′ slots′ probes′ links′ queue′) answers′) i h
-      (entry-ends ledger monitor keys slots probes links queue entries i answers reply state watch given keys′ slots′ probes′ links′ queue′ ledger′ monitor′ answer answers′ er es em eg el ep ea)
+      (entry-ends ledger monitor keys slots probes links queue entries i answers reply state watch given keys′ slots′ probes′ links′ queue′ ledger′ monitor′ number words answers′ er es em eg el en ew ea)
 
   pub all-served : (i : ℕ) (ledger monitor : List ℕ) (keys slots probes links : List (List ℕ)) (queue : List Probe) (answers : List (List ℕ)) (r : ℕ)
       → Serves i ledger monitor keys slots probes links queue answers → i ≤ count → count ≤ i → r ≡ refusal

@@ -1,2 +1,1 @@
 pub mod Burst
-pub mod Part

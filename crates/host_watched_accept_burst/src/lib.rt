@@ -2,19 +2,20 @@
 // Each function that is lent the queue is a straight line of calls, so that the walk of it is short; what depends on a test is in the functions that
 // it calls.
 ghost use mathlib.Core.Path.{_≡_};
+ghost use mathlib.Core.List.{[], _∷_};
 ghost use Rattle.host_burst.specs.Burst.{left, listed, upTo};
-ghost use Rattle.host_watched_accept.specs.Calls.{ledgerAfter, monitorAfter};
+ghost use Rattle.ledger_watched.specs.Watched.{acceptNumber};
+ghost use Rattle.host_watched_accept.specs.Calls.{ledgerAfter, monitorAfter, answerAfter};
 ghost use Rattle.host_watched_accept_burst.specs.Burst.{lent, acceptEntry, watchedBurst};
-ghost use Rattle.host_watched_accept_burst.specs.Part.{ledgerPart};
 use host_burst::put_row;
 use host_burst::refusal_of_list;
 use host_burst::reply_at;
 use host_burst::served_of_list;
 use host_burst::told;
+use host_calls::accepted_words;
 use host_ledger::LEDGER_WORDS;
 use host_monitor_words::store;
 use host_served::store_served;
-use ledger_steps::AcceptAnswer;
 use ledger_watched::WatchedAccept;
 use probe_queue::Probe;
 
@@ -31,12 +32,22 @@ fn store_given(ledger: &mut [u64; LEDGER_WORDS], monitor: &mut [u64; 12], given:
     }
 }
 
-fn ledger_part(given: WatchedAccept) -> AcceptAnswer
-    ensures { λ r. ⌜ r ≡ ledgerPart given ⌝ }
+fn number_of(given: WatchedAccept) -> u8
+    ensures { λ r. ⌜ r ≡ acceptNumber given ⌝ }
 {
     match given {
-        WatchedAccept::Served(ledger, _, accepted) => AcceptAnswer::Served(ledger, accepted),
-        WatchedAccept::Refused(number) => AcceptAnswer::Refused(number),
+        WatchedAccept::Served(_, _, _) => 0,
+        WatchedAccept::Refused(number) => number,
+    }
+}
+
+// The words of the answer; zeros, which no row takes, where the call was refused.
+fn words_of(given: WatchedAccept) -> [u64; 6]
+    ensures { λ r. ⌜ r ≡ answerAfter (0 ∷ 0 ∷ 0 ∷ 0 ∷ 0 ∷ 0 ∷ []) given ⌝ }
+{
+    match given {
+        WatchedAccept::Served(_, _, accepted) => accepted_words(accepted),
+        WatchedAccept::Refused(_) => [0, 0, 0, 0, 0, 0],
     }
 }
 
@@ -63,8 +74,9 @@ fn serve(
         let watch = host_monitor_words::load(monitor);
         let given = ledger_watched::accept(state, watch, keys, slots, probes, links, queue, reply);
         store_given(ledger, monitor, given);
-        let answer = ledger_part(given);
-        put_row(answers, i, answer);
+        let number = number_of(given);
+        let words = words_of(given);
+        put_row(answers, i, number, words);
         i = i + 1;
     }
     told(refusal)

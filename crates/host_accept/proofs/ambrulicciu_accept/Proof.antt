@@ -1,5 +1,5 @@
 -- `host_accept::ambrulicciu_accept` meets its contract. Assumes nothing.
-use Rattle.host_accept.proofs.Steps.{sound, refused-is, served-is}
+use Rattle.host_accept_words.proofs.Steps.{sound, refused-is, served-is}
 use borrow.Author.Needs.{needs}
 use Rattle.host_accept.proofs.ambrulicciu_accept.Statement.{statement}
 use Rattle.host_accept.proofs.ambrulicciu_accept.Tie as tie

@@ -1,47 +1,36 @@
 -- `host_burst::put_row` meets its contract. Assumes nothing.
-use mathlib.Core.Path.{ap}
+use mathlib.Core.Path.{sym, ap, _∙_}
+use mathlib.Core.List.{[]}
+use Prim.Native.Nat.{ℕ}
 use denote.Ref.{now}
-use lib.ListN.{set}
-use Rattle.host_burst.proofs.Steps.{set-outside}
+use lib.ListN.{getD, set}
+use Rattle.host_burst.specs.Entries.{rowAfter}
+use Rattle.host_burst.proofs.Steps.{refused-row}
 use borrow.Author.Needs.{needs}
 use Rattle.host_burst.proofs.put_row.Statement.{statement}
 use Rattle.host_burst.proofs.put_row.Tie as tie
 
-mul-row-after : tie.Need-mul-row-after
-mul-row-after c = search needs
-
-slice-copy-out-row-after : tie.Need-slice-copy-out-row-after
-slice-copy-out-row-after c = search needs
-
-row-after-requires : tie.Need-row-after-requires
-row-after-requires c κs = search needs
-
-mul-t10 : tie.Need-mul-t10
-mul-t10 c = search needs
-
-slice-set-from-rows : tie.Need-slice-set-from-rows
-slice-set-from-rows c = search needs
+put-served-requires : tie.Need-put-served-requires
+put-served-requires c κs = search needs
 
 same-length : tie.Need-same-length
 same-length c = search needs
 
 returns : tie.Need-returns
 returns c =
-    let a = c .before .before .before .args in
-    ap (set (now (a .rows)) (a .i)) (c .row-after .ensures)
+    let a = c .before .before .before .before .args in
+    c .before .put-served .ensures ∙ sym (ap (λ (n : ℕ). set (now (a .rows)) (a .i) (rowAfter (getD (now (a .rows)) (a .i) []) n (a .words))) (c .before .before .before .if1 .taken))
+
+put-refused-requires : tie.Need-put-refused-requires
+put-refused-requires c κs = search needs
+
+same-length-2 : tie.Need-same-length-2
+same-length-2 c = search needs
 
 returns-2 : tie.Need-returns-2
-returns-2 c = let a = c .before .args in set-outside (now (a .rows)) (a .i) _ (c .if1 .left)
+returns-2 c =
+    let a = c .before .before .before .before .args in
+    c .before .put-refused .ensures ∙ ap (set (now (a .rows)) (a .i)) (refused-row (getD (now (a .rows)) (a .i) []) (a .number) (a .words) (c .before .before .before .if1 .left))
 
 pub put-row-spec : {M : Type 1} → statement M
-put-row-spec =
-    tie.close
-    (tie.spec
-    mul-row-after
-    slice-copy-out-row-after
-    row-after-requires
-    mul-t10
-    slice-set-from-rows
-    same-length
-    returns
-    returns-2)
+put-row-spec = tie.close (tie.spec put-served-requires same-length returns put-refused-requires same-length-2 returns-2)

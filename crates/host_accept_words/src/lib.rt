@@ -1,0 +1,236 @@
+// The ledger's `accept` on the words and the rooms that a host lends: what a single call and a list of them have in common, with a monitor and
+// without. It is no call of its own, since a crate that exports one cannot be what another call's object is made of. The refusals are tested in the
+// words, the key and the probe are looked for once, and what is counted is taken out of its words only then: a whole ledger would stay in registers
+// and on the stack over all of that, which was a fifth of a unique reply's time. Crate ledger_accept has the same call on a ledger by value; its
+// contract and this one cite one definition, `acceptTo`.
+ghost use mathlib.Core.Path.{_≡_};
+ghost use mathlib.Core.Bool.{true, _&&_};
+ghost use Prim.Native.Nat.{_≤_, _<_};
+ghost use lib.Dec.{leb};
+ghost use lib.ListN.{length, getD};
+ghost use Rattle.scope.specs.Limits.{capacity, mostCalls, countBound};
+ghost use Rattle.chains.specs.Hash.{numberHash};
+ghost use Rattle.key_ring.specs.Table.{find as findKey, hashOf};
+ghost use Rattle.probe_ring.specs.Rooms.{rooms, outcome};
+ghost use Rattle.replies.specs.Bounds.{InBounds};
+ghost use Rattle.replies.specs.Served.{afterUnique};
+ghost use Rattle.ledger_state.specs.State.{hashWords};
+ghost use Rattle.ledger_state.specs.Refusal.{firstRefusal, ringsFit, roomForCall};
+ghost use Rattle.ledger_steps.specs.Accept.{isPending, ledgerUnique, readied, uniqueIn, acceptOn};
+ghost use Rattle.ledger_checks.specs.Sound.{SoundAccept};
+ghost use Rattle.host_ledger.specs.Words.{ledgerAt};
+ghost use Rattle.host_ledger.specs.Left.{acceptedWords};
+ghost use Rattle.host_accept_words.specs.Accept.{acceptLeft, duplicateWords, unknownWords, servedLeaves};
+use calls::Reply;
+use chains::Ring;
+use host_ledger::LEDGER_WORDS;
+use ledger_state::Tables;
+use probe_ring::Remembered;
+use scope::CAPACITY;
+
+// ---- what is counted
+
+// One call and one duplicate more.
+fn count_duplicate(ledger: &mut [u64; LEDGER_WORDS])
+    requires { ⌜ (getD (now ledger) 5 0 < mostCalls) × (getD (now ledger) 13 0 < countBound) ⌝ }
+    ensures { λ _. ⌜ now (ledger .exit) ≡ duplicateWords (now (ledger .entry)) ⌝ }
+{
+    let calls = ledger[5];
+    let duplicate = ledger[13];
+    let unknown = ledger[14];
+    ledger[5] = calls + 1;
+    ledger[13] = duplicate + 1;
+    ledger[14] = unknown;
+}
+
+// One call and one unknown reply more.
+fn count_unknown(ledger: &mut [u64; LEDGER_WORDS])
+    requires { ⌜ (getD (now ledger) 5 0 < mostCalls) × (getD (now ledger) 14 0 < countBound) ⌝ }
+    ensures { λ _. ⌜ now (ledger .exit) ≡ unknownWords (now (ledger .entry)) ⌝ }
+{
+    let calls = ledger[5];
+    let duplicate = ledger[13];
+    let unknown = ledger[14];
+    ledger[5] = calls + 1;
+    ledger[13] = duplicate;
+    ledger[14] = unknown + 1;
+}
+
+// One call and one unique reply more, whose probe had `before` replies; both rings, and that its key awaits one observe.
+fn count_unique(
+    ledger: &mut [u64; LEDGER_WORDS],
+    keys: Ring,
+    probes: Ring,
+    before: u16,
+    evicted: bool,
+    lost: bool,
+    reply: Reply,
+)
+    requires { ⌜ (ledgerAt (now ledger) .calls < mostCalls) × InBounds (ledgerAt (now ledger) .counts .replies) ⌝ }
+    ensures { λ _. ⌜ now (ledger .exit) ≡ acceptedWords (now (ledger .entry)) (ledgerUnique (ledgerAt (now (ledger .entry))) keys probes (afterUnique before (ledgerAt (now (ledger .entry)) .copies) (isPending (reply .pending)) (reply .key .sender) (reply .key .reflector) evicted lost (leb capacity (ledgerAt (now (ledger .entry)) .tables .keys .len)) (ledgerAt (now (ledger .entry)) .counts .replies))) ⌝ }
+{
+    let key = reply.key;
+    let pending = reply.pending;
+    let copies = (ledger[0] % 65536) as u16;
+    let full = 4096 <= ledger[7];
+    let sofar = host_ledger::replies_of(ledger);
+    let replies = sofar.unique(
+        before,
+        copies,
+        ledger_accept::is_pending(pending),
+        key.sender,
+        key.reflector,
+        evicted,
+        lost,
+        full,
+    );
+    let calls = ledger[5];
+    ledger[5] = calls + 1;
+    host_ledger::store_tables(
+        ledger,
+        Tables {
+            keys,
+            probes,
+            awaits: true,
+        },
+    );
+    host_ledger::store_replies(ledger, replies);
+}
+
+// ---- by the class of the reply
+
+// A unique reply whose probe is ready: the probe has one reply more, and the key is accepted.
+fn unique_ready(
+    ledger: &mut [u64; LEDGER_WORDS],
+    keys: &mut [[u64; 2]],
+    slots: &mut [[u64; 3]],
+    probes: &mut [[u64; 4]],
+    links: &mut [[u16; 8]],
+    secret: [u32; 8],
+    ready: Remembered,
+    reply: Reply,
+    answer: &mut [u64; 6],
+)
+    requires { ⌜ SoundAccept (ledgerAt (now ledger)) (length (now keys)) (length (now slots)) (length (now probes)) (length (now links)) × (secret ≡ hashWords (ledgerAt (now ledger))) × (ready .slot < capacity) ⌝ }
+    ensures { λ _. ⌜ acceptLeft 0 (now (ledger .exit)) (now (keys .exit)) (now (slots .exit)) (now (probes .exit)) (now (links .exit)) (now (answer .exit)) ≡ servedLeaves (now (ledger .entry)) (uniqueIn capacity (hashOf (hashWords (ledgerAt (now (ledger .entry))))) (numberHash (hashWords (ledgerAt (now (ledger .entry))))) (ledgerAt (now (ledger .entry))) (now (keys .entry)) (now (slots .entry)) (outcome (now (probes .entry)) (now (links .entry)) ready) reply) ⌝ }
+{
+    let key = reply.key;
+    let pending = reply.pending;
+    let ring = host_checks::keys_ring(ledger);
+    let held = ready.ring;
+    let replied = ledger_accept::reply_to(probes, ready.slot, pending);
+    let context = replied.context;
+    let next = key_ring::accept_key(keys, slots, links, ring, secret, key);
+    count_unique(
+        ledger,
+        next,
+        held,
+        replied.before,
+        ready.evicted,
+        ready.lost,
+        reply,
+    );
+    *answer = host_calls::accepted_words(context);
+}
+
+// A unique reply; `slot` is that of its probe.
+fn unique(
+    ledger: &mut [u64; LEDGER_WORDS],
+    keys: &mut [[u64; 2]],
+    slots: &mut [[u64; 3]],
+    probes: &mut [[u64; 4]],
+    links: &mut [[u16; 8]],
+    secret: [u32; 8],
+    slot: usize,
+    reply: Reply,
+    answer: &mut [u64; 6],
+)
+    requires { ⌜ SoundAccept (ledgerAt (now ledger)) (length (now keys)) (length (now slots)) (length (now probes)) (length (now links)) × (secret ≡ hashWords (ledgerAt (now ledger))) ⌝ }
+    ensures { λ _. ⌜ acceptLeft 0 (now (ledger .exit)) (now (keys .exit)) (now (slots .exit)) (now (probes .exit)) (now (links .exit)) (now (answer .exit)) ≡ servedLeaves (now (ledger .entry)) (uniqueIn capacity (hashOf (hashWords (ledgerAt (now (ledger .entry))))) (numberHash (hashWords (ledgerAt (now (ledger .entry))))) (ledgerAt (now (ledger .entry))) (now (keys .entry)) (now (slots .entry)) (readied capacity (hashOf (hashWords (ledgerAt (now (ledger .entry))))) (numberHash (hashWords (ledgerAt (now (ledger .entry))))) (rooms (now (probes .entry)) (now (links .entry)) (ledgerAt (now (ledger .entry)) .tables .probes)) slot (reply .key) (reply .pending)) reply) ⌝ }
+{
+    let ring = host_checks::probes_ring(ledger);
+    let ready = ledger_accept::ready_probe(probes, links, ring, secret, slot, reply);
+    unique_ready(
+        ledger,
+        keys,
+        slots,
+        probes,
+        links,
+        secret,
+        ready,
+        reply,
+        answer,
+    );
+}
+
+// A reply whose key is not among the last accepted: unique where its probe is held or a packet is pending, else unknown.
+fn other(
+    ledger: &mut [u64; LEDGER_WORDS],
+    keys: &mut [[u64; 2]],
+    slots: &mut [[u64; 3]],
+    probes: &mut [[u64; 4]],
+    links: &mut [[u16; 8]],
+    secret: [u32; 8],
+    reply: Reply,
+    answer: &mut [u64; 6],
+)
+    requires { ⌜ SoundAccept (ledgerAt (now ledger)) (length (now keys)) (length (now slots)) (length (now probes)) (length (now links)) × (secret ≡ hashWords (ledgerAt (now ledger))) × (capacity ≤ findKey (hashWords (ledgerAt (now ledger))) (now keys) (now links) (ledgerAt (now ledger) .tables .keys) (reply .key)) ⌝ }
+    ensures { λ _. ⌜ acceptLeft 0 (now (ledger .exit)) (now (keys .exit)) (now (slots .exit)) (now (probes .exit)) (now (links .exit)) (now (answer .exit)) ≡ servedLeaves (now (ledger .entry)) (acceptOn (ledgerAt (now (ledger .entry))) (now (keys .entry)) (now (slots .entry)) (now (probes .entry)) (now (links .entry)) reply) ⌝ }
+{
+    let pending = reply.pending;
+    let ring = host_checks::probes_ring(ledger);
+    let slot = probe_ring::find(probes, links, ring, secret, reply.key.sender);
+    if (slot < CAPACITY) | ledger_accept::is_pending(pending) {
+        unique(
+            ledger,
+            keys,
+            slots,
+            probes,
+            links,
+            secret,
+            slot,
+            reply,
+            answer,
+        );
+        return;
+    }
+    *answer = [0, 0, 0, 0, 0, 0];
+    count_unknown(ledger);
+}
+
+// A reply that is not refused. A duplicate is answered at once.
+pub fn served(
+    ledger: &mut [u64; LEDGER_WORDS],
+    keys: &mut [[u64; 2]],
+    slots: &mut [[u64; 3]],
+    probes: &mut [[u64; 4]],
+    links: &mut [[u16; 8]],
+    reply: Reply,
+    answer: &mut [u64; 6],
+)
+    requires { ⌜ SoundAccept (ledgerAt (now ledger)) (length (now keys)) (length (now slots)) (length (now probes)) (length (now links)) ⌝ }
+    ensures { λ _. ⌜ acceptLeft 0 (now (ledger .exit)) (now (keys .exit)) (now (slots .exit)) (now (probes .exit)) (now (links .exit)) (now (answer .exit)) ≡ servedLeaves (now (ledger .entry)) (acceptOn (ledgerAt (now (ledger .entry))) (now (keys .entry)) (now (slots .entry)) (now (probes .entry)) (now (links .entry)) reply) ⌝ }
+{
+    let key = reply.key;
+    let secret = host_checks::secret_words(ledger);
+    let ring = host_checks::keys_ring(ledger);
+    if key_ring::find(keys, links, ring, secret, key) < CAPACITY {
+        *answer = [1, 0, 0, 0, 0, 0];
+        count_duplicate(ledger);
+        return;
+    }
+    other(ledger, keys, slots, probes, links, secret, reply, answer);
+}
+
+// ---- the refusals
+
+// The number of the ledger's own tests; where a list of replies is sure that it is 0, nothing is tested.
+pub fn refusal_unless(sure: bool, ledger: &[u64; LEDGER_WORDS], sized: bool) -> u8
+    requires { ⌜ (sure ≡ true → firstRefusal (sized && ringsFit (ledgerAt (now ledger))) true true (roomForCall (ledgerAt (now ledger))) true true ≡ 0) ⌝ }
+    ensures { λ r. ⌜ r ≡ firstRefusal (sized && ringsFit (ledgerAt (now (ledger .entry)))) true true (roomForCall (ledgerAt (now (ledger .entry)))) true true ⌝ }
+{
+    if sure {
+        return 0;
+    }
+    host_checks::refusal(ledger, sized)
+}
