@@ -1,10 +1,10 @@
 -- Each call's promise in document 01's numbers and values: of the answer that the definition cited by its contract gives. Assumes nothing.
 use mathlib.Core.Path.{_≡_, refl, sym, ap, _∙_}
-use mathlib.Core.Bool.{Bool, true, false}
+use mathlib.Core.Bool.{Bool, true, false, cond}
 use mathlib.Core.List.{List, [], _∷_}
 use Prim.Native.Nat.{ℕ, zero, suc}
 use borrow.Author.Tests.{eqb-true, eqb-false}
-use lib.Dec.{eqb}
+use lib.Dec.{eqb, ltb}
 use lib.ListN.{length, getD}
 use Rattle.scope.specs.Limits.{capacity}
 use Rattle.scope.specs.Refusals.{wrongRoom}
@@ -28,9 +28,13 @@ use Rattle.ledger_steps.specs.Readers.{answeredOn}
 use Rattle.ledger_steps.specs.Calls.{sentBy, sentTo, acceptBy, acceptTo, observeBy, observeTo, answeredBy, answeredTo}
 use Rattle.link_steps.specs.Steps.{isUnique}
 use Rattle.ledger_watched.specs.Watched as watched
+use Rattle.record_parts.specs.declared.Entry.{Entry}
+use Rattle.log_record.specs.Records.{badRecord, entryOf, answer, readNumber, readOf}
+use Rattle.link_log.specs.declared.Played.the-variants as played
+use Rattle.link_log.specs.Logs.{mostBytes, tooLong, badTrailer, trailerGood, countOf, settingsOf, recordAt, playedBy, callAt}
 use Rattle.host_calls.specs.Calls.{acceptedWords}
 use Rattle.host_numbers.specs.Numbers.{flagWord}
-use Rattle.answers.specs.Outcomes.{Outcome, outcome, byNumber, ledgerOutcome, acceptOutcome, answeredOutcome, watchedOutcome, watchedAcceptOutcome, monitorOutcome, deadlineOutcome}
+use Rattle.answers.specs.Outcomes.{Outcome, outcome, byNumber, ledgerOutcome, acceptOutcome, answeredOutcome, watchedOutcome, watchedAcceptOutcome, monitorOutcome, deadlineOutcome, playedCalls, playedNumber, callsBy}
 
 -- ---- the ledger
 
@@ -138,3 +142,18 @@ watched-accept-promise l m keys slots probes links queue a =
         ≡ byNumber n (acceptedWords (o .accepted)) (o .ledger, replyIf (isUnique (o .accepted)) m queue (a .key .sender) .monitor) (l, m)
     by zero o = refl
     by (suc n) o = refl
+
+-- ---- a log's record
+
+pub call-at-promise : (log : List ℕ) (i : ℕ) → playedCalls (callAt log i) ≡ callsBy (playedNumber log i) (entryOf (recordAt log (settingsOf log .start) i))
+unfolding callAt readOf
+call-at-promise log i =
+    by (ltb mostBytes (length log)) (trailerGood log) (ltb i (countOf log)) (readNumber (recordAt log (settingsOf log .start) i)) (entryOf (recordAt log (settingsOf log .start) i))
+  where
+    by : (long kept there : Bool) (n : ℕ) (e : Entry) → playedCalls (cond long played.Nothing (cond kept (cond there (playedBy (answer n e)) played.Nothing) played.Nothing))
+        ≡ callsBy (cond long tooLong (cond kept (cond there n badRecord) badTrailer)) e
+    by true kept there n e = refl
+    by false false there n e = refl
+    by false true false n e = refl
+    by false true true zero e = refl
+    by false true true (suc n) e = refl

@@ -1,8 +1,10 @@
 -- "For each answer that is an enum, a definition gives this paper's number and values for each of the enum's cases" (document 01): of the ledger, of the ledger
 -- with a monitor, of the monitor, and of a log's record. A refusal is its number only, and the state as it was. Assumes nothing.
-use mathlib.Core.Bool.{Bool}
+use mathlib.Core.Bool.{Bool, cond}
 use mathlib.Core.List.{List, [], _∷_}
 use Prim.Native.Nat.{ℕ, zero, suc}
+use lib.Dec.{ltb}
+use lib.ListN.{length}
 use Rattle.calls.specs.declared.Call.{Call}
 use Rattle.ledger_state.specs.declared.Ledger.{Ledger}
 use Rattle.ledger_steps.specs.declared.Accepted.{Accepted}
@@ -23,6 +25,10 @@ use Rattle.ledger_watched.specs.declared.WatchedAccept.{WatchedAccept}
 use Rattle.ledger_watched.specs.declared.WatchedAccept.the-variants as watchedAccept
 use Rattle.host_calls.specs.Calls.{acceptedWords}
 use Rattle.host_numbers.specs.Numbers.{flagWord}
+use Rattle.record_parts.specs.declared.Entry.{Entry}
+use Rattle.record_parts.specs.Parts.{callOf}
+use Rattle.log_record.specs.Records.{badRecord, readNumber}
+use Rattle.link_log.specs.Logs.{mostBytes, tooLong, badTrailer, trailerGood, countOf, settingsOf, recordAt}
 use Rattle.link_log.specs.declared.Played.{Played}
 use Rattle.link_log.specs.declared.Played.the-variants as played
 
@@ -77,7 +83,18 @@ deadlineOutcome before deadline.Absent = outcome 0 [] before
 deadlineOutcome before (deadline.At time) = outcome 0 (time ∷ []) before
 deadlineOutcome before (deadline.Refused n) = outcome n [] before
 
--- a log's record: the call that is played, or none; it has no number of its own
+-- a log's record: the call that is played, or none
 abbrev pub playedCalls : Played → List Call
 playedCalls played.Nothing = []
 playedCalls (played.Call c) = c ∷ []
+
+-- its number: 9 above 65,536 bytes, 7 with a bad trailer, 8 where the log has no such record or it is bad, which all play nothing
+abbrev pub playedNumber : List ℕ → ℕ → ℕ
+playedNumber log i =
+    cond (ltb mostBytes (length log)) tooLong
+    (cond (trailerGood log) (cond (ltb i (countOf log)) (readNumber (recordAt log (settingsOf log .start) i)) badRecord) badTrailer)
+
+-- by that number: at 0 the call that the record makes
+abbrev pub callsBy : ℕ → Entry → List Call
+callsBy zero e = callOf e ∷ []
+callsBy (suc n) e = []
