@@ -75,12 +75,12 @@ monitor-fits (monitor.replying sequence) h = tt
 monitor-fits (monitor.advancing time) h = tt
 monitor-fits monitor.idling h = tt
 
-mixed-fits : (c : MixedHostCall) → AnyNumbersFit c → MixedTyped c × MixedFits (mixedTold c)
+pub mixed-fits : (c : MixedHostCall) → AnyNumbersFit c → MixedTyped c × MixedFits (mixedTold c)
 mixed-fits (watched c) h = call-fits c h
 mixed-fits (plain c) h = call-fits c h
 mixed-fits (alone c) h = (monitor-fits c h, tt)
 
-all-fit : (cs : List MixedHostCall) → AllNumbersFit cs → AllMixedTyped cs × AllMixedFit (map mixedTold cs)
+pub all-fit : (cs : List MixedHostCall) → AllNumbersFit cs → AllMixedTyped cs × AllMixedFit (map mixedTold cs)
 unfolding AllNumbersFit AllMixedTyped AllMixedFit
 all-fit [] h = (tt, tt)
 all-fit (c ∷ cs) h =

@@ -1,0 +1,5 @@
+pub mod Quality
+pub mod Words
+pub mod Monitor
+pub mod Host
+pub mod Plainly

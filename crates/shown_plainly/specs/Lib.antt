@@ -1,0 +1,4 @@
+pub mod Host
+pub mod Monitor
+pub mod Words
+pub mod Reads
