@@ -201,7 +201,7 @@ module _ (s : Settings) (x : Memory) (fits : Fits s x) where
   host-fits = record { threshold = fits .threshold; secret = fits .secret }
 
   -- the number of the next call is the library's
-  number-is : (cs : List HostCall) → AllTyped cs → (c : HostCall) → Typed c
+  pub number-is : (cs : List HostCall) → AllTyped cs → (c : HostCall) → Typed c
       → play (after (begun s x) cs) c .number ≡ numberOf (mixedPlayed (freshLink (makingOf s x)) (saidOf cs)) (mixedTold (mixedOf c))
   number-is cs w c h =
       play-is (after (begun s x) cs) c .0

@@ -3,3 +3,4 @@ pub mod Words
 pub mod Monitor
 pub mod Host
 pub mod Plainly
+pub mod Numbers
