@@ -25,7 +25,7 @@ use Rattle.calls.specs.declared.Call.the-variants.{Sent, Accept, Observe}
 use Rattle.timestamps.specs.Converted.{converted, secondNear}
 use Rattle.history.specs.Counting.{has, offset}
 use Rattle.history.specs.Ledger.{rememberings, without, distinct, replies, ordinal, packet, accepted, hasKey, awaiting, lastAccepted, oldest, train, held, replyClass, ready, afterReply, events, Answer, isUnique, answer, count, highestReflector, behind, probesEvicted, evictedUnanswered, replyCounts, thousandths, unobserved}
-use Rattle.history.specs.FollowUps.{Slot, free, taken, followClass, slotAt, FollowClass, unavailable, ambiguous, unmatched, repeated, matched, classAt, followCounts, measured, measuredIn, delay}
+use Rattle.history.specs.FollowUps.{Slot, free, taken, followClass, slotAt, FollowClass, unavailable, ambiguous, unmatched, repeated, matched, classAt, followCounts, measured, withSlot, delay}
 use Rattle.history.specs.DirectLoss.{anchorOf, receivedMaximum, latest, missing, DirectClass, mismatch, zeros, anchors, jump, again, exceeded, reordered, advanced, directClass, window, spans, Spans}
 
 -- ---- short ways to write calls
@@ -276,7 +276,7 @@ unfolding slotAt events replyClass lastAccepted held ready afterReply accepted r
 withheld = (refl, refl)
 
 -- the offset moves the window of the timestamp: 2^31 + 7 s is near 7 + 1 s, and the delay is 900 - (T3 - 10^9)
-offset-added : measuredIn (taken 1 (some (record { t4 = some (pos 900); format = PTP; reference = pos 7; quality = none })) false) (2147483655 * 2 ^ 32) (pos 1) []
+offset-added : withSlot (taken 1 (some (record { t4 = some (pos 900); format = PTP; reference = pos 7; quality = none })) false) (2147483655 * 2 ^ 32) (pos 1) []
     ≡ record { delay-ns = negsuc 2147483653999999099; quality = none } ∷ []
 unfolding converted secondNear
 offset-added = refl

@@ -16,6 +16,7 @@ use Rattle.history.specs.Ledger.{rememberings, without, distinct, accept
 use Rattle.timestamps.specs.Converted.{converted, secondNear}
 use Rattle.history.specs.FollowUps.{followClass, slotAt, measured, roundTrips}
 use Rattle.history.specs.Figures.{total, least, greatest, figuresOf, qualityOf, delays, given, estimates, roundTripFigures, delayFigures, clockQuality}
+use Rattle.history.specs.Quality.{Sample, ofClass, PlainQuality, plainQuality}
 use Rattle.history.proofs.Examples.{listing, one, corrected}
 
 -- 1 ns after -3 ns after 4 ns
@@ -81,3 +82,15 @@ whose = (refl, refl, refl, refl, refl, refl)
 -- the sender's estimate first
 both-given : given (some (record { sender = clock 1; reflector = clock 0 })) ≡ Pair (clock 1) (clock 0)
 both-given = refl
+
+-- the same by class numbers
+abbrev pair : ErrorEstimate → ErrorEstimate → Sample
+pair s r = some (record { sender = s; reflector = r })
+
+abbrev plainEnds : PlainQuality
+plainEnds = plainQuality (none ∷ pair (clock 0) (loose 0) ∷ pair (loose 1) (clock 0) ∷ pair (clock 0) (clock 1) ∷ pair (loose 0) (clock 1) ∷ pair (loose 1) (clock 1) ∷ pair (clock 1) (clock 1) ∷ [])
+
+plain-whose : (plainEnds .invalid-sender ≡ 2) × (plainEnds .invalid-reflector ≡ 1) × (plainEnds .invalid-both ≡ 1) × (plainEnds .unsynchronized ≡ 1) × (plainEnds .both ≡ 1)
+    × (plainEnds .unknown ≡ 1) × (plainEnds .samples ≡ 7) × (plainEnds .last ≡ none)
+unfolding ofClass
+plain-whose = (refl, refl, refl, refl, refl, refl, refl, refl)

@@ -30,7 +30,7 @@ use Rattle.history.specs.Figures.{figuresOf, estimates, roundTripFigures, delay
 use Rattle.history.specs.Figures as figures
 use Rattle.ledger_state.specs.Refusal.{countsFit}
 use Rattle.reply_history.specs.Follows.{repliesIn}
-use Rattle.observe_history.specs.Direct.{countsOf}
+use Rattle.observe_history.specs.Direct.{asDirectCounts}
 use Rattle.observe_history.specs.RoundTrips.{delaysFrom}
 use Rattle.observe_history.specs.FollowUps as observe_history
 use Rattle.link_history.specs.Shows.{countsFrom, callsIn}
@@ -73,12 +73,12 @@ module _ (copies : ℕ) (copies-in : copies < 2 ^ 16) (h : List Call) (room : ca
   trips-fit : delays.countsFit (delaysFrom (roundTripFigures capacity h)) ≡ true
   trips-fit = delays-fit (roundTrips (events capacity h)) (omega (arith, trips-few (events capacity h), events-few h)) (trips-in (events capacity h) fit)
 
-  direct-fit : countsInBounds (countsOf (directCounts capacity h)) ≡ true
+  direct-fit : countsInBounds (asDirectCounts (directCounts capacity h)) ≡ true
   direct-fit =
       both-hold _ _ (both-hold _ _ (both-hold _ _ (test-few (isDirect capacity isObservation) (count-few _ (on-observe _) h)) (test-few (isDirect capacity isUnavailable) (count-few _ (on-observe _) h)))
       (test-few (isDirect capacity isDiscontinuity) (count-few _ (on-observe _) h))) (test-few (isDirect capacity isBelow) (count-few _ (on-observe _) h))
 
-  classes-fit : follow_ups.countsFit (observe_history.countsFrom (followCounts capacity copies h)) ≡ true
+  classes-fit : follow_ups.countsFit (observe_history.asFollowCounts (followCounts capacity copies h)) ≡ true
   classes-fit =
       both-hold _ _ (both-hold _ _ (both-hold _ _ (both-hold _ _ (both-hold _ _ (test-few (hasFollow capacity copies) (count-few _ (on-observe _) h))
       (test-few (isFollow capacity copies matched) (count-few _ (on-observe _) h))) (test-few (isFollow capacity copies repeated) (count-few _ (on-observe _) h)))

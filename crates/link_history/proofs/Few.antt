@@ -22,7 +22,7 @@ use Rattle.clock_quality.specs.Samples as samples
 use Rattle.history.specs.Counting.{tally, has, orElse}
 use Rattle.history.specs.Given.{EstimatePair, packetOf, followOf}
 use Rattle.history.specs.Ledger.{Event, remembered, replied, observed, noPacket, accepted, held, Class, duplicate, unknown, unique, CallTest, isSent, onReply, onObserve, replyClass, ready, afterReply, events, count, oldest, replies, probesEvicted, evictedUnanswered}
-use Rattle.history.specs.FollowUps.{Slot, free, taken, convertedIn, Measured, measuredBy, measuredIn, sameFollow, matched, classAt, slotAt, measuredOf, measured, roundTrips}
+use Rattle.history.specs.FollowUps.{Slot, free, taken, convertedIn, Measured, withTimes, withSlot, sameFollow, matched, classAt, slotAt, withFollow, measured, roundTrips}
 use Rattle.history.specs.Figures.{delays, estimates}
 use Rattle.link_history.specs.Shows.{isCounted, callsIn}
 
@@ -125,21 +125,21 @@ trips-few (observed o ∷ es) = omega (arith, trips-few es)
 
 -- ---- the matched follow-ups
 
-by-few : (a b : Option ℤ) (offset : ℤ) (q : Option EstimatePair) (ms : List Measured) → length (measuredBy a b offset q ms) ≤ suc (length ms)
+by-few : (a b : Option ℤ) (offset : ℤ) (q : Option EstimatePair) (ms : List Measured) → length (withTimes a b offset q ms) ≤ suc (length ms)
 by-few (some a) (some b) offset q ms = omega arith
 by-few (some a) none offset q ms = omega arith
 by-few none b offset q ms = omega arith
 
-in-few : (s : Slot) (w : ℕ) (offset : ℤ) (ms : List Measured) → length (measuredIn s w offset ms) ≤ suc (length ms)
+in-few : (s : Slot) (w : ℕ) (offset : ℤ) (ms : List Measured) → length (withSlot s w offset ms) ≤ suc (length ms)
 in-few free w offset ms = omega arith
 in-few (taken n none c) w offset ms = omega arith
 in-few (taken n (some r) c) w offset ms = by-few (r .t4) (convertedIn r w offset) offset (r .quality) ms
 
-of-few : (copies : ℕ) (f : Option FollowUpTelemetry) (o : ReplyObservation) (es : List Event) (ms : List Measured) → length (measuredOf capacity copies f o es ms) ≤ suc (length ms)
+of-few : (copies : ℕ) (f : Option FollowUpTelemetry) (o : ReplyObservation) (es : List Event) (ms : List Measured) → length (withFollow capacity copies f o es ms) ≤ suc (length ms)
 of-few copies none o es ms = omega arith
 of-few copies (some f) o es ms = go (sameFollow matched (classAt capacity copies f (o .key .reflector) (o .offset) es))
   where
-    go : (b : Bool) → length (cond b (measuredIn (slotAt capacity copies es (f .sequence)) (f .timestamp) (o .offset) ms) ms) ≤ suc (length ms)
+    go : (b : Bool) → length (cond b (withSlot (slotAt capacity copies es (f .sequence)) (f .timestamp) (o .offset) ms) ms) ≤ suc (length ms)
     go true = in-few (slotAt capacity copies es (f .sequence)) (f .timestamp) (o .offset) ms
     go false = omega arith
 

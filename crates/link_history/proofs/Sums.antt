@@ -30,7 +30,7 @@ use Rattle.replies.proofs.Tested.{both}
 use Rattle.history.specs.Counting.{has, orElse}
 use Rattle.history.specs.Given.{EstimatePair, packetOf, timeOf, followOf, estimatesOf}
 use Rattle.history.specs.Ledger.{Event, remembered, replied, observed, noPacket, accepted, held, Class, duplicate, unknown, unique, replyClass, ready, afterReply, events}
-use Rattle.history.specs.FollowUps.{Kept, Slot, free, taken, recordOf, raise, lower, correct, sameFollow, matched, followClass, classAt, evicting, following, convertedIn, delay, Measured, measuredBy, measuredIn, evicted, slotAt, measuredOf, measured, roundTrips}
+use Rattle.history.specs.FollowUps.{Kept, Slot, free, taken, recordOf, raise, lower, correct, sameFollow, matched, followClass, classAt, evicting, following, convertedIn, delay, Measured, withTimes, withSlot, evicted, slotAt, withFollow, measured, roundTrips}
 use Rattle.history.specs.Figures.{total, delays}
 use Rattle.ledger_steps.specs.Rooms.{Stand}
 use Rattle.observe_history.specs.Follows.{ServedAt}
@@ -185,23 +185,23 @@ delay-few t4 t3 offset a b c =
     let small : natAbs seconds ≤ 86400000000000 = subst (λ (n : ℕ). n ≤ 86400000000000) (sym (natAbs-times offset 1000000000)) (mul-le-mul-right 1000000000 c) in
     omega (arith, natAbs-sub t4 (t3 -ℤ seconds), natAbs-sub t3 seconds, small, a, b)
 
-by-in : (a b : Option ℤ) (offset : ℤ) (q : Option EstimatePair) (ms : List Measured) → TimeIn a → TimeIn b → natAbs offset ≤ 86400 → AllIn (delays ms) → AllIn (delays (measuredBy a b offset q ms))
+by-in : (a b : Option ℤ) (offset : ℤ) (q : Option EstimatePair) (ms : List Measured) → TimeIn a → TimeIn b → natAbs offset ≤ 86400 → AllIn (delays ms) → AllIn (delays (withTimes a b offset q ms))
 unfolding delays
 by-in (some a) (some b) offset q ms x y z w = (delay-few a b offset x y z, w)
 by-in (some a) none offset q ms x y z w = w
 by-in none b offset q ms x y z w = w
 
-in-in : (s : Slot) (w : ℕ) (offset : ℤ) (ms : List Measured) → SlotIn s → natAbs offset ≤ 86400 → AllIn (delays ms) → AllIn (delays (measuredIn s w offset ms))
+in-in : (s : Slot) (w : ℕ) (offset : ℤ) (ms : List Measured) → SlotIn s → natAbs offset ≤ 86400 → AllIn (delays ms) → AllIn (delays (withSlot s w offset ms))
 in-in free w offset ms x z v = v
 in-in (taken n none c) w offset ms x z v = v
 in-in (taken n (some r) c) w offset ms x z v = by-in (r .t4) (convertedIn r w offset) offset (r .quality) ms x (converted-in r w offset) z v
 
 of-in : (copies : ℕ) (f : Option FollowUpTelemetry) (o : ReplyObservation) (es : List Event) (ms : List Measured) → EventsIn es → natAbs (o .offset) ≤ 86400 → AllIn (delays ms)
-    → AllIn (delays (measuredOf capacity copies f o es ms))
+    → AllIn (delays (withFollow capacity copies f o es ms))
 of-in copies none o es ms v z w = w
 of-in copies (some f) o es ms v z w = go (sameFollow matched (classAt capacity copies f (o .key .reflector) (o .offset) es))
   where
-    go : (b : Bool) → AllIn (delays (cond b (measuredIn (slotAt capacity copies es (f .sequence)) (f .timestamp) (o .offset) ms) ms))
+    go : (b : Bool) → AllIn (delays (cond b (withSlot (slotAt capacity copies es (f .sequence)) (f .timestamp) (o .offset) ms) ms))
     go true = in-in (slotAt capacity copies es (f .sequence)) (f .timestamp) (o .offset) ms (slot-in copies es v (f .sequence)) z w
     go false = w
 

@@ -19,7 +19,7 @@ use Rattle.history.specs.FollowUps.{followCounts}
 use Rattle.history.specs.Figures.{roundTripFigures, delayFigures, clockQuality}
 use Rattle.reply_history.specs.Fits.{KeyFits}
 use Rattle.reply_history.specs.Follows.{repliesIn, awaitsIn, asAccepted}
-use Rattle.observe_history.specs.Direct.{countsOf, windowOf, since, summaryFrom}
+use Rattle.observe_history.specs.Direct.{asDirectCounts, windowOf, since, summaryFrom}
 use Rattle.observe_history.specs.RoundTrips.{delaysFrom, shownFrom}
 use Rattle.observe_history.specs.FollowUps as observe_history
 use Rattle.observe_history.specs.Follows.{followShownFrom}
@@ -63,9 +63,9 @@ abbrev pub countsFrom : (copies : ℕ) → List Call → Counts
 countsFrom copies h = record {
   replies = repliesIn capacity copies h;
   rtt = delaysFrom (roundTripFigures capacity h);
-  direct = record { counts = countsOf (directCounts capacity h); window = windowOf (since capacity h) };
+  direct = record { counts = asDirectCounts (directCounts capacity h); window = windowOf (since capacity h) };
   follow = record {
-    counts = observe_history.countsFrom (followCounts capacity copies h);
+    counts = observe_history.asFollowCounts (followCounts capacity copies h);
     delay = delaysFrom (delayFigures capacity copies h);
     quality = clockQuality capacity copies h;
   };

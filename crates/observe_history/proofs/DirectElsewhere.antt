@@ -34,7 +34,7 @@ use Rattle.history.specs.Given.{packetOf}
 use Rattle.history.specs.Ledger.{Event, remembered, noPacket, Class, duplicate, unknown, unique, held, ready, afterReply, replyClass, events, count}
 use Rattle.history.specs.Counting.{has, orElse}
 use Rattle.history.specs.DirectLoss.{window, directCounts}
-use Rattle.observe_history.specs.Direct.{windowOf, seenSince, countsOf, since, DirectFollows}
+use Rattle.observe_history.specs.Direct.{windowOf, seenSince, asDirectCounts, since, DirectFollows}
 use Rattle.observe_history.proofs.Lanes.{Untouched, same, then, still-rows, still-whole, remembered-elsewhere, readied-elsewhere, accepted-elsewhere}
 use Rattle.observe_history.proofs.DirectLaws.{direct-observed}
 
@@ -55,7 +55,7 @@ module _ (N : ℕ) (byNumber : ℕ → ℕ) where
       → Untouched 6 links links′ → DirectFollows N byNumber h d offsets links → DirectFollows N byNumber h′ d offsets links′
   unfolding offset_set.seen
   kept h h′ d offsets links links′ w n u f = record {
-    counts = f .counts ∙ ap countsOf (sym n);
+    counts = f .counts ∙ ap asDirectCounts (sym n);
     window = f .window ∙ ap windowOf (sym w);
     seen = f .seen ∙ ap seenSince (sym w);
     sound = record {

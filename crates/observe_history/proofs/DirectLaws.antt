@@ -27,7 +27,7 @@ use Rattle.history.specs.Given.{ordinalOf, countersOf}
 use Rattle.history.specs.Ledger.{events, count}
 use Rattle.history.specs.DirectLoss.{DirectClass, directClass, withCounters, window, directAt, isDirect, directCounts, isObservation, isUnavailable, isDiscontinuity, isBelow, isExceeded}
 use Rattle.ledger_steps.specs.Observe.{DirectOutcome, directBy, directIn}
-use Rattle.observe_history.specs.Direct.{windowOf, seenSince, countsOf, since, offsetsOf, DirectFollows}
+use Rattle.observe_history.specs.Direct.{windowOf, seenSince, asDirectCounts, since, offsetsOf, DirectFollows}
 use Rattle.observe_history.proofs.Windows.{has-same}
 use Rattle.observe_history.proofs.DirectSteps.{raisedBy, countsAfter, sought, sought-same, step-is, class-room}
 use Rattle.observe_history.proofs.SeenOffsets.{Seen, seen-length, after-class}
@@ -83,11 +83,11 @@ module _ (N : ℕ) (byNumber : ℕ → ℕ) where
   now o h test k = tally (directAt N test (ordinalOf (o .ordinal)) k (events N h)) (count N (isDirect N test) h)
 
   counts-more : (o : ReplyObservation) (h : List Call)
-      → countsWith N (ordinalOf (o .ordinal)) (countersOf (o .counters)) (since N h) (countsOf (directCounts N h)) ≡ countsOf (directCounts N (Observe o ∷ h))
+      → countsWith N (ordinalOf (o .ordinal)) (countersOf (o .counters)) (since N h) (asDirectCounts (directCounts N h)) ≡ asDirectCounts (directCounts N (Observe o ∷ h))
   unfolding count
   counts-more o h = go (countersOf (o .counters))
     where
-      go : (k : Option CounterPoint) → countsWith N (ordinalOf (o .ordinal)) k (since N h) (countsOf (directCounts N h))
+      go : (k : Option CounterPoint) → countsWith N (ordinalOf (o .ordinal)) k (since N h) (asDirectCounts (directCounts N h))
           ≡ record { observations = now o h isObservation k; unavailable = now o h isUnavailable k; discontinuities = now o h isDiscontinuity k; reordered = now o h isBelow k; exceeded = ltb 0 (now o h isExceeded k) }
       go none = refl
       go (some c) = let x = directClass N (ordinalOf (o .ordinal)) c (since N h) in λ i. record {
@@ -105,14 +105,14 @@ module _ (N : ℕ) (byNumber : ℕ → ℕ) where
       → DirectFollows N byNumber (Observe o ∷ h) (directIn N byNumber d offsets links o .direct) (directIn N byNumber d offsets links o .offsets) (directIn N byNumber d offsets links o .links)
   unfolding directIn events window
   direct-observed h d offsets links o f =
-      let same : d ≡ record { counts = countsOf (directCounts N h); window = windowOf (since N h) } = λ i. record { counts = f .counts i; window = f .window i } in
+      let same : d ≡ record { counts = asDirectCounts (directCounts N h); window = windowOf (since N h) } = λ i. record { counts = f .counts i; window = f .window i } in
       let size : seenIn (d .window) ≡ length (since N h) = ap seenIn (f .window) ∙ seen-length (since N h) in
-      let left = by-counters (countsOf (directCounts N h)) (since N h) (offsetsOf d offsets links) size (record { offsets = f .seen; sound = f .sound }) (o .ordinal) (o .counters) in
+      let left = by-counters (asDirectCounts (directCounts N h)) (since N h) (offsetsOf d offsets links) size (record { offsets = f .seen; sound = f .sound }) (o .ordinal) (o .counters) in
       let left′ : Left (directBy N byNumber (o .counters) d (offsetsOf d offsets links) (o .ordinal))
-      (countsWith N (ordinalOf (o .ordinal)) (countersOf (o .counters)) (since N h) (countsOf (directCounts N h)))
+      (countsWith N (ordinalOf (o .ordinal)) (countersOf (o .counters)) (since N h) (asDirectCounts (directCounts N h)))
       (withCounters N (ordinalOf (o .ordinal)) (countersOf (o .counters)) (since N h)) =
       subst (λ (e : Direct). Left (directBy N byNumber (o .counters) e (offsetsOf d offsets links) (o .ordinal))
-      (countsWith N (ordinalOf (o .ordinal)) (countersOf (o .counters)) (since N h) (countsOf (directCounts N h)))
+      (countsWith N (ordinalOf (o .ordinal)) (countersOf (o .counters)) (since N h) (asDirectCounts (directCounts N h)))
       (withCounters N (ordinalOf (o .ordinal)) (countersOf (o .counters)) (since N h))) (sym same) left in
       record {
         counts = left′ .counts ∙ counts-more o h;

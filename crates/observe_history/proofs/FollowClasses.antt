@@ -21,7 +21,7 @@ use Rattle.follow_ups.specs.declared.FollowCounts.{FollowCounts as Counts}
 use Rattle.follow_ups.specs.Followed.{counted}
 use Rattle.history.specs.Counting.{tally, present}
 use Rattle.history.specs.Given.{timeOf}
-use Rattle.history.specs.FollowUps.{Slot as HistorySlot, free, taken, FollowClass, unavailable, ambiguous, unmatched, repeated, matched, sameFollow, bySlot, followClass, Measured, measuredBy, measuredIn}
+use Rattle.history.specs.FollowUps.{Slot as HistorySlot, free, taken, FollowClass, unavailable, ambiguous, unmatched, repeated, matched, sameFollow, bySlot, followClass, Measured, withTimes, withSlot}
 use Rattle.observe_history.specs.FollowUps.{pairOf, keptOf, slotFrom}
 
 -- the class in the history's words
@@ -79,14 +79,14 @@ class-same f own offset s = go (f .unknown) (eqb (f .timestamp) 0) (eqb (f .sequ
 -- ---- what a matched one measures
 
 times-measured : (r : ReplyRecord) (t4 t3 : Time) (offset : ℤ) (ms : List Measured)
-    → cond (sameFollow matched (cond (present (timeOf t4) && present (timeOf t3)) matched unavailable)) (measuredBy (timeOf t4) (timeOf t3) offset (pairOf (r .quality)) ms) ms
+    → cond (sameFollow matched (cond (present (timeOf t4) && present (timeOf t3)) matched unavailable)) (withTimes (timeOf t4) (timeOf t3) offset (pairOf (r .quality)) ms) ms
     ≡ measuredMore (byTimes r t4 t3) offset ms
 times-measured r time.Absent t3 offset ms = refl
 times-measured r (time.Nanoseconds a) time.Absent offset ms = refl
 times-measured r (time.Nanoseconds a) (time.Nanoseconds b) offset ms = refl
 
 slot-measured : (z o : Bool) (n : ℕ) (c : Bool) (u : Unique) (w : ℕ) (offset : ℤ) (ms : List Measured) → eqb n 1 ≡ o
-    → cond (sameFollow matched (bySlot w offset (slotBy z n u c))) (measuredIn (slotBy z n u c) w offset ms) ms
+    → cond (sameFollow matched (bySlot w offset (slotBy z n u c))) (withSlot (slotBy z n u c) w offset ms) ms
     ≡ measuredMore (classOf (first false false false z o (byRecord c u)) w offset) offset ms
 slot-measured true o n c u w offset ms e = refl
 slot-measured false false n c unique.Absent w offset ms e = refl
@@ -96,12 +96,12 @@ slot-measured false true n true (unique.Record r) w offset ms e = rw e
 slot-measured false true n false (unique.Record r) w offset ms e = rw e (times-measured r (r .t4) (convertedBy r w offset) offset ms)
 
 pub measured-same : (f : FollowUpTelemetry) (own : ℕ) (s : Slot) (offset : ℤ) (ms : List Measured)
-    → cond (sameFollow matched (followClass f own offset (slotFrom s))) (measuredIn (slotFrom s) (f .timestamp) offset ms) ms ≡ measuredMore (classIn f own offset s) offset ms
+    → cond (sameFollow matched (followClass f own offset (slotFrom s))) (withSlot (slotFrom s) (f .timestamp) offset ms) ms ≡ measuredMore (classIn f own offset s) offset ms
 unfolding foundBy followClass
 measured-same f own s offset ms = go (f .unknown) (eqb (f .timestamp) 0) (eqb (f .sequence) own)
   where
     go : (a b d : Bool)
-        → cond (sameFollow matched (cond (a || b) unavailable (cond d ambiguous (bySlot (f .timestamp) offset (slotFrom s))))) (measuredIn (slotFrom s) (f .timestamp) offset ms) ms
+        → cond (sameFollow matched (cond (a || b) unavailable (cond d ambiguous (bySlot (f .timestamp) offset (slotFrom s))))) (withSlot (slotFrom s) (f .timestamp) offset ms) ms
         ≡ measuredMore (classOf (first a b d (eqb (s .count) 0) (eqb (s .count) 1) (byRecord (s .corrected) (s .unique))) (f .timestamp) offset) offset ms
     go true b d = refl
     go false true d = refl

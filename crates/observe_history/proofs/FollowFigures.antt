@@ -20,10 +20,10 @@ use Rattle.follow_ups.specs.declared.FollowUps.{FollowUps}
 use Rattle.follow_ups.specs.Followed.{estimatesOf, counted, delayAfter, qualityAfter, followed}
 use Rattle.history.specs.Given.{followOf}
 use Rattle.history.specs.Ledger.{Event, observed, count, events}
-use Rattle.history.specs.FollowUps.{Slot as HistorySlot, FollowClass, matched, sameFollow, followClass, slotAt, classAt, Measured, measured, measuredOf, measuredIn, followCounts}
+use Rattle.history.specs.FollowUps.{Slot as HistorySlot, FollowClass, matched, sameFollow, followClass, slotAt, classAt, Measured, measured, withFollow, withSlot, followCounts}
 use Rattle.history.specs.Figures.{delays, estimates, given, figuresOf, qualityOf}
 use Rattle.observe_history.specs.RoundTrips.{delaysFrom}
-use Rattle.observe_history.specs.FollowUps.{pairOf, slotFrom, countsFrom, FiguresFollow}
+use Rattle.observe_history.specs.FollowUps.{pairOf, slotFrom, asFollowCounts, FiguresFollow}
 use Rattle.observe_history.proofs.Delays.{one-delay-more}
 use Rattle.observe_history.proofs.Quality.{one-sample-more}
 use Rattle.observe_history.proofs.FollowClasses.{classFrom, classIn, measuredMore, class-same, measured-same, countsBy, counts-same}
@@ -75,10 +75,10 @@ module _ (N copies : ℕ) (h : List Call) (fs : FollowUps) (f : FiguresFollow N 
     unfolding measured
     measured-is =
         sym (measured-same t own s (o .offset) (measured N copies es))
-        ∙ ap (λ (x : HistorySlot). cond (sameFollow matched (followClass t own (o .offset) x)) (measuredIn x (t .timestamp) (o .offset) (measured N copies es)) (measured N copies es)) same
-        ∙ ap (λ (k : Option FollowUpTelemetry). measuredOf N copies k o es (measured N copies es)) (sym is)
+        ∙ ap (λ (x : HistorySlot). cond (sameFollow matched (followClass t own (o .offset) x)) (withSlot x (t .timestamp) (o .offset) (measured N copies es)) (measured N copies es)) same
+        ∙ ap (λ (k : Option FollowUpTelemetry). withFollow N copies k o es (measured N copies es)) (sym is)
 
-    counts-are : countsBy (classAt N copies t own (o .offset) es) (countsFrom (followCounts N copies h)) ≡ countsFrom (followCounts N copies (Observe o ∷ h))
+    counts-are : countsBy (classAt N copies t own (o .offset) es) (asFollowCounts (followCounts N copies h)) ≡ asFollowCounts (followCounts N copies (Observe o ∷ h))
     unfolding count
     counts-are = rw is
 
@@ -86,8 +86,8 @@ module _ (N copies : ℕ) (h : List Call) (fs : FollowUps) (f : FiguresFollow N 
     unfolding followed events
     figures-with = record {
       counts =
-          ap (counted (classIn t own (o .offset) s)) (f .counts) ∙ counts-same (classIn t own (o .offset) s) (countsFrom (followCounts N copies h))
-          ∙ ap (λ (x : FollowClass). countsBy x (countsFrom (followCounts N copies h))) class-is ∙ counts-are;
+          ap (counted (classIn t own (o .offset) s)) (f .counts) ∙ counts-same (classIn t own (o .offset) s) (asFollowCounts (followCounts N copies h))
+          ∙ ap (λ (x : FollowClass). countsBy x (asFollowCounts (followCounts N copies h))) class-is ∙ counts-are;
       delay =
           ap (delayAfter (classIn t own (o .offset) s) (o .offset)) (f .delay) ∙ delay-more (classIn t own (o .offset) s) (o .offset) (measured N copies es)
           ∙ ap (λ (ms : List Measured). delaysFrom (figuresOf (delays ms))) measured-is;

@@ -43,8 +43,8 @@ seenSince [] = []
 seenSince (c ∷ w) = seen (anchorOf c w) (c ∷ w)
 
 -- the counts in the code's type
-abbrev pub countsOf : DirectCounts → Counts
-countsOf n = record {
+abbrev pub asDirectCounts : DirectCounts → Counts
+asDirectCounts n = record {
   observations = n .observations;
   unavailable = n .unavailable;
   discontinuities = n .discontinuities;
@@ -85,7 +85,7 @@ module _ (N : ℕ) (h : List Call) where
   -- the summary that the history calls for
   abbrev pub summaryFrom : DirectSummary
   summaryFrom = record {
-    counts = countsOf (directCounts N h);
+    counts = asDirectCounts (directCounts N h);
     anchor = pointOf (anchor since);
     latest = pointOf (latestTransmit since);
     spans = spansShown (spans since);
@@ -97,7 +97,7 @@ offsetsOf d offsets links = offset_set.offsetSet offsets links (seenIn (d .windo
 
 -- Counts, window and seen offsets are the history's, and the chains of the offsets are whole. byNumber: which chain an offset is looked for in
 pub record DirectFollows (N : ℕ) (byNumber : ℕ → ℕ) (h : List Call) (d : Direct) (offsets : List ℕ) (links : List (List ℕ)) : Type 0 where
-  pub counts : d .counts ≡ countsOf (directCounts N h)
+  pub counts : d .counts ≡ asDirectCounts (directCounts N h)
   pub window : d .window ≡ windowOf (since N h)
   pub seen : offset_set.seen N (offsetsOf d offsets links) ≡ seenSince (since N h)
   pub sound : Sound N byNumber (offsetsOf d offsets links)

@@ -51,8 +51,8 @@ abbrev pub slotHeld : ℕ → Table → ℕ → Slot
 slotHeld N t r = slotOf (slotIn (rowsOf N t) r)
 
 -- the counts in the code's type
-abbrev pub countsFrom : FollowCounts → Counts
-countsFrom n = record {
+abbrev pub asFollowCounts : FollowCounts → Counts
+asFollowCounts n = record {
   observations = n .observations;
   matched = n .matched;
   repeated = n .repeated;
@@ -65,7 +65,7 @@ countsFrom n = record {
 
 -- the counts, the delays and the clock quality of the follow-ups
 pub record FiguresFollow (N copies : ℕ) (h : List Call) (f : FollowUps) : Type 0 where
-  pub counts : f .counts ≡ countsFrom (followCounts N copies h)
+  pub counts : f .counts ≡ asFollowCounts (followCounts N copies h)
   pub delay : f .delay ≡ delaysFrom (delayFigures N copies h)
   pub quality : f .quality ≡ clockQuality N copies h
 

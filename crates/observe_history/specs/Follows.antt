@@ -17,7 +17,7 @@ use Rattle.history.specs.Figures.{delayFigures, clockQuality}
 use Rattle.reply_history.specs.Stands.{steppedAll}
 use Rattle.observe_history.specs.Direct.{directFollows}
 use Rattle.observe_history.specs.RoundTrips.{shownFrom, roundTripsFollow}
-use Rattle.observe_history.specs.FollowUps.{countsFrom, QualityFits, FollowsFollow}
+use Rattle.observe_history.specs.FollowUps.{asFollowCounts, QualityFits, FollowsFollow}
 
 -- ---- served
 
@@ -51,7 +51,7 @@ pub record ObservesFollow (N : ℕ) (byNumber : ℕ → ℕ) (copies : ℕ) (h :
 -- the summary of follow-ups that the history calls for
 abbrev pub followShownFrom : (N copies : ℕ) → List Call → FollowUpSummary
 followShownFrom N copies h = record {
-  counts = countsFrom (followCounts N copies h);
+  counts = asFollowCounts (followCounts N copies h);
   delay = shownFrom (delayFigures N copies h);
   quality = clockQuality N copies h;
 }

@@ -10,9 +10,9 @@ use Rattle.history.specs.Ledger.{copiesOf, replyCounts, thousandths}
 use Rattle.history.specs.DirectLoss.{directCounts}
 use Rattle.history.specs.FollowUps.{followCounts}
 use Rattle.history.specs.Figures.{roundTripFigures}
-use Rattle.observe_history.specs.Direct.{countsOf, summaryFrom}
+use Rattle.observe_history.specs.Direct.{asDirectCounts, summaryFrom}
 use Rattle.observe_history.specs.RoundTrips.{delaysFrom}
-use Rattle.observe_history.specs.FollowUps.{countsFrom}
+use Rattle.observe_history.specs.FollowUps.{asFollowCounts}
 use Rattle.ledger_steps.specs.Rooms.{Rooms}
 use Rattle.link_history.specs.Fresh.{Watching, alone, watching, Making}
 use Rattle.link_history.specs.Shows.{lostOf, thousandthsFrom}
@@ -67,8 +67,8 @@ figuresFrom copies v h records turned =
       replies = record { unique = c .unique; duplicate = c .duplicate; unknown = c .unknown };
       probes = record { answered = c .answered; additional = c .additional; late = c .late };
       order = record { reordered = c .reordered; independent = c .independent };
-      followup = followupOf (countsFrom (followCounts capacity copies h));
-      direct = directOf (countsOf (directCounts capacity h));
+      followup = followupOf (asFollowCounts (followCounts capacity copies h));
+      direct = directOf (asDirectCounts (directCounts capacity h));
       missing = missingOf (summaryFrom capacity h);
       session = sessionFrom v h;
       rtt = roundTripOf (delaysFrom (roundTripFigures capacity h));
