@@ -27,7 +27,7 @@ pub record RoomLeft : Type 0 where
   pub room : List ℕ
   pub count : List ℕ
 
--- of these parts
+-- what such a call leaves, made of its number, the room and the word of how much there is
 abbrev pub roomLeft : ℕ → List ℕ → List ℕ → RoomLeft
 roomLeft n room count = record { number = n; room = room; count = count }
 

@@ -27,7 +27,7 @@ pub record ParseLeft : Type 0 where
   pub room : List ℕ
   pub length : List ℕ
 
--- of these parts
+-- what the call leaves, made of its number, the room and the word of the length
 abbrev pub parseLeft : ℕ → List ℕ → List ℕ → ParseLeft
 parseLeft n room length = record { number = n; room = room; length = length }
 

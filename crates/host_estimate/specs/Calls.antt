@@ -21,7 +21,7 @@ pub record Left : Type 0 where
   pub number : ℕ
   pub words : List ℕ
 
--- these
+-- what a call leaves, made of its number and the lent words
 abbrev pub left : ℕ → List ℕ → Left
 left n ws = record { number = n; words = ws }
 
@@ -53,7 +53,7 @@ pub record LeftSeconds : Type 0 where
   pub number : ℕ
   pub seconds : List Float
 
--- these
+-- what such a call leaves, made of its number and the lent word
 abbrev pub leftSeconds : ℕ → List Float → LeftSeconds
 leftSeconds n seconds = record { number = n; seconds = seconds }
 
@@ -77,7 +77,7 @@ pub record LeftReading : Type 0 where
   pub milliseconds : List Float
   pub received : List ℕ
 
--- these
+-- what such a call leaves, made of its number and its three words
 abbrev pub leftReading : ℕ → List ℕ → List Float → List ℕ → LeftReading
 leftReading n known ms received = record { number = n; known = known; milliseconds = ms; received = received }
 

@@ -9,7 +9,7 @@ pub record FreshLeft : Type 0 where
   pub number : ℕ
   pub ledger : List ℕ
 
--- these
+-- what the call leaves, made of its number and the ledger's words
 abbrev pub freshLeft : ℕ → List ℕ → FreshLeft
 freshLeft number ledger = record { number = number; ledger = ledger }
 

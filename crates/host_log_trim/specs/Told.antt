@@ -12,7 +12,7 @@ pub record Left : Type 0 where
   pub bytes : List ℕ
   pub words : List ℕ
 
--- these
+-- what a call leaves, made of its number, the bytes and the words
 abbrev pub left : ℕ → List ℕ → List ℕ → Left
 left n bs ws = record { number = n; bytes = bs; words = ws }
 

@@ -22,7 +22,7 @@ pub record Told : Type 0 where
   pub number : ℕ
   pub words : List ℕ
 
--- these
+-- what such a call tells, made of its number and the words
 abbrev pub told : ℕ → List ℕ → Told
 told n words = record { number = n; words = words }
 
@@ -32,7 +32,7 @@ pub record Left : Type 0 where
   pub words : List ℕ
   pub queue : List Probe
 
--- these
+-- what such a call leaves, made of its number, the words and the queue
 abbrev pub left : ℕ → List ℕ → List Probe → Left
 left n words queue = record { number = n; words = words; queue = queue }
 

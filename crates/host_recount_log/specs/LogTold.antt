@@ -10,7 +10,7 @@ pub record Left : Type 0 where
   pub marks : List ℕ
   pub fronts : List ℕ
 
--- these
+-- what a call leaves, made of what it tells, the marks and the fronts
 abbrev pub left : Told → (marks fronts : List ℕ) → Left
 left t marks fronts = record { told = t; marks = marks; fronts = fronts }
 

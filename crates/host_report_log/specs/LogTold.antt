@@ -12,7 +12,7 @@ pub record Left : Type 0 where
   pub queue : List Probe
   pub rooms : Rooms
 
--- these
+-- what a call leaves, made of what it tells, the queue and the rooms
 abbrev pub left : Told → List Probe → Rooms → Left
 left t queue rooms = record { told = t; queue = queue; rooms = rooms }
 

@@ -15,7 +15,7 @@ pub record SentLeft : Type 0 where
   pub probes : List (List ℕ)
   pub links : List (List ℕ)
 
--- these
+-- what the call leaves, made of its number, the ledger's words and the two rooms
 abbrev pub sentLeft : ℕ → List ℕ → List (List ℕ) → List (List ℕ) → SentLeft
 sentLeft number ledger probes links = record { number = number; ledger = ledger; probes = probes; links = links }
 

@@ -10,7 +10,7 @@ pub record Left : Type 0 where
   pub number : ℕ
   pub shown : List ℕ
 
--- these
+-- what the call leaves, made of its number and the words shown
 abbrev pub left : ℕ → List ℕ → Left
 left number shown = record { number = number; shown = shown }
 

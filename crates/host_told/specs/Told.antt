@@ -11,7 +11,7 @@ pub record Told : Type 0 where
   pub text : List ℕ
   pub length : List ℕ
 
--- these
+-- what a call leaves, made of its number, the text and the word of its length
 abbrev pub told : ℕ → List ℕ → List ℕ → Told
 told n text length = record { number = n; text = text; length = length }
 

@@ -7,7 +7,7 @@ pub record Left : Type 0 where
   pub number : ℕ
   pub answer : List ℕ
 
--- these
+-- what the call leaves, made of its number and the answer's word
 abbrev pub left : ℕ → List ℕ → Left
 left number answer = record { number = number; answer = answer }
 

@@ -43,7 +43,7 @@ pub record SentResult : Type 0 where
   pub links : List (List ℕ)
   pub queue : List Probe
 
--- these
+-- the result of a `sent` with a monitor, made of its answer, the rooms and the queue
 abbrev pub sentResult : WatchedAnswer → List (List ℕ) → List (List ℕ) → List Probe → SentResult
 sentResult r probes links queue = record { answer = r; probes = probes; links = links; queue = queue }
 
@@ -75,7 +75,7 @@ pub record AcceptResult : Type 0 where
   pub links : List (List ℕ)
   pub queue : List Probe
 
--- these
+-- the result of an `accept` with a monitor, made of its answer, the rooms and the queue
 abbrev pub acceptResult : WatchedAccept → List (List ℕ) → List (List ℕ) → List (List ℕ) → List (List ℕ) → List Probe → AcceptResult
 acceptResult r keys slots probes links queue = record { answer = r; keys = keys; slots = slots; probes = probes; links = links; queue = queue }
 

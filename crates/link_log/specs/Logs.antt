@@ -146,7 +146,7 @@ pub record Wrote : Type 0 where
   pub number : ℕ
   pub bytes : List ℕ
 
--- these
+-- what such a call leaves, made of its number and the bytes
 abbrev pub wrote : ℕ → List ℕ → Wrote
 wrote n bs = record { number = n; bytes = bs }
 

@@ -15,6 +15,6 @@ printedBy log log'.BadTrailer = refusalLine log'.BadTrailer
 printedBy log (log'.BadRecord n) = refusalLine (log'.BadRecord n)
 printedBy log (log'.Good s) = textOf (reportFrom log s)
 
--- of these bytes
+-- what is printed of the bytes of a log
 abbrev pub printedOf : List ℕ → List ℕ
 printedOf log = printedBy log (logOf log)

@@ -20,7 +20,7 @@ pub record Rooms : Type 0 where
   pub links : List (List ℕ)
   pub ring : Ring
 
--- of these parts
+-- the rooms, made of the rows, the links and the ring
 abbrev pub rooms : List (List ℕ) → List (List ℕ) → Ring → Rooms
 rooms rows links ring = record { rows = rows; links = links; ring = ring }
 
@@ -78,7 +78,7 @@ pub record Outcome : Type 0 where
   pub links : List (List ℕ)
   pub answer : Remembered
 
--- these
+-- what a call leaves, made of the two rooms and the answer
 abbrev pub outcome : List (List ℕ) → List (List ℕ) → Remembered → Outcome
 outcome rows links answer = record { rows = rows; links = links; answer = answer }
 
