@@ -60,26 +60,26 @@ extern "C" {
 /* ---- refusals ----------------------------------------------------------------------------------------------------------------------
  * What a call returns. If several hold at once, it is the first in this order. A call returns no number that is not named at it. */
 #define AMBRULICCIU_SERVED 0
-#define AMBRULICCIU_WRONG_ROOM 5      /* scope::WRONG_ROOM: a lent room of the wrong size, or a state whose bounds do not hold: those that the
+#define AMBRULICCIU_WRONG_ROOM 5      /* limits::WRONG_ROOM: a lent room of the wrong size, or a state whose bounds do not hold: those that the
                                          sections below name, and no others */
-#define AMBRULICCIU_OUT_OF_RANGE 1    /* scope::OUT_OF_RANGE: a scale above 63; T4 outside +-4*10^18 ns; reference outside +-4*10^9 s;
+#define AMBRULICCIU_OUT_OF_RANGE 1    /* limits::OUT_OF_RANGE: a scale above 63; T4 outside +-4*10^18 ns; reference outside +-4*10^9 s;
                                          offset outside +-86,400 s */
-#define AMBRULICCIU_DEADLINE_PASSES 6 /* scope::DEADLINE_PASSES: send time plus timeout above 2^64-1 */
-#define AMBRULICCIU_COUNTS_FULL 4     /* scope::COUNTS_FULL: 4,294,967,295 calls of sent, accept and observe were served; or a count of
+#define AMBRULICCIU_DEADLINE_PASSES 6 /* limits::DEADLINE_PASSES: send time plus timeout above 2^64-1 */
+#define AMBRULICCIU_COUNTS_FULL 4     /* limits::COUNTS_FULL: 4,294,967,295 calls of sent, accept and observe were served; or a count of
                                          the state at 2^63, a sum's magnitude at 2^126, or beyond */
-#define AMBRULICCIU_NOT_AWAITING 2    /* scope::NOT_AWAITING: observe of a reply that is not the one accepted last, or was observed */
-#define AMBRULICCIU_QUEUE_FULL 3      /* scope::QUEUE_FULL: 4,096 probes await their reply at the monitor */
+#define AMBRULICCIU_NOT_AWAITING 2    /* limits::NOT_AWAITING: observe of a reply that is not the one accepted last, or was observed */
+#define AMBRULICCIU_QUEUE_FULL 3      /* limits::QUEUE_FULL: 4,096 probes await their reply at the monitor */
 /* Of bytes that are to be a log, in this order: */
-#define AMBRULICCIU_TOO_LONG 9    /* link_log::TOO_LONG: more than 65,536 bytes */
+#define AMBRULICCIU_TOO_LONG 9    /* log_whole::TOO_LONG: more than 65,536 bytes */
 #define AMBRULICCIU_BAD_TRAILER 7 /* host_log_read::BAD_TRAILER: no trailer of a log at the end */
 #define AMBRULICCIU_BAD_RECORD 8  /* log_record::BAD_RECORD: a record that is none */
 /* Of the extension area of a packet, in this order; the first bad item decides: */
-#define AMBRULICCIU_PASSES_END 10   /* scope_requests::PASSES_END: a header or a value that passes the end */
-#define AMBRULICCIU_WRONG_LENGTH 11 /* scope_requests::WRONG_LENGTH: an item of type 5 or 7 with another length than 12 or 16 */
+#define AMBRULICCIU_PASSES_END 10   /* request_limits::PASSES_END: a header or a value that passes the end */
+#define AMBRULICCIU_WRONG_LENGTH 11 /* request_limits::WRONG_LENGTH: an item of type 5 or 7 with another length than 12 or 16 */
 /* Of bit errors, in this order; 12 also of the area's writers: */
-#define AMBRULICCIU_TOO_MUCH_PADDING 14 /* scope_requests::TOO_MUCH_PADDING: padding above 65,535 bytes, or a sample above 524,280 bits */
-#define AMBRULICCIU_BAD_PATTERN 13      /* scope_requests::BAD_PATTERN: a pattern's text that is none */
-#define AMBRULICCIU_SHORT_ROOM 12       /* scope_requests::SHORT_ROOM: a room too short for what is to be written */
+#define AMBRULICCIU_TOO_MUCH_PADDING 14 /* request_limits::TOO_MUCH_PADDING: padding above 65,535 bytes, or a sample above 524,280 bits */
+#define AMBRULICCIU_BAD_PATTERN 13      /* request_limits::BAD_PATTERN: a pattern's text that is none */
+#define AMBRULICCIU_SHORT_ROOM 12       /* request_limits::SHORT_ROOM: a room too short for what is to be written */
 
 /* ---- version -----------------------------------------------------------------------------------------------------------------------
  * Of this header: 1,000,000 times the first part, 1,000 times the second, and the third. */
@@ -90,7 +90,7 @@ uint8_t ambrulicciu_version(uint32_t *version);
 
 /* ---- sizes -------------------------------------------------------------------------------------------------------------------------
  * Any other size is refused with AMBRULICCIU_WRONG_ROOM. */
-#define AMBRULICCIU_ROWS 4096                  /* scope::CAPACITY: rows of each room of a link, and of the monitor's queue */
+#define AMBRULICCIU_ROWS 4096                  /* limits::CAPACITY: rows of each room of a link, and of the monitor's queue */
 #define AMBRULICCIU_ENTRIES 256                /* host_burst::MOST_ENTRIES: most entries of a burst */
 #define AMBRULICCIU_QUANTILES_ROOM 11578       /* words of the room of an unsigned series */
 #define AMBRULICCIU_QUANTILES_SIGNED_ROOM 18804 /* words of the room of a signed series */
@@ -98,7 +98,7 @@ uint8_t ambrulicciu_version(uint32_t *version);
 #define AMBRULICCIU_PERCENTILES_STACK 4096      /* bytes of stack that ambrulicciu_quantiles_percentiles takes at most, on x86-64 */
 #define AMBRULICCIU_RECORD 96                  /* bytes of a record of a log */
 #define AMBRULICCIU_TRAILER 24                 /* bytes of the trailer of a log */
-#define AMBRULICCIU_LOG 65536                  /* link_log::MOST_BYTES: most bytes of a log */
+#define AMBRULICCIU_LOG 65536                  /* log_whole::MOST_BYTES: most bytes of a log */
 #define AMBRULICCIU_TEXT 1024                  /* report::REPORT_ROOM: bytes of the buffer of a report */
 #define AMBRULICCIU_RECORDS 682                /* recount::MOST_RECORDS: most records of a log, and numbers of each room of the second count */
 

@@ -3,7 +3,7 @@ use mathlib.Core.Path.{_≡_, refl}
 use mathlib.Core.Bool.{true}
 use mathlib.Core.List.{List, [], _∷_, _++_}
 use Prim.Native.Nat.{ℕ}
-use Rattle.calls.specs.declared.Counters.the-variants as counters
+use Rattle.call_types.specs.declared.Counters.the-variants as counters
 use Rattle.area_items.specs.Items.{refused, items, fits, verdictAt, readFrom, restOf, area}
 use Rattle.area_observation.specs.declared.Sighted.the-variants as sighted
 use Rattle.area_observation.specs.declared.Telling.the-variants as telling

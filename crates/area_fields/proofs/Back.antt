@@ -7,7 +7,7 @@ use borrow.Author.Tests.{eq-eqb}
 use Rattle.big_endian.specs.Numbers.{base}
 use Rattle.big_endian.specs.Fields.{byte, bytes4, bytes8, written}
 use Rattle.big_endian.proofs.Laws.{first, later, field-back, written-length}
-use Rattle.calls.specs.declared.CounterPoint.{CounterPoint}
+use Rattle.call_types.specs.declared.CounterPoint.{CounterPoint}
 use Rattle.area_fields.specs.declared.FollowUpItem.{FollowUpItem}
 use Rattle.area_fields.specs.declared.CountersRead.the-variants as counters
 use Rattle.area_fields.specs.declared.FollowUpRead.the-variants as follow

@@ -6,7 +6,7 @@ use lib.Dec.{eqb}
 use lib.ListN.{length}
 use borrow.Author.Tests.{lt-ltb, le-ltb, eq-eqb, ne-eqb}
 use Rattle.big_endian.specs.Fields.{Field, written}
-use Rattle.calls.specs.declared.CounterPoint.{CounterPoint}
+use Rattle.call_types.specs.declared.CounterPoint.{CounterPoint}
 use Rattle.area_fields.specs.declared.FollowUpItem.{FollowUpItem}
 use Rattle.area_fields.specs.declared.CountersRead.the-variants as counters
 use Rattle.area_fields.specs.declared.FollowUpRead.the-variants as follow

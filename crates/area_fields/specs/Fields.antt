@@ -4,10 +4,10 @@ use mathlib.Core.List.{List, [], _∷_}
 use Prim.Native.Nat.{ℕ, _+_}
 use lib.Dec.{eqb, ltb}
 use lib.ListN.{length}
-use Rattle.scope_requests.specs.Refusals.{shortRoom, wrongLength}
+use Rattle.request_limits.specs.Refusals.{shortRoom, wrongLength}
 use Rattle.big_endian.specs.Numbers.{numberAt}
 use Rattle.big_endian.specs.Fields.{Field, byte, bytes4, bytes8, written}
-use Rattle.calls.specs.declared.CounterPoint.{CounterPoint}
+use Rattle.call_types.specs.declared.CounterPoint.{CounterPoint}
 use Rattle.area_fields.specs.declared.FollowUpItem.{FollowUpItem}
 use Rattle.area_fields.specs.declared.CountersRead.{CountersRead}
 use Rattle.area_fields.specs.declared.CountersRead.the-variants as counters

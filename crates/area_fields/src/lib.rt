@@ -1,9 +1,9 @@
 // The values of Direct Measurement and Follow-Up Telemetry: `decode_value` and `encode_value` of src/tlv/typed/direct_measurement.rs and
 // src/tlv/typed/follow_up_telemetry.rs.
-use calls::CounterPoint;
-use calls::ReflectorRx;
-use calls::ReflectorTx;
-use calls::SenderTx;
+use call_types::CounterPoint;
+use call_types::ReflectorRx;
+use call_types::ReflectorTx;
+use call_types::SenderTx;
 ghost use mathlib.Core.Path.{_≡_};
 ghost use Prim.Native.Nat.{_+_, _≤_};
 ghost use lib.ListN.{length};
@@ -77,7 +77,7 @@ pub fn write_counters(bytes: &mut [u8], point: CounterPoint) -> u8
     ensures { λ r. ⌜ wrote r (now (bytes .exit)) ≡ wroteFields 12 (countersTable point) (now (bytes .entry)) ⌝ }
 {
     if bytes.len() < 12 {
-        return scope_requests::SHORT_ROOM;
+        return request_limits::SHORT_ROOM;
     }
     let sender = point.sender.0;
     let received = point.received.0;
@@ -93,7 +93,7 @@ pub fn write_follow_up(bytes: &mut [u8], item: FollowUpItem) -> u8
     ensures { λ r. ⌜ wrote r (now (bytes .exit)) ≡ wroteFields 16 (followUpTable item) (now (bytes .entry)) ⌝ }
 {
     if bytes.len() < 16 {
-        return scope_requests::SHORT_ROOM;
+        return request_limits::SHORT_ROOM;
     }
     big_endian::put_u32(bytes, 0, item.sequence);
     big_endian::put_u64(bytes, 4, item.timestamp);

@@ -5,7 +5,7 @@ use mathlib.Core.List.{List, [], _∷_}
 use Prim.Native.Nat.{ℕ, zero, suc, _+_, _-_}
 use lib.Dec.{eqb, ltb}
 use lib.ListN.{length, getD, take, drop}
-use Rattle.scope_requests.specs.Refusals.{passesEnd, wrongLength}
+use Rattle.request_limits.specs.Refusals.{passesEnd, wrongLength}
 use Rattle.big_endian.specs.Numbers.{numberAt}
 
 -- an item: where it starts in the area, its flag byte, its type, and the bytes of its value

@@ -26,16 +26,16 @@ pub fn verdict(bytes: &[u8], at: usize) -> u8
 {
     let left = bytes.len() - at;
     if left < 4 {
-        return scope_requests::PASSES_END;
+        return request_limits::PASSES_END;
     }
     let size = big_endian::u16_at(bytes, at + 2) as usize;
     if left - 4 < size {
-        return scope_requests::PASSES_END;
+        return request_limits::PASSES_END;
     }
     if length_fits(bytes[at + 1], size) {
         return 0;
     }
-    scope_requests::WRONG_LENGTH
+    request_limits::WRONG_LENGTH
 }
 
 // Where a good item ends.

@@ -7,9 +7,9 @@ use native.Mathlib.Omega.{arith}
 use lib.Dec.{eqb}
 use lib.ListN.{length, getD}
 use borrow.Author.Tests.{eq-eqb, ne-eqb, eqb-true}
-use Rattle.calls.specs.declared.CounterPoint.{CounterPoint}
-use Rattle.calls.specs.declared.Counters.{Counters}
-use Rattle.calls.specs.declared.Counters.the-variants as counters
+use Rattle.call_types.specs.declared.CounterPoint.{CounterPoint}
+use Rattle.call_types.specs.declared.Counters.{Counters}
+use Rattle.call_types.specs.declared.Counters.the-variants as counters
 use Rattle.area_items.specs.Items.{Item, Reading, refused, items, before, kindAt, lengthAt, endAt, itemAt, fits, verdictAt, restOf, area}
 use Rattle.area_items.proofs.Laws.{good, rest-end, rest-bad, rest-good, five, seven}
 use Rattle.area_fields.specs.declared.FollowUpItem.{FollowUpItem}

@@ -4,8 +4,8 @@ use mathlib.Core.Bool.{Bool, true, false, _||_, not, cond}
 use mathlib.Core.List.{List, [], _∷_}
 use Prim.Native.Nat.{ℕ, _+_, _/_, _%_}
 use lib.Dec.{eqb, ltb}
-use Rattle.calls.specs.declared.Counters.{Counters}
-use Rattle.calls.specs.declared.Counters.the-variants as counters
+use Rattle.call_types.specs.declared.Counters.{Counters}
+use Rattle.call_types.specs.declared.Counters.the-variants as counters
 use Rattle.area_items.specs.Items.{Item, Reading, refused, items, area}
 use Rattle.area_fields.specs.Fields.{countersAt, followUpAt}
 use Rattle.area_observation.specs.declared.Sighting.{Sighting}

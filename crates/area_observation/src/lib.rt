@@ -1,6 +1,6 @@
 // What a reply's extension area tells `observe`: `direct_measurement` and `follow_up` of `TlvTelemetry` (src/sender/telemetry.rs), by its
 // rule "U skips, M stops the remainder, and I blocks values", in one walk over the lent bytes.
-use calls::Counters;
+use call_types::Counters;
 ghost use mathlib.Core.Path.{_≡_};
 ghost use Prim.Native.Nat.{_+_, _≤_};
 ghost use lib.ListN.{length};

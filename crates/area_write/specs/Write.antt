@@ -4,7 +4,7 @@ use mathlib.Core.List.{List, [], _∷_, _++_, map}
 use Prim.Native.Nat.{ℕ, zero, suc, _+_, _/_, _%_, _^_}
 use lib.Dec.{ltb}
 use lib.ListN.{length, take, drop}
-use Rattle.scope_requests.specs.Refusals.{passesEnd, wrongLength, shortRoom}
+use Rattle.request_limits.specs.Refusals.{passesEnd, wrongLength, shortRoom}
 use Rattle.area_items.specs.Items.{Item, fits}
 use Rattle.area_items.specs.Rows.{itemBytes, asWritten, writtenArea}
 use Rattle.area_write.specs.declared.Size.{Size}

@@ -49,12 +49,12 @@ fn verdict(values: &[u8], word: u64) -> u8
     let size = length_of(word);
     let end = place_of(word) + size;
     if values.len() < end {
-        return scope_requests::PASSES_END;
+        return request_limits::PASSES_END;
     }
     if area_items::length_fits(kind_of(word), size) {
         return 0;
     }
-    scope_requests::WRONG_LENGTH
+    request_limits::WRONG_LENGTH
 }
 
 fn first_bad(items: &[u64], values: &[u8]) -> u8
@@ -159,7 +159,7 @@ pub fn write(items: &[u64], values: &[u8], room: &mut [u8]) -> Written
     }
     let size = size_of(items, room.len());
     match size {
-        Size::Short => Written::Refused(scope_requests::SHORT_ROOM),
+        Size::Short => Written::Refused(request_limits::SHORT_ROOM),
         Size::Needed(count) => {
             put_items(items, values, room);
             Written::Bytes(count)

@@ -10,7 +10,7 @@ use contract.Lifetimes.{Lfts}
 use borrow.Fn.World as World
 use borrow.Fn.Kinds as Kinds'
 use denote.Triple.Clauses as Clauses
-use Rattle.scope_requests.specs.Refusals.{mostPadding}
+use Rattle.request_limits.specs.Refusals.{mostPadding}
 use Rattle.bit_errors.specs.declared.Comparison.{Comparison}
 use Rattle.bit_errors.specs.declared.Comparison.the-variants.{Refused, Counted}
 use Rattle.bit_errors.specs.Errors.{Outcome, outcome, comparison, errorsIn, wrongBytes}

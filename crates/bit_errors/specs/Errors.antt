@@ -5,7 +5,7 @@ use Prim.Native.Nat.{ℕ, suc, _%_}
 use lib.Bits.{bitXor}
 use lib.Dec.{ltb}
 use lib.ListN.{length, getD}
-use Rattle.scope_requests.specs.Refusals.{tooMuchPadding, mostPadding}
+use Rattle.request_limits.specs.Refusals.{tooMuchPadding, mostPadding}
 use Rattle.bit_errors.specs.declared.BitErrors.{BitErrors}
 use Rattle.bit_errors.specs.declared.Comparison.{Comparison}
 use Rattle.bit_errors.specs.declared.Comparison.the-variants.{Refused, Counted}

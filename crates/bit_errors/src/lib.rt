@@ -262,7 +262,7 @@ fn counted(padding: &[u8], pattern: &[u8]) -> Tally
 pub fn xor_popcount_and_max_burst(padding: &[u8], pattern: &[u8]) -> Comparison
     ensures { λ r. ⌜ outcome r ≡ comparison (now (padding .entry)) (now (pattern .entry)) ⌝ }
 {
-    if padding.len() > scope_requests::MOST_PADDING {
+    if padding.len() > request_limits::MOST_PADDING {
         return Comparison::Refused;
     }
     if pattern.len() == 0 {

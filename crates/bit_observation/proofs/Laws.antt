@@ -10,7 +10,7 @@ use lib.ListN.{length, getD, take, drop, length-take, length-drop}
 use lib.Seq.{take-nil, drop-nil, drop-cons}
 use borrow.Author.Tests.{lt-ltb, le-ltb, eq-eqb, ne-eqb, ltb-true, ltb-false}
 use Rattle.big_endian.specs.Numbers.{numberAt}
-use Rattle.scope_requests.specs.Refusals.{mostPadding}
+use Rattle.request_limits.specs.Refusals.{mostPadding}
 use Rattle.bit_errors.specs.declared.BitErrors.{BitErrors}
 use Rattle.bit_errors.specs.declared.Comparison.{Comparison}
 use Rattle.bit_errors.specs.declared.Comparison.the-variants as comparison-of

@@ -4,7 +4,7 @@ use mathlib.Core.List.{List, [], _∷_}
 use Prim.Native.Nat.{ℕ, _*_}
 use lib.Dec.{eqb, ltb}
 use lib.ListN.{length}
-use Rattle.scope_requests.specs.Refusals.{tooMuchPadding, mostPadding}
+use Rattle.request_limits.specs.Refusals.{tooMuchPadding, mostPadding}
 use Rattle.bit_errors.specs.Errors.{comparison}
 use Rattle.bit_observation.specs.declared.Field.{Field}
 use Rattle.bit_observation.specs.declared.Field.the-variants.{Absent, Known}

@@ -388,7 +388,7 @@ pub fn observation(
 ) -> Observed
     ensures { λ r. ⌜ r ≡ observed (now (items .entry)) (now (bytes .entry)) (now (pattern .entry)) size intact wanted ⌝ }
 {
-    if size > scope_requests::MOST_PADDING {
+    if size > request_limits::MOST_PADDING {
         return Observed::Refused;
     }
     if intact {

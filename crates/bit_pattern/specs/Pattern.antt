@@ -5,7 +5,7 @@ use mathlib.Core.List.{List, [], _∷_, _++_}
 use Prim.Native.Nat.{ℕ, _+_, _-_, _*_, _/_, _%_}
 use lib.Dec.{ltb, eqb}
 use lib.ListN.{length, getD, drop}
-use Rattle.scope_requests.specs.Refusals.{shortRoom, badPattern}
+use Rattle.request_limits.specs.Refusals.{shortRoom, badPattern}
 use Rattle.bit_pattern.specs.declared.Parsing.{Parsing}
 use Rattle.bit_pattern.specs.declared.Parsing.the-variants.{BadPattern, ShortRoom, Parsed}
 

@@ -9,7 +9,7 @@ use native.Mathlib.Numerals.{add-one}
 use native.Mathlib.Omega.{arith}
 use lib.Dec.{eqb, ltb}
 use lib.ListN.{length}
-use Rattle.scope_requests.specs.Refusals.{mostBits}
+use Rattle.request_limits.specs.Refusals.{mostBits}
 use Rattle.bit_summary.specs.declared.Burst.{Burst}
 use Rattle.bit_summary.specs.declared.Burst.the-variants as burst
 use Rattle.bit_summary.specs.declared.Sample.{Sample}

@@ -9,8 +9,8 @@ use lib.Dec.{T, ltb, ltb→lt}
 use lib.Ieee.{Float, binary64, ofInt, ofBits, mul, div}
 use lib.Ieee.Fits.{and-l, and-r}
 use borrow.Author.Tests.{lt-ltb, le-ltb}
-use Rattle.scope.specs.Limits.{countBound}
-use Rattle.scope_requests.specs.Refusals.{mostBits}
+use Rattle.limits.specs.Limits.{countBound}
+use Rattle.request_limits.specs.Refusals.{mostBits}
 use Rattle.floats.proofs.Negative.{million}
 use Rattle.bit_summary.specs.declared.Burst.{Burst}
 use Rattle.bit_summary.specs.declared.Burst.the-variants as burst

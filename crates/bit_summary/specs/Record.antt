@@ -2,9 +2,9 @@
 use mathlib.Core.Bool.{Bool, _&&_, cond}
 use Prim.Native.Nat.{ℕ, _≤_, _<_}
 use lib.Dec.{ltb}
-use Rattle.scope.specs.Refusals.{countsFull}
-use Rattle.scope.specs.Limits.{countBound}
-use Rattle.scope_requests.specs.Refusals.{tooMuchPadding, mostBits}
+use Rattle.limits.specs.Refusals.{countsFull}
+use Rattle.limits.specs.Limits.{countBound}
+use Rattle.request_limits.specs.Refusals.{tooMuchPadding, mostBits}
 use Rattle.bit_summary.specs.declared.Sample.{Sample}
 use Rattle.bit_summary.specs.declared.DirectionSummary.{DirectionSummary}
 use Rattle.bit_summary.specs.declared.Recording.{Recording}

@@ -111,12 +111,12 @@ impl DirectionSummary {
     fn counts_fit(self) -> bool
         ensures { λ r. ⌜ r ≡ countsFit self ⌝ }
     {
-        (self.received < scope::COUNT_BOUND)
-            & (self.faulty < scope::COUNT_BOUND)
-            & (self.bits < scope::COUNT_BOUND)
-            & (self.errors < scope::COUNT_BOUND)
-            & (self.bursts < scope::COUNT_BOUND)
-            & (self.sum < scope::COUNT_BOUND)
+        (self.received < limits::COUNT_BOUND)
+            & (self.faulty < limits::COUNT_BOUND)
+            & (self.bits < limits::COUNT_BOUND)
+            & (self.errors < limits::COUNT_BOUND)
+            & (self.bursts < limits::COUNT_BOUND)
+            & (self.sum < limits::COUNT_BOUND)
     }
 
     // One sample more, once the refusals were tested.
@@ -160,7 +160,7 @@ impl DirectionSummary {
     pub fn record(self, sample: Sample) -> Recording
         ensures { λ r. ⌜ outcome self r ≡ recordTo self sample ⌝ }
     {
-        if sample.bits > scope_requests::MOST_BITS {
+        if sample.bits > request_limits::MOST_BITS {
             return Recording::TooManyBits;
         }
         if self.counts_fit() {

@@ -7,12 +7,12 @@
 ghost use mathlib.Core.Path.{_≡_};
 ghost use Prim.Native.Nat.{ℕ, _+_, _-_, _*_, _≤_, _<_};
 ghost use lib.ListN.{length};
-ghost use Rattle.scope.specs.Limits.{capacity};
+ghost use Rattle.limits.specs.Limits.{capacity};
 ghost use Rattle.chains.specs.Rings.{wrap, pushSlot, afterPush, RingFits};
 ghost use Rattle.chains.specs.Walk.{placeOf};
 ghost use Rattle.chains.specs.Links.{newest, older, linked, ended};
 ghost use Rattle.chains.specs.Hash.{productsOf, keyHash, numberHash};
-use scope::CAPACITY;
+use limits::CAPACITY;
 
 // The slot of the oldest entry, and how many entries there are.
 pub struct Ring {

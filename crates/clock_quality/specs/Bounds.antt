@@ -4,8 +4,8 @@ use mathlib.Core.Bool.{Bool, true, false, _&&_, cond}
 use Prim.Native.Nat.{ℕ, zero, suc, _<_}
 use lib.Dec.{T, ltb, ltb→lt}
 use lib.Ieee.Fits.{and-l, and-r}
-use Rattle.scope.specs.Refusals.{countsFull}
-use Rattle.scope.specs.Limits.{countBound}
+use Rattle.limits.specs.Refusals.{countsFull}
+use Rattle.limits.specs.Limits.{countBound}
 use Rattle.clock_quality.specs.declared.ClockQuality.{ClockQuality}
 use Rattle.clock_quality.specs.declared.Recorded.{Recorded}
 use Rattle.clock_quality.specs.declared.Recorded.the-variants as recorded

@@ -107,14 +107,14 @@ impl ClockQuality {
     pub fn counts_fit(self) -> bool
         ensures { λ r. ⌜ r ≡ countsFit self ⌝ }
     {
-        (self.samples < scope::COUNT_BOUND)
-            & (self.both < scope::COUNT_BOUND)
-            & (self.unsynchronized < scope::COUNT_BOUND)
-            & (self.invalid < scope::COUNT_BOUND)
-            & (self.unknown < scope::COUNT_BOUND)
-            & (self.invalid_sender < scope::COUNT_BOUND)
-            & (self.invalid_reflector < scope::COUNT_BOUND)
-            & (self.invalid_both < scope::COUNT_BOUND)
+        (self.samples < limits::COUNT_BOUND)
+            & (self.both < limits::COUNT_BOUND)
+            & (self.unsynchronized < limits::COUNT_BOUND)
+            & (self.invalid < limits::COUNT_BOUND)
+            & (self.unknown < limits::COUNT_BOUND)
+            & (self.invalid_sender < limits::COUNT_BOUND)
+            & (self.invalid_reflector < limits::COUNT_BOUND)
+            & (self.invalid_both < limits::COUNT_BOUND)
     }
 
     // The host's call: refused where a count is at its bound.
@@ -125,7 +125,7 @@ impl ClockQuality {
             let next = self.recorded(estimates);
             return Recorded::Quality(next);
         }
-        Recorded::Refused(scope::COUNTS_FULL)
+        Recorded::Refused(limits::COUNTS_FULL)
     }
 
     // One sample more, for a caller that has tested the counts.

@@ -5,8 +5,8 @@ use Prim.Native.Nat.{_<_}
 use mir.Syntax.{w64}
 use mir.Val.{SFits}
 use Rattle.ranges.specs.Ranges.{timeWithin}
-use Rattle.calls.specs.declared.Time.{Time}
-use Rattle.calls.specs.declared.Time.the-variants as time
+use Rattle.call_types.specs.declared.Time.{Time}
+use Rattle.call_types.specs.declared.Time.the-variants as time
 use Rattle.correlation.specs.declared.Unique.{Unique}
 use Rattle.correlation.specs.declared.Unique.the-variants as unique
 use Rattle.correlation.specs.declared.ReplyRecord.{ReplyRecord}

@@ -240,7 +240,7 @@ impl Delays {
         ensures { λ r. ⌜ r ≡ countsFit self ⌝ }
     {
         let sum = self.sum;
-        (self.count < scope::COUNT_BOUND) & (sum.high < HIGH_BOUND)
+        (self.count < limits::COUNT_BOUND) & (sum.high < HIGH_BOUND)
     }
 
     // Refused where the count or the sum is at its bound.
@@ -251,7 +251,7 @@ impl Delays {
             let next = self.recorded(ns);
             return Recorded::Delays(next);
         }
-        Recorded::Refused(scope::COUNTS_FULL)
+        Recorded::Refused(limits::COUNTS_FULL)
     }
 
     // One sample more, for a caller that has tested the count and the sum.

@@ -2,9 +2,9 @@
 use mathlib.Core.Path.{_≡_, refl}
 use mathlib.Core.Bool.{Bool, true, false}
 use Prim.Native.Nat.{ℕ}
-use Rattle.calls.specs.declared.CounterPoint.{CounterPoint}
-use Rattle.calls.specs.declared.Ordinal.the-variants as ordinal
-use Rattle.scope.specs.Limits.{capacity}
+use Rattle.call_types.specs.declared.CounterPoint.{CounterPoint}
+use Rattle.call_types.specs.declared.Ordinal.the-variants as ordinal
+use Rattle.limits.specs.Limits.{capacity}
 use Rattle.direct.specs.declared.Direct.{Direct}
 use Rattle.direct.specs.declared.summary.Packets.the-variants.{Number}
 use Rattle.direct.specs.Offsets.{offset}

@@ -3,10 +3,10 @@
 use mathlib.Core.Bool.{Bool, true, false, _&&_, cond}
 use Prim.Native.Nat.{ℕ, _+_, _<_, max}
 use lib.Dec.{eqb, ltb}
-use Rattle.scope.specs.Limits.{countBound}
-use Rattle.calls.specs.declared.CounterPoint.{CounterPoint}
-use Rattle.calls.specs.declared.Ordinal.{Ordinal}
-use Rattle.calls.specs.declared.Ordinal.the-variants as ordinal
+use Rattle.limits.specs.Limits.{countBound}
+use Rattle.call_types.specs.declared.CounterPoint.{CounterPoint}
+use Rattle.call_types.specs.declared.Ordinal.{Ordinal}
+use Rattle.call_types.specs.declared.Ordinal.the-variants as ordinal
 use Rattle.direct.specs.declared.Counts.{Counts}
 use Rattle.direct.specs.declared.Epoch.{Epoch}
 use Rattle.direct.specs.declared.Window.{Window}

@@ -4,8 +4,8 @@
 use mathlib.Core.Bool.{Bool, true, false}
 use Prim.Native.Nat.{ℕ, _-_}
 use lib.Dec.{ltb}
-use Rattle.calls.specs.declared.Counters.{Counters}
-use Rattle.calls.specs.declared.Counters.the-variants as counters
+use Rattle.call_types.specs.declared.Counters.{Counters}
+use Rattle.call_types.specs.declared.Counters.the-variants as counters
 use Rattle.direct.specs.declared.Counts.{Counts}
 use Rattle.direct.specs.declared.Epoch.{Epoch}
 use Rattle.direct.specs.declared.Window.{Window}

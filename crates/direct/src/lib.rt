@@ -4,7 +4,7 @@
 ghost use mathlib.Core.Path.{_≡_};
 ghost use mathlib.Core.Bool.{true, false};
 ghost use Prim.Native.Nat.{_^_, _≤_, max};
-ghost use Rattle.scope.specs.Limits.{capacity};
+ghost use Rattle.limits.specs.Limits.{capacity};
 ghost use Rattle.direct.specs.Offsets.{offset, jumps, senderOffset, receivedOffset, transmitOffset};
 ghost use Rattle.direct.specs.Outcomes.{oneUnavailable, oneObserved, oneDiscontinuity, oneReordered, historyExceeded};
 ghost use Rattle.direct.specs.Outcomes.{mismatched};
@@ -13,11 +13,11 @@ ghost use Rattle.direct.specs.Outcomes.{freshDirect, countsInBounds, InB
 
 pub mod summary;
 
-use calls::CounterPoint;
-use calls::Ordinal;
-use calls::ReflectorRx;
-use calls::ReflectorTx;
-use calls::SenderTx;
+use call_types::CounterPoint;
+use call_types::Ordinal;
+use call_types::ReflectorRx;
+use call_types::ReflectorTx;
+use call_types::SenderTx;
 
 // The counts of `DirectSummary`. `exceeded` is its `history_exceeded`.
 pub struct Counts {
@@ -133,10 +133,10 @@ fn larger(a: u32, b: u32) -> u32
 pub fn counts_in_bounds(counts: Counts) -> bool
     ensures { λ r. ⌜ r ≡ countsInBounds counts ⌝ }
 {
-    (counts.observations < scope::COUNT_BOUND)
-        & (counts.unavailable < scope::COUNT_BOUND)
-        & (counts.discontinuities < scope::COUNT_BOUND)
-        & (counts.reordered < scope::COUNT_BOUND)
+    (counts.observations < limits::COUNT_BOUND)
+        & (counts.unavailable < limits::COUNT_BOUND)
+        & (counts.discontinuities < limits::COUNT_BOUND)
+        & (counts.reordered < limits::COUNT_BOUND)
 }
 
 impl Counts {
@@ -283,7 +283,7 @@ fn follow(counts: Counts, epoch: Epoch, point: CounterPoint, again: bool) -> Ste
         let seen_again = unavailable.one_discontinuity();
         return step_of(seen_again, Window::Closed, Offsets::Cleared);
     }
-    if epoch.seen == scope::CAPACITY {
+    if epoch.seen == limits::CAPACITY {
         let observed = counts.one_observed();
         return step_of(
             observed.history_exceeded(),

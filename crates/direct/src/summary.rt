@@ -6,7 +6,7 @@ use crate::Counts;
 use crate::Direct;
 use crate::Epoch;
 use crate::Window;
-use calls::Counters;
+use call_types::Counters;
 
 // A number of packets, or none.
 pub enum Packets {

@@ -12,8 +12,8 @@ use lib.ListN.{length, take, drop, length-drop, take-append-drop}
 use lib.Seq.{length-take-le, take-at, drop-at, drop-drop}
 use mir.Syntax.{w64}
 use mir.Val.{toZ}
-use Rattle.scope.specs.Refusals.{wrongRoom}
-use Rattle.scope.specs.Limits.{sumBound}
+use Rattle.limits.specs.Refusals.{wrongRoom}
+use Rattle.limits.specs.Limits.{sumBound}
 use Rattle.floats.specs.Whole.{magnitude}
 use Rattle.delays.specs.declared.Nanoseconds.{Nanoseconds}
 use Rattle.delays.specs.declared.Sum.{Sum}

@@ -6,7 +6,7 @@ use Prim.Native.Nat.{ℕ}
 use lib.IntN.{pos, _+ℤ_}
 use mir.Syntax.{w64}
 use mir.Val.{toZ}
-use Rattle.scope.specs.Refusals.{wrongRoom, countsFull}
+use Rattle.limits.specs.Refusals.{wrongRoom, countsFull}
 use Rattle.delays.specs.Sums.{totalOf, sumOf}
 use Rattle.quantiles.specs.declared.Quantiles.{Quantiles}
 use Rattle.series.specs.Series.{sumFits, recordedBeside}

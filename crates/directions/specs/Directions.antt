@@ -5,7 +5,7 @@ use mathlib.Core.List.{List, _++_}
 use Prim.Native.Nat.{ℕ, _+_}
 use lib.Dec.{ltb}
 use lib.ListN.{length, take, drop}
-use Rattle.scope.specs.Refusals.{wrongRoom, countsFull}
+use Rattle.limits.specs.Refusals.{wrongRoom, countsFull}
 use Rattle.quantiles.specs.State.{roomSize}
 use Rattle.directions.specs.declared.OwdDirection.{OwdDirection}
 use Rattle.directions.specs.declared.Directions.{Directions}

@@ -4,7 +4,7 @@ use mathlib.Core.Bool.{Bool, true, false, cond}
 use Prim.Native.Nat.{ℕ, zero, suc, _≤_, _<_}
 use lib.Dec.{leb}
 use borrow.Author.Tests.{le-leb, lt-leb}
-use Rattle.scope.specs.Refusals.{outOfRange}
+use Rattle.limits.specs.Refusals.{outOfRange}
 use Rattle.estimate.specs.declared.ClockFormat.{ClockFormat}
 use Rattle.estimate.specs.declared.ClockFormat.the-variants.{NTP, PTP}
 use Rattle.estimate.specs.declared.ErrorEstimate.{ErrorEstimate}

@@ -46,7 +46,7 @@ impl ErrorEstimate {
         ensures { λ r. ⌜ r ≡ madeOf synchronized ptp scale multiplier ⌝ }
     {
         if scale > 63 {
-            return Made::Refused(scope::OUT_OF_RANGE);
+            return Made::Refused(limits::OUT_OF_RANGE);
         }
         Made::Estimate(ErrorEstimate {
             synchronized,

@@ -2,7 +2,7 @@
 use mathlib.Core.Bool.{Bool, _&&_}
 use Prim.Native.Nat.{ℕ, _<_}
 use lib.Dec.{ltb}
-use Rattle.scope.specs.Limits.{countBound}
+use Rattle.limits.specs.Limits.{countBound}
 use Rattle.delays.specs.Bounds as delays
 use Rattle.clock_quality.specs.Bounds as quality
 use Rattle.follow_ups.specs.declared.FollowCounts.{FollowCounts}

@@ -170,10 +170,10 @@ impl FollowUps {
 fn counts_fit(n: FollowCounts) -> bool
     ensures { λ r. ⌜ r ≡ countsFit n ⌝ }
 {
-    (n.observations < scope::COUNT_BOUND)
-        & (n.matched < scope::COUNT_BOUND)
-        & (n.repeated < scope::COUNT_BOUND)
-        & (n.unmatched < scope::COUNT_BOUND)
-        & (n.ambiguous < scope::COUNT_BOUND)
-        & (n.unavailable < scope::COUNT_BOUND)
+    (n.observations < limits::COUNT_BOUND)
+        & (n.matched < limits::COUNT_BOUND)
+        & (n.repeated < limits::COUNT_BOUND)
+        & (n.unmatched < limits::COUNT_BOUND)
+        & (n.ambiguous < limits::COUNT_BOUND)
+        & (n.unavailable < limits::COUNT_BOUND)
 }

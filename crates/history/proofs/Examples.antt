@@ -7,21 +7,21 @@ use Prim.Native.Nat.{ℕ, zero, suc, _*_, _^_}
 use lib.IntN.{ℤ, pos, negsuc}
 use Rattle.estimate.specs.declared.ClockFormat.the-variants.{PTP}
 use Rattle.estimate.specs.declared.Estimates.the-variants.{Absent as NoEstimates}
-use Rattle.calls.specs.declared.PendingPacket.{PendingPacket}
-use Rattle.calls.specs.declared.Pending.{Pending}
-use Rattle.calls.specs.declared.Pending.the-variants.{Absent as NoPacket, Held}
-use Rattle.calls.specs.declared.Ordinal.the-variants.{Absent as NoOrdinal, Number}
-use Rattle.calls.specs.declared.CounterPoint.{CounterPoint}
-use Rattle.calls.specs.declared.Counters.{Counters}
-use Rattle.calls.specs.declared.Counters.the-variants.{Absent as NoCounters, Point}
-use Rattle.calls.specs.declared.Time.the-variants.{Nanoseconds}
-use Rattle.calls.specs.declared.FollowUpTelemetry.{FollowUpTelemetry}
-use Rattle.calls.specs.declared.FollowUp.{FollowUp}
-use Rattle.calls.specs.declared.FollowUp.the-variants.{Absent as NoFollowUp, Telemetry}
-use Rattle.calls.specs.declared.ReplyKey.{ReplyKey}
-use Rattle.calls.specs.declared.ReplyObservation.{ReplyObservation}
-use Rattle.calls.specs.declared.Call.{Call}
-use Rattle.calls.specs.declared.Call.the-variants.{Sent, Accept, Observe}
+use Rattle.call_types.specs.declared.PendingPacket.{PendingPacket}
+use Rattle.call_types.specs.declared.Pending.{Pending}
+use Rattle.call_types.specs.declared.Pending.the-variants.{Absent as NoPacket, Held}
+use Rattle.call_types.specs.declared.Ordinal.the-variants.{Absent as NoOrdinal, Number}
+use Rattle.call_types.specs.declared.CounterPoint.{CounterPoint}
+use Rattle.call_types.specs.declared.Counters.{Counters}
+use Rattle.call_types.specs.declared.Counters.the-variants.{Absent as NoCounters, Point}
+use Rattle.call_types.specs.declared.Time.the-variants.{Nanoseconds}
+use Rattle.call_types.specs.declared.FollowUpTelemetry.{FollowUpTelemetry}
+use Rattle.call_types.specs.declared.FollowUp.{FollowUp}
+use Rattle.call_types.specs.declared.FollowUp.the-variants.{Absent as NoFollowUp, Telemetry}
+use Rattle.call_types.specs.declared.ReplyKey.{ReplyKey}
+use Rattle.call_types.specs.declared.ReplyObservation.{ReplyObservation}
+use Rattle.call_types.specs.declared.Call.{Call}
+use Rattle.call_types.specs.declared.Call.the-variants.{Sent, Accept, Observe}
 use Rattle.timestamps.specs.Converted.{converted, secondNear}
 use Rattle.history.specs.Counting.{has, offset}
 use Rattle.history.specs.Ledger.{rememberings, without, distinct, replies, ordinal, packet, accepted, hasKey, awaiting, lastAccepted, oldest, train, held, replyClass, ready, afterReply, events, Answer, isUnique, answer, count, highestReflector, behind, probesEvicted, evictedUnanswered, replyCounts, thousandths, unobserved}

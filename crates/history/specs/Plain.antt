@@ -4,9 +4,9 @@ use mathlib.Core.List.{List, map}
 use mathlib.Core.Option.{Option}
 use Prim.Native.Nat.{ℕ}
 use lib.Dec.{eqb, ltb}
-use Rattle.calls.specs.declared.CounterPoint.{CounterPoint}
-use Rattle.calls.specs.declared.Reply.{Reply}
-use Rattle.calls.specs.declared.Call.{Call}
+use Rattle.call_types.specs.declared.CounterPoint.{CounterPoint}
+use Rattle.call_types.specs.declared.Reply.{Reply}
+use Rattle.call_types.specs.declared.Call.{Call}
 use Rattle.history.specs.Counting.{has}
 use Rattle.history.specs.Given.{packetOf}
 use Rattle.history.specs.Ledger.{ReplyCounts, replyCounts, accepted, events, held, replies, lastReflector, highestReflector, unobserved, thousandths, Answer, answer}

@@ -9,7 +9,7 @@ use borrow.Fn.Kinds as Kinds'
 use denote.Triple.Clauses as Clauses
 use denote.Ref.{now}
 use lib.ListN.{length}
-use Rattle.calls.specs.declared.Reply.{Reply}
+use Rattle.call_types.specs.declared.Reply.{Reply}
 use Rattle.ledger_steps.specs.Refusals.{refusalOfAccept}
 use Rattle.ledger_steps.specs.Accept.{AcceptOutcome, acceptOn}
 use Rattle.ledger_steps.specs.Calls.{acceptBy, acceptTo}

@@ -5,7 +5,7 @@ ghost use Rattle.host_calls.specs.Calls.{replyOf};
 ghost use Rattle.host_accept_words.specs.Accept.{acceptLeft, acceptOf};
 use host_accept_words::served;
 use host_ledger::LEDGER_WORDS;
-use scope::CAPACITY;
+use limits::CAPACITY;
 
 // Words of `answer`: 0 class, 1 time, 2 tag, 3 ordinal_known, 4 ordinal, 5 train.
 #[no_mangle]
@@ -29,7 +29,7 @@ pub extern "C" fn ambrulicciu_accept(
         & (slots.len() == CAPACITY)
         & (probes.len() == CAPACITY)
         & (links.len() == CAPACITY);
-    let refused = host_checks::refusal(ledger, sized);
+    let refused = host_ledger_checks::refusal(ledger, sized);
     if refused == 0 {
         let reply = host_calls::reply_of(sender, reflector, t3, pending, time, tag);
         served(ledger, keys, slots, probes, links, reply, answer);

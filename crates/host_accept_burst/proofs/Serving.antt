@@ -7,7 +7,7 @@ use native.Mathlib.Omega.{arith}
 use Prim.Native.Nat.{ℕ, suc, _+_, _-_, _≤_, _<_, _^_}
 use lib.Dec.{eqb}
 use lib.ListN.{length, getD, set}
-use Rattle.calls.specs.declared.Reply.{Reply}
+use Rattle.call_types.specs.declared.Reply.{Reply}
 use Rattle.ledger_state.specs.Refusal.{firstRefusal, sized, ringsFit, roomForCall}
 use Rattle.ledger_steps.specs.Accept.{acceptOn}
 use Rattle.ledger_steps.specs.Refusals.{refusalOfAccept}
@@ -16,8 +16,8 @@ use Rattle.ledger_checks.specs.Sound.{SoundAccept}
 use Rattle.host_ledger.specs.Words.{ledgerAt}
 use Rattle.host_accept_words.specs.Accept.{AcceptLeft, acceptLeft, acceptFrom, acceptOf, servedLeaves}
 use Rattle.host_accept_words.proofs.Steps.{sound, served-is, refused-is}
-use Rattle.host_lasting.specs.Lasts.{lasts}
-use Rattle.host_lasting.proofs.Lasting.{Lasting, lasts-begins, next-served, left-long, left-lasting}
+use Rattle.host_burst_bounds.specs.Lasts.{lasts}
+use Rattle.host_burst_bounds.proofs.Lasting.{Lasting, lasts-begins, next-served, left-long, left-lasting}
 use Rattle.host_burst.specs.Burst.{Burst, left, listed, burstRefusal, oneMore, upTo}
 use Rattle.host_burst.specs.Entries.{replyAt, answerIn, servedRow, refusedRow, rowAfter}
 use Rattle.host_burst.proofs.Steps.{row-of-call, refused-row}

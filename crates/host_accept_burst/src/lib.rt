@@ -1,5 +1,5 @@
 // `ambrulicciu_accept_burst`: `accept` for a list of replies, on the words and the rooms that a host lends (document 02, Q-2).
-// Whether any entry can be refused is looked at once a list (crate host_lasting). The words of the hash are taken out of the ledger's at each entry:
+// Whether any entry can be refused is looked at once a list (crate host_burst_bounds). The words of the hash are taken out of the ledger's at each entry:
 // kept over the list they would lie on the stack, and each of their uses would fetch them from there.
 ghost use mathlib.Core.Path.{_≡_};
 ghost use mathlib.Core.Bool.{true, _&&_};
@@ -16,7 +16,7 @@ use host_burst::refusal_of_list;
 use host_burst::reply_at;
 use host_burst::served_of_list;
 use host_ledger::LEDGER_WORDS;
-use scope::CAPACITY;
+use limits::CAPACITY;
 
 // How many words a ledger has, for the proof: the code of it is nothing.
 fn counted(_words: [u64; LEDGER_WORDS])
@@ -71,7 +71,7 @@ fn serve(
         & (slots.len() == CAPACITY)
         & (probes.len() == CAPACITY)
         & (links.len() == CAPACITY);
-    let sure = host_lasting::lasts(ledger, sized, count);
+    let sure = host_burst_bounds::lasts(ledger, sized, count);
     let mut i = 0;
     while i < count {
         serve_entry(

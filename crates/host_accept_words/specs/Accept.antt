@@ -1,7 +1,7 @@
 -- What `ambrulicciu_accept` returns and leaves: the library's `accept` on the ledger that the words say. Assumes nothing.
 use mathlib.Core.List.{List}
 use Prim.Native.Nat.{ℕ}
-use Rattle.calls.specs.declared.Reply.{Reply}
+use Rattle.call_types.specs.declared.Reply.{Reply}
 use Rattle.ledger_steps.specs.declared.AcceptAnswer.{AcceptAnswer}
 use Rattle.ledger_steps.specs.declared.AcceptAnswer.the-variants as accepts
 use Rattle.replies.specs.Served.{afterDuplicate, afterUnknown}
@@ -10,7 +10,7 @@ use Rattle.ledger_steps.specs.Calls.{AcceptResult, acceptNumber, acceptTo}
 use Rattle.host_calls.specs.Calls as host_calls
 use Rattle.host_ledger.specs.Words.{ledgerAt}
 use Rattle.host_ledger.specs.Left.{countedWords}
-use Rattle.host_served.specs.Served.{servedWords}
+use Rattle.host_accept_stored.specs.Served.{servedWords}
 
 -- the number returned, the words of the ledger, the four rooms and the answer's words
 pub record AcceptLeft : Type 0 where

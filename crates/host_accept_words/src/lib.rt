@@ -8,7 +8,7 @@ ghost use mathlib.Core.Bool.{true, _&&_};
 ghost use Prim.Native.Nat.{_≤_, _<_};
 ghost use lib.Dec.{leb};
 ghost use lib.ListN.{length, getD};
-ghost use Rattle.scope.specs.Limits.{capacity, mostCalls, countBound};
+ghost use Rattle.limits.specs.Limits.{capacity, mostCalls, countBound};
 ghost use Rattle.chains.specs.Hash.{numberHash};
 ghost use Rattle.key_ring.specs.Table.{find as findKey, hashOf};
 ghost use Rattle.probe_ring.specs.Rooms.{rooms, outcome};
@@ -21,12 +21,12 @@ ghost use Rattle.ledger_checks.specs.Sound.{SoundAccept};
 ghost use Rattle.host_ledger.specs.Words.{ledgerAt};
 ghost use Rattle.host_ledger.specs.Left.{acceptedWords};
 ghost use Rattle.host_accept_words.specs.Accept.{acceptLeft, duplicateWords, unknownWords, servedLeaves};
-use calls::Reply;
+use call_types::Reply;
 use chains::Ring;
 use host_ledger::LEDGER_WORDS;
 use ledger_state::Tables;
+use limits::CAPACITY;
 use probe_ring::Remembered;
-use scope::CAPACITY;
 
 // ---- what is counted
 
@@ -116,7 +116,7 @@ fn unique_ready(
 {
     let key = reply.key;
     let pending = reply.pending;
-    let ring = host_checks::keys_ring(ledger);
+    let ring = host_ledger_checks::keys_ring(ledger);
     let held = ready.ring;
     let replied = ledger_accept::reply_to(probes, ready.slot, pending);
     let context = replied.context;
@@ -148,7 +148,7 @@ fn unique(
     requires { ⌜ SoundAccept (ledgerAt (now ledger)) (length (now keys)) (length (now slots)) (length (now probes)) (length (now links)) × (secret ≡ hashWords (ledgerAt (now ledger))) ⌝ }
     ensures { λ _. ⌜ acceptLeft 0 (now (ledger .exit)) (now (keys .exit)) (now (slots .exit)) (now (probes .exit)) (now (links .exit)) (now (answer .exit)) ≡ servedLeaves (now (ledger .entry)) (uniqueIn capacity (hashOf (hashWords (ledgerAt (now (ledger .entry))))) (numberHash (hashWords (ledgerAt (now (ledger .entry))))) (ledgerAt (now (ledger .entry))) (now (keys .entry)) (now (slots .entry)) (readied capacity (hashOf (hashWords (ledgerAt (now (ledger .entry))))) (numberHash (hashWords (ledgerAt (now (ledger .entry))))) (rooms (now (probes .entry)) (now (links .entry)) (ledgerAt (now (ledger .entry)) .tables .probes)) slot (reply .key) (reply .pending)) reply) ⌝ }
 {
-    let ring = host_checks::probes_ring(ledger);
+    let ring = host_ledger_checks::probes_ring(ledger);
     let ready = ledger_accept::ready_probe(probes, links, ring, secret, slot, reply);
     unique_ready(
         ledger,
@@ -178,7 +178,7 @@ fn other(
     ensures { λ _. ⌜ acceptLeft 0 (now (ledger .exit)) (now (keys .exit)) (now (slots .exit)) (now (probes .exit)) (now (links .exit)) (now (answer .exit)) ≡ servedLeaves (now (ledger .entry)) (acceptOn (ledgerAt (now (ledger .entry))) (now (keys .entry)) (now (slots .entry)) (now (probes .entry)) (now (links .entry)) reply) ⌝ }
 {
     let pending = reply.pending;
-    let ring = host_checks::probes_ring(ledger);
+    let ring = host_ledger_checks::probes_ring(ledger);
     let slot = probe_ring::find(probes, links, ring, secret, reply.key.sender);
     if (slot < CAPACITY) | ledger_accept::is_pending(pending) {
         unique(
@@ -212,8 +212,8 @@ pub fn served(
     ensures { λ _. ⌜ acceptLeft 0 (now (ledger .exit)) (now (keys .exit)) (now (slots .exit)) (now (probes .exit)) (now (links .exit)) (now (answer .exit)) ≡ servedLeaves (now (ledger .entry)) (acceptOn (ledgerAt (now (ledger .entry))) (now (keys .entry)) (now (slots .entry)) (now (probes .entry)) (now (links .entry)) reply) ⌝ }
 {
     let key = reply.key;
-    let secret = host_checks::secret_words(ledger);
-    let ring = host_checks::keys_ring(ledger);
+    let secret = host_ledger_checks::secret_words(ledger);
+    let ring = host_ledger_checks::keys_ring(ledger);
     if key_ring::find(keys, links, ring, secret, key) < CAPACITY {
         *answer = [1, 0, 0, 0, 0, 0];
         count_duplicate(ledger);
@@ -232,5 +232,5 @@ pub fn refusal_unless(sure: bool, ledger: &[u64; LEDGER_WORDS], sized: bool) -> 
     if sure {
         return 0;
     }
-    host_checks::refusal(ledger, sized)
+    host_ledger_checks::refusal(ledger, sized)
 }

@@ -6,7 +6,7 @@ use lib.ListN.{set}
 use Rattle.host_numbers.specs.Numbers.{lower, upper}
 use Rattle.host_observation.specs.Observation.{word}
 use Rattle.record_parts.specs.Parts.{countersFlag, senderCount, receivedCount, transmittedCount}
-use Rattle.calls.specs.declared.CounterPoint.{CounterPoint}
+use Rattle.call_types.specs.declared.CounterPoint.{CounterPoint}
 use Rattle.area_read.specs.declared.Checked.{Checked}
 use Rattle.area_read.specs.declared.Checked.the-variants as checked
 use Rattle.area_read.specs.Read as read-call

@@ -6,8 +6,8 @@ use mathlib.Core.List.{List, [], _∷_}
 use Prim.Native.Nat.{ℕ, _+_, _*_, _/_, _%_, _≤_, _<_, _^_}
 use native.Mathlib.Omega.{arith}
 use lib.Dec.{eqb}
-use Rattle.calls.specs.declared.Counters.{Counters}
-use Rattle.calls.specs.declared.Counters.the-variants as counters
+use Rattle.call_types.specs.declared.Counters.{Counters}
+use Rattle.call_types.specs.declared.Counters.the-variants as counters
 use Rattle.host_numbers.specs.Numbers.{lower, upper, joined, flagWord}
 use Rattle.host_observation.specs.Observation.{word, double, flagsAt, countersAt, keyAt}
 use Rattle.record_parts.specs.Parts.{flag, countersFlag, countersBy, senderCount, receivedCount, transmittedCount}

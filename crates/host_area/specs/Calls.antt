@@ -3,7 +3,7 @@
 use mathlib.Core.List.{List}
 use Prim.Native.Nat.{ℕ}
 use lib.ListN.{set}
-use Rattle.calls.specs.declared.CounterPoint.{CounterPoint}
+use Rattle.call_types.specs.declared.CounterPoint.{CounterPoint}
 use Rattle.area_read.specs.declared.Checked.{Checked}
 use Rattle.area_read.specs.declared.Checked.the-variants as checked
 use Rattle.area_read.specs.Read as read-call

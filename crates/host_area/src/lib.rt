@@ -9,11 +9,11 @@ use area_observation::Telling;
 use area_observation::Told;
 use area_read::Checked;
 use area_write::Written;
-use calls::CounterPoint;
-use calls::Counters;
-use calls::ReflectorRx;
-use calls::ReflectorTx;
-use calls::SenderTx;
+use call_types::CounterPoint;
+use call_types::Counters;
+use call_types::ReflectorRx;
+use call_types::ReflectorTx;
+use call_types::SenderTx;
 ghost use mathlib.Core.Path.{_≡_};
 ghost use Prim.Native.Nat.{_≤_};
 ghost use Rattle.host_numbers.specs.Numbers.{lower, upper, flagWord};
@@ -65,7 +65,7 @@ pub extern "C" fn ambrulicciu_counters_read(value: &[u8], counters: &mut [u32; 3
 {
     let answer = area_fields::read_counters(value);
     match answer {
-        CountersRead::WrongLength => scope_requests::WRONG_LENGTH,
+        CountersRead::WrongLength => request_limits::WRONG_LENGTH,
         CountersRead::Read(point) => {
             counters[0] = point.sender.0;
             counters[1] = point.received.0;
@@ -83,7 +83,7 @@ pub extern "C" fn ambrulicciu_follow_up_read(value: &[u8], follow: &mut [u64; 3]
 {
     let answer = area_fields::read_follow_up(value);
     match answer {
-        FollowUpRead::WrongLength => scope_requests::WRONG_LENGTH,
+        FollowUpRead::WrongLength => request_limits::WRONG_LENGTH,
         FollowUpRead::Read(item) => {
             follow[0] = item.sequence as u64;
             follow[1] = item.timestamp;

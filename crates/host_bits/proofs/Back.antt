@@ -9,7 +9,7 @@ use native.Mathlib.Omega.{arith}
 use lib.Dec.{eqb, ltb}
 use lib.ListN.{length, getD}
 use lib.Seq.{sets, length-sets}
-use Rattle.scope_requests.specs.Refusals.{mostBits}
+use Rattle.request_limits.specs.Refusals.{mostBits}
 use Rattle.host_numbers.specs.Numbers.{lower}
 use Rattle.bit_pattern.specs.Pattern.{parsed}
 use Rattle.bit_pattern.proofs.Determined.{refused-unchanged}

@@ -6,7 +6,7 @@ use Prim.Native.Nat.{ℕ, zero, suc}
 use lib.Dec.{eqb}
 use lib.ListN.{set}
 use lib.Seq.{sets}
-use Rattle.scope_requests.specs.Refusals.{tooMuchPadding}
+use Rattle.request_limits.specs.Refusals.{tooMuchPadding}
 use Rattle.bit_pattern.specs.Pattern as pattern-call
 use Rattle.bit_errors.specs.Errors as errors-call
 use Rattle.bit_observation.specs.declared.Sample.{Sample}

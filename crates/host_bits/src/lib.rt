@@ -26,8 +26,8 @@ pub extern "C" fn ambrulicciu_parse_pattern(
 {
     let answer = bit_pattern::parse_pattern(text, room);
     match answer {
-        Parsing::BadPattern => scope_requests::BAD_PATTERN,
-        Parsing::ShortRoom => scope_requests::SHORT_ROOM,
+        Parsing::BadPattern => request_limits::BAD_PATTERN,
+        Parsing::ShortRoom => request_limits::SHORT_ROOM,
         Parsing::Parsed(count) => {
             length[0] = count as u64;
             0
@@ -47,7 +47,7 @@ pub extern "C" fn ambrulicciu_bit_errors(
 {
     let answer = bit_errors::xor_popcount_and_max_burst(padding, pattern);
     match answer {
-        Comparison::Refused => scope_requests::TOO_MUCH_PADDING,
+        Comparison::Refused => request_limits::TOO_MUCH_PADDING,
         Comparison::Counted(found) => {
             counts[0] = found.errors as u64;
             counts[1] = found.longest as u64;
@@ -142,7 +142,7 @@ pub extern "C" fn ambrulicciu_bit_observation(
         wanted != 0,
     );
     match observed {
-        Observed::Refused => scope_requests::TOO_MUCH_PADDING,
+        Observed::Refused => request_limits::TOO_MUCH_PADDING,
         Observed::Unusable => {
             answer[0] = 0;
             0
@@ -223,8 +223,8 @@ pub extern "C" fn ambrulicciu_bit_summary_record(
     };
     let answer = state.record(sample);
     match answer {
-        Recording::TooManyBits => scope_requests::TOO_MUCH_PADDING,
-        Recording::Full => scope::COUNTS_FULL,
+        Recording::TooManyBits => request_limits::TOO_MUCH_PADDING,
+        Recording::Full => limits::COUNTS_FULL,
         Recording::Counted(next) => {
             store(summary, next);
             0

@@ -6,8 +6,8 @@ use native.Mathlib.Omega.{arith}
 use Prim.Native.Nat.{ℕ, zero, suc, _≤_}
 use lib.Dec.{eqb, leb}
 use lib.ListN.{length, getD, set}
-use Rattle.calls.specs.declared.Pending.the-variants as pending
-use Rattle.calls.specs.declared.Ordinal.the-variants as ordinal
+use Rattle.call_types.specs.declared.Pending.the-variants as pending
+use Rattle.call_types.specs.declared.Ordinal.the-variants as ordinal
 use Rattle.ledger_steps.specs.declared.Accepted.{Accepted}
 use Rattle.ledger_steps.specs.declared.Accepted.the-variants.{Duplicate, Unknown, Unique}
 use Rattle.host_calls.specs.Calls as host_calls

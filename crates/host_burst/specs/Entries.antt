@@ -3,7 +3,7 @@
 use mathlib.Core.List.{List, [], _∷_}
 use Prim.Native.Nat.{ℕ, zero, suc}
 use lib.ListN.{getD}
-use Rattle.calls.specs.declared.Reply.{Reply}
+use Rattle.call_types.specs.declared.Reply.{Reply}
 use Rattle.host_numbers.specs.Numbers.{lower, upper}
 use Rattle.host_calls.specs.Calls.{replyOf}
 

@@ -7,8 +7,8 @@ ghost use lib.Dec.{eqb};
 ghost use lib.ListN.{getD, set};
 ghost use Rattle.host_burst.specs.Burst.{burstRefusal};
 ghost use Rattle.host_burst.specs.Entries.{replyAt, servedRow, refusedRow, rowAfter};
-use calls::Reply;
-use scope::WRONG_ROOM;
+use call_types::Reply;
+use limits::WRONG_ROOM;
 
 // Most entries of a list (document 02, Q-2).
 pub const MOST_ENTRIES: usize = 256;

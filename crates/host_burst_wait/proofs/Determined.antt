@@ -9,7 +9,7 @@ use borrow.Fn.World as World
 use borrow.Fn.Kinds as Kinds'
 use denote.Triple.Clauses as Clauses
 use denote.Ref.{now}
-use Rattle.scope.specs.Refusals.{wrongRoom}
+use Rattle.limits.specs.Refusals.{wrongRoom}
 use Rattle.ledger_state.specs.BurstWait.{burstWait}
 use Rattle.ledger_state.specs.Refusal.{ringsFit}
 use Rattle.host_numbers.specs.Numbers.{flagWord}

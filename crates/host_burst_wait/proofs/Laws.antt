@@ -4,7 +4,7 @@ use mathlib.Core.Bool.{Bool, true, false, not, cond}
 use mathlib.Core.List.{List, [], _∷_}
 use Prim.Native.Nat.{ℕ}
 use borrow.Author.Tests.{not-true, not-false}
-use Rattle.scope.specs.Refusals.{wrongRoom}
+use Rattle.limits.specs.Refusals.{wrongRoom}
 use Rattle.ledger_state.specs.BurstWait.{burstWait}
 use Rattle.ledger_state.specs.Refusal.{ringsFit}
 use Rattle.host_numbers.specs.Numbers.{flagWord}

@@ -11,8 +11,8 @@ pub extern "C" fn ambrulicciu_needs_burst_wait(
 ) -> u8
     ensures { λ r. ⌜ left r (now (answer .exit)) ≡ burstWaitLeaves (now (ledger .entry)) (now (answer .entry)) ⌝ }
 {
-    if !host_checks::rings_fit(ledger) {
-        return scope::WRONG_ROOM;
+    if !host_ledger_checks::rings_fit(ledger) {
+        return limits::WRONG_ROOM;
     }
     let state = host_ledger::load(ledger);
     *answer = [host_numbers::flag(ledger_state::needs_burst_wait(state))];

@@ -8,8 +8,8 @@ use mir.Syntax.{w32, w64}
 use mir.Val.{ofZ, toZ}
 use mir.ValLaws.{toZ-ofZ, ofZ-fits}
 use Rattle.estimate.specs.Make.{formatOf}
-use Rattle.calls.specs.declared.ReplyObservation.{ReplyObservation}
-use Rattle.calls.specs.declared.Time.the-variants.{Absent}
+use Rattle.call_types.specs.declared.ReplyObservation.{ReplyObservation}
+use Rattle.call_types.specs.declared.Time.the-variants.{Absent}
 use Rattle.record_parts.specs.Parts.{flag, timeWord, followTimestamp, observeFlags, timeBy, ordinalBy, countersBy, followBy, estimatesBy}
 use Rattle.record_parts.specs.Parts.{ordinalNumber, senderCount, receivedCount, transmittedCount, followSequence, senderWire, reflectorWire}
 use Rattle.record_parts.specs.Fits.{U16, U64, ObservationFits}

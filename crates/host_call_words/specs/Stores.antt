@@ -5,8 +5,8 @@ use lib.ListN.{set}
 use mir.Syntax.{w32, w64}
 use mir.Val.{ofZ}
 use Rattle.host_numbers.specs.Numbers.{lower, upper}
-use Rattle.calls.specs.declared.ReplyObservation.{ReplyObservation}
-use Rattle.calls.specs.declared.Time.the-variants.{Absent}
+use Rattle.call_types.specs.declared.ReplyObservation.{ReplyObservation}
+use Rattle.call_types.specs.declared.Time.the-variants.{Absent}
 use Rattle.record_parts.specs.Parts.{observeFlags, timeWord, ordinalNumber, senderCount, receivedCount, transmittedCount}
 use Rattle.record_parts.specs.Parts.{followSequence, followTimestamp}
 use Rattle.host_call_words.specs.Words.{wires}

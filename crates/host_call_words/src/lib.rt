@@ -5,11 +5,11 @@ ghost use mir.Syntax.{w32, w64};
 ghost use mir.Val.{ofZ};
 ghost use Rattle.host_call_words.specs.Words.{wires, sentWords, acceptWords, observeWords, advanceWords, idleWords, callWords};
 ghost use Rattle.host_call_words.specs.Stores.{longAt, timesAt, numbersAt};
-use calls::Call;
-use calls::Reply;
-use calls::ReplyObservation;
-use calls::SentProbe;
-use calls::Time;
+use call_types::Call;
+use call_types::Reply;
+use call_types::ReplyObservation;
+use call_types::SentProbe;
+use call_types::Time;
 use estimate::Estimates;
 
 fn put_long(words: &mut [u32; 44], at: usize, n: u64)
@@ -52,13 +52,13 @@ fn accept_words(reply: Reply) -> [u32; 44]
 fn reference_word(o: ReplyObservation) -> u64
     ensures { λ r. ⌜ r ≡ ofZ w64 (o .reference) ⌝ }
 {
-    words::word64(o.reference)
+    signed_words::word64(o.reference)
 }
 
 fn offset_word(o: ReplyObservation) -> u32
     ensures { λ r. ⌜ r ≡ ofZ w32 (o .offset) ⌝ }
 {
-    words::word32(o.offset)
+    signed_words::word32(o.offset)
 }
 
 // The sender's estimate in the low 16 bits, the reflector's in the high.

@@ -3,18 +3,18 @@ use mathlib.Core.Bool.{cond}
 use mathlib.Core.List.{List, [], _∷_}
 use Prim.Native.Nat.{ℕ}
 use lib.Dec.{eqb}
-use Rattle.calls.specs.declared.PendingPacket.{PendingPacket}
-use Rattle.calls.specs.declared.Ordinal.{Ordinal}
-use Rattle.calls.specs.declared.Ordinal.the-variants as ordinal
-use Rattle.calls.specs.declared.Pending.the-variants as pending
-use Rattle.calls.specs.declared.Reply.{Reply}
-use Rattle.calls.specs.declared.SentProbe.{SentProbe}
+use Rattle.call_types.specs.declared.PendingPacket.{PendingPacket}
+use Rattle.call_types.specs.declared.Ordinal.{Ordinal}
+use Rattle.call_types.specs.declared.Ordinal.the-variants as ordinal
+use Rattle.call_types.specs.declared.Pending.the-variants as pending
+use Rattle.call_types.specs.declared.Reply.{Reply}
+use Rattle.call_types.specs.declared.SentProbe.{SentProbe}
 use Rattle.ledger_steps.specs.declared.Accepted.{Accepted}
 use Rattle.ledger_steps.specs.declared.Accepted.the-variants as accepted
 
 -- what `sent` is told: the sequence, its ordinal and train, and the packet's send time and tag
-abbrev pub probeOf : (sequence ordinal train time tag : ℕ) → SentProbe
-probeOf sequence ordinal train time tag = record { sequence = sequence; ordinal = ordinal; train = train; packet = record { time = time; tag = tag } }
+abbrev pub sentProbeOf : (sequence ordinal train time tag : ℕ) → SentProbe
+sentProbeOf sequence ordinal train time tag = record { sequence = sequence; ordinal = ordinal; train = train; packet = record { time = time; tag = tag } }
 
 -- there is a pending packet where `held` is not 0
 abbrev pub replyOf : (sender reflector t3 held time tag : ℕ) → Reply

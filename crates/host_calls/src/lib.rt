@@ -1,16 +1,16 @@
 // What a host hands over as numbers, as the ledger's `sent` and `accept` take it, and the words that tell it what an accepted reply is.
 ghost use mathlib.Core.Path.{_≡_};
-ghost use Rattle.host_calls.specs.Calls.{probeOf, replyOf, acceptedWords, ordinalWords};
-use calls::Ordinal;
-use calls::Pending;
-use calls::PendingPacket;
-use calls::Reply;
-use calls::ReplyKey;
-use calls::SentProbe;
+ghost use Rattle.host_calls.specs.Calls.{sentProbeOf, replyOf, acceptedWords, ordinalWords};
+use call_types::Ordinal;
+use call_types::Pending;
+use call_types::PendingPacket;
+use call_types::Reply;
+use call_types::ReplyKey;
+use call_types::SentProbe;
 use ledger_steps::Accepted;
 
 pub fn probe_of(sequence: u32, ordinal: u32, train: u32, time: u64, tag: u64) -> SentProbe
-    ensures { λ r. ⌜ r ≡ probeOf sequence ordinal train time tag ⌝ }
+    ensures { λ r. ⌜ r ≡ sentProbeOf sequence ordinal train time tag ⌝ }
 {
     SentProbe {
         sequence,

@@ -9,7 +9,7 @@ use lib.Ieee.Bits.{ofBits-fits}
 use lib.Ieee.Fits.{round-fits, cond-fits, add-fits}
 use lib.ListN.{length, getD}
 use lib.Seq.{sets}
-use Rattle.scope.specs.Refusals.{countsFull}
+use Rattle.limits.specs.Refusals.{countsFull}
 use Rattle.host_numbers.specs.Numbers.{isSet}
 use Rattle.estimate.specs.declared.ErrorEstimate.{ErrorEstimate}
 use Rattle.estimate.specs.declared.Reading.{Reading}

@@ -10,8 +10,8 @@ use borrow.Author.Tests.{lt-ltb}
 use lib.Dec.{T, ltb, ltb→lt}
 use lib.ListN.{length}
 use lib.Seq.{sets, length-sets}
-use Rattle.scope.specs.Limits.{countBound}
-use Rattle.scope.specs.Refusals.{countsFull}
+use Rattle.limits.specs.Limits.{countBound}
+use Rattle.limits.specs.Refusals.{countsFull}
 use Rattle.host_numbers.specs.Numbers.{isSet}
 use Rattle.host_quality.specs.Words.{qualityAt, qualityWords}
 use Rattle.estimate.specs.declared.Estimates.{Estimates}
@@ -25,7 +25,7 @@ use Rattle.clock_quality.proofs.Largest.{largest-among}
 use Rattle.host_clock_quality.specs.Calls.{freshTo, recordAfter, recordTo}
 use Rattle.host_clock_quality.proofs.Back.{fresh-is-read, record-is-read}
 use Rattle.host_clock_quality_summary.specs.Summary.{Summary}
-use Rattle.host_shown.specs.Words as shown
+use Rattle.host_snapshot_words.specs.Words as shown
 use Rattle.host_clock_quality_meaning.specs.Recorded.{Told, sampleOf, served, numberAfter, wordsAfter}
 
 -- ---- which samples are served: no count is above the number of samples, so that number alone decides

@@ -4,8 +4,8 @@ use mathlib.Core.List.{List, [], _∷_}
 use Prim.Native.Nat.{ℕ}
 use lib.Dec.{ltb}
 use lib.ListN.{length}
-use Rattle.scope.specs.Limits.{countBound}
-use Rattle.scope.specs.Refusals.{countsFull}
+use Rattle.limits.specs.Limits.{countBound}
+use Rattle.limits.specs.Refusals.{countsFull}
 use Rattle.estimate.specs.declared.Estimates.{Estimates}
 use Rattle.host_clock_quality.specs.Calls.{estimatesFrom, freshTo, recordTo}
 

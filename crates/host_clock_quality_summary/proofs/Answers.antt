@@ -9,8 +9,8 @@ use Rattle.clock_quality.specs.declared.ClockQuality.{ClockQuality}
 use Rattle.clock_quality.specs.declared.LastEstimate.{LastEstimate}
 use Rattle.clock_quality.specs.declared.LastEstimate.the-variants as last
 use Rattle.host_quality.specs.Words.{qualityAt}
-use Rattle.host_shown.specs.Words.{estimateWords, qualityWords}
-use Rattle.host_shown.proofs.Laws.{placed-all}
+use Rattle.host_snapshot_words.specs.Words.{estimateWords, qualityWords}
+use Rattle.host_snapshot_words.proofs.Laws.{placed-all}
 use Rattle.host_clock_quality_summary.specs.Summary.{Summary}
 
 eight : (l : LastEstimate) → length (estimateWords l) ≡ 8

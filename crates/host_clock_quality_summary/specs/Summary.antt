@@ -3,7 +3,7 @@ use mathlib.Core.Path.{_≡_}
 use mathlib.Core.List.{List}
 use Prim.Native.Nat.{ℕ}
 use Rattle.host_quality.specs.Words.{qualityAt}
-use Rattle.host_shown.specs.Words as shown
+use Rattle.host_snapshot_words.specs.Words as shown
 
 -- nothing is refused, and each word is that of the quality that the lent words say
 pub record Summary (ws : List ℕ) (number : ℕ) (after : List ℕ) : Type 0 where

@@ -1,4 +1,4 @@
-// The host's call that shows a clock quality: the words that a snapshot shows of one (crate host_shown).
+// The host's call that shows a clock quality: the words that a snapshot shows of one (crate host_snapshot_words).
 ghost use Rattle.host_clock_quality_summary.specs.Summary.{Summary};
 use host_clock_quality_words::QUALITY_WORDS;
 
@@ -17,6 +17,6 @@ pub extern "C" fn ambrulicciu_clock_quality_summary(
     ensures { λ r. ⌜ Summary (now (quality .entry)) r (now (shown .exit)) ⌝ }
 {
     let state = host_clock_quality_words::load(quality);
-    host_shown::place_quality(shown, 0, state);
+    host_snapshot_words::place_quality(shown, 0, state);
     0
 }

@@ -26,7 +26,7 @@ use Rattle.correlation.specs.declared.Wires.the-variants as wires
 use Rattle.follow_ups.specs.Followed.{estimatesOf}
 use Rattle.host_numbers.specs.Numbers.{flagWord}
 use Rattle.host_quality.specs.Words.{errorBits, estimateWord, largestWord, largestBits, largestOf, qualityAt, qualityWords}
-use Rattle.host_observed.specs.Last.{qualityWithoutLast}
+use Rattle.host_ledger_parts.specs.Last.{qualityWithoutLast}
 
 -- ---- a sample of any kind
 

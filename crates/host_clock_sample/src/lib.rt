@@ -52,9 +52,9 @@ fn count_any(ledger: &mut [u64; LEDGER_WORDS], wires: Wires)
     requires { ⌜ Bounded (qualityAt 58 (now ledger)) ⌝ }
     ensures { λ _. ⌜ now (ledger .exit) ≡ sets (now (ledger .entry)) 58 (qualityWords (recordedOf (qualityAt 58 (now (ledger .entry))) (estimatesOf wires))) ⌝ }
 {
-    let before = host_observed::quality_without_last(ledger);
+    let before = host_ledger_parts::quality_without_last(ledger);
     let after = before.recorded(follow_ups::estimates_of(wires));
-    host_observed::store_quality(ledger, after);
+    host_ledger_parts::store_quality(ledger, after);
 }
 
 // Both errors are known: x and y, in ms.

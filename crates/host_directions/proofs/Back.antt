@@ -7,7 +7,7 @@ use Prim.Native.Nat.{ℕ, zero, suc, _+_, _-_, _^_}
 use lib.Dec.{eqb, ltb}
 use lib.ListN.{length}
 use lib.Seq.{sets, length-sets}
-use Rattle.scope.specs.Refusals.{wrongRoom, countsFull}
+use Rattle.limits.specs.Refusals.{wrongRoom, countsFull}
 use Rattle.host_numbers.specs.Numbers.{isSet}
 use Rattle.host_numbers.proofs.Back.{flag-again}
 use Rattle.quantiles.specs.Record.{still, taken, refuses, grown, stored, pickOutcome, recorded}

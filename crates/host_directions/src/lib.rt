@@ -117,8 +117,8 @@ fn record_any(
     let own = load_own(directions, back);
     let answer = directions::record_own(own, slice, back, value);
     match answer {
-        Recording::Refused => scope::WRONG_ROOM,
-        Recording::SumsFull => scope::COUNTS_FULL,
+        Recording::Refused => limits::WRONG_ROOM,
+        Recording::SumsFull => limits::COUNTS_FULL,
         Recording::Full => {
             recorded[0] = 0;
             0

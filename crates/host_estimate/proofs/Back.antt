@@ -7,7 +7,7 @@ use native.Mathlib.Omega.{arith}
 use lib.Ieee.{Float}
 use lib.ListN.{length, getD, set}
 use lib.Seq.{getD-set-same}
-use Rattle.scope.specs.Refusals.{outOfRange}
+use Rattle.limits.specs.Refusals.{outOfRange}
 use Rattle.host_numbers.specs.Numbers.{flagWord, isSet}
 use Rattle.host_numbers.proofs.Back.{flag-again}
 use Rattle.estimate.specs.declared.ErrorEstimate.{ErrorEstimate}

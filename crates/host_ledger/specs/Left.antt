@@ -5,8 +5,8 @@ use Prim.Native.Nat.{ℕ}
 use lib.Dec.{eqb}
 use lib.ListN.{getD, set, replicate}
 use lib.Seq.{sets}
-use Rattle.calls.specs.declared.Counters.{Counters}
-use Rattle.calls.specs.declared.Counters.the-variants.{Absent, Point}
+use Rattle.call_types.specs.declared.Counters.{Counters}
+use Rattle.call_types.specs.declared.Counters.the-variants.{Absent, Point}
 use Rattle.direct.specs.declared.Direct.{Direct}
 use Rattle.follow_ups.specs.declared.FollowUps.{FollowUps}
 use Rattle.ledger_state.specs.declared.Secret.{Secret}

@@ -7,7 +7,7 @@ use mathlib.Core.List.{List, [], _∷_, _++_}
 use Prim.Native.Nat.{ℕ, _+_, _%_, _^_}
 use lib.Dec.{eqb}
 use lib.ListN.{getD}
-use Rattle.calls.specs.declared.CounterPoint.{CounterPoint}
+use Rattle.call_types.specs.declared.CounterPoint.{CounterPoint}
 use Rattle.replies.specs.declared.Reflector.{Reflector}
 use Rattle.replies.specs.declared.Reflector.the-variants as reflector
 use Rattle.replies.specs.declared.Replies.{Replies}

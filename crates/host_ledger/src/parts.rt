@@ -1,10 +1,10 @@
 // The parts of a ledger that are no plain counts: out of their words, and back.
 ghost use mathlib.Core.Path.{_≡_};
 ghost use Rattle.host_ledger.specs.Parts.{reflectorOf, reflectorWord, ReflectorKept, extremeOf, extremeKind, extremeMagnitude, delaysOf, pointOf, epochOf, EpochSaid};
-use calls::CounterPoint;
-use calls::ReflectorRx;
-use calls::ReflectorTx;
-use calls::SenderTx;
+use call_types::CounterPoint;
+use call_types::ReflectorRx;
+use call_types::ReflectorTx;
+use call_types::SenderTx;
 use delays::Delays;
 use delays::Extreme;
 use delays::Nanoseconds;

@@ -7,11 +7,11 @@ use borrow.Fn.World as World
 use borrow.Fn.Kinds as Kinds'
 use denote.Triple.Clauses as Clauses
 use denote.Ref.{now}
-use Rattle.link_log.specs.declared.Log.{Log}
-use Rattle.link_log.specs.declared.Log.the-variants as log'
-use Rattle.link_log.specs.declared.Played.{Played}
-use Rattle.link_log.specs.declared.Played.the-variants as played
-use Rattle.link_log.specs.Logs.{logOf, callAt}
+use Rattle.log_whole.specs.declared.Log.{Log}
+use Rattle.log_whole.specs.declared.Log.the-variants as log'
+use Rattle.log_whole.specs.declared.PlayedCall.{PlayedCall}
+use Rattle.log_whole.specs.declared.PlayedCall.the-variants as played
+use Rattle.log_whole.specs.Logs.{logOf, callAt}
 use Rattle.host_log_read.specs.Answers.{Left, checkedBy, checkTo, firstBy, firstBadTo, readBy, readTo}
 use Rattle.host_log_read.proofs.ambrulicciu_log_check as check
 use Rattle.host_log_read.proofs.ambrulicciu_log_check.Kinds as check-kinds
@@ -67,6 +67,6 @@ pub read-refused : (log : List ℕ) (at : ℕ) (ws : List ℕ) → (readTo log a
 unfolding readTo
 read-refused log at ws = by (callAt log at)
   where
-    by : (p : Played) → (readBy p (logOf log) ws .number ≡ 0 → ⊥) → readBy p (logOf log) ws .words ≡ ws
+    by : (p : PlayedCall) → (readBy p (logOf log) ws .number ≡ 0 → ⊥) → readBy p (logOf log) ws .words ≡ ws
     by played.Nothing h = refl
     by (played.Call c) h = absurd (h refl)

@@ -8,11 +8,11 @@ use Rattle.record_parts.specs.declared.Entry.{Entry}
 use Rattle.record_parts.specs.declared.Entry.the-variants as entry
 use Rattle.record_parts.specs.Parts.{callOf}
 use Rattle.record_parts.specs.Fits.{U16, U64}
-use Rattle.link_log.specs.declared.Log.{Log}
-use Rattle.link_log.specs.declared.Played.{Played}
-use Rattle.link_log.specs.Logs.{logOf}
-use Rattle.link_log.specs.Written.{AllFit, logBytes}
-use Rattle.link_log.proofs.Back.{log-back, calls-back}
+use Rattle.log_whole.specs.declared.Log.{Log}
+use Rattle.log_whole.specs.declared.PlayedCall.{PlayedCall}
+use Rattle.log_whole.specs.Logs.{logOf}
+use Rattle.log_whole.specs.Written.{AllFit, logBytes}
+use Rattle.log_whole.proofs.Back.{log-back, calls-back}
 use Rattle.host_call_words.specs.Words.{callWords}
 use Rattle.host_log_read.specs.Answers.{left, checkedBy, checkTo, firstBy, firstBadTo, readBy, readTo}
 
@@ -30,5 +30,5 @@ module _ (before : List ℕ) (es : List Entry) (room : List ℕ) (copies thresho
   pub read-written : (i : ℕ) → i < length es → readTo (logBytes before es room copies threshold timeout) i ws ≡ left 0 (callWords (callOf (getD es i entry.Idle)))
   unfolding readTo
   read-written i l =
-      ap (λ (p : Played). readBy p (logOf (logBytes before es room copies threshold timeout)) ws)
+      ap (λ (p : PlayedCall). readBy p (logOf (logBytes before es room copies threshold timeout)) ws)
       (calls-back before es room copies threshold timeout sized fits fc ft fo small i l)

@@ -2,12 +2,12 @@
 use mathlib.Core.List.{List, [], _∷_}
 use Prim.Native.Nat.{ℕ}
 use Rattle.log_record.specs.Records.{badRecord}
-use Rattle.link_log.specs.declared.Settings.{Settings}
-use Rattle.link_log.specs.declared.Log.{Log}
-use Rattle.link_log.specs.declared.Log.the-variants as log'
-use Rattle.link_log.specs.declared.Played.{Played}
-use Rattle.link_log.specs.declared.Played.the-variants as played
-use Rattle.link_log.specs.Logs.{tooLong, badTrailer, logOf, callAt}
+use Rattle.log_whole.specs.declared.Settings.{Settings}
+use Rattle.log_whole.specs.declared.Log.{Log}
+use Rattle.log_whole.specs.declared.Log.the-variants as log'
+use Rattle.log_whole.specs.declared.PlayedCall.{PlayedCall}
+use Rattle.log_whole.specs.declared.PlayedCall.the-variants as played
+use Rattle.log_whole.specs.Logs.{tooLong, badTrailer, logOf, callAt}
 use Rattle.host_call_words.specs.Words.{callWords}
 
 -- what a call leaves
@@ -59,7 +59,7 @@ noCall (log'.BadRecord n) = badRecord
 noCall (log'.Good s) = badRecord
 
 -- 0 and the words of the call that the record is; without one the number, and the words as they were
-abbrev pub readBy : Played → Log → List ℕ → Left
+abbrev pub readBy : PlayedCall → Log → List ℕ → Left
 readBy played.Nothing l ws = left (noCall l) ws
 readBy (played.Call c) l ws = left 0 (callWords c)
 

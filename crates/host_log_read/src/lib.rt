@@ -1,9 +1,9 @@
 // What a host calls to read a log (document 01, 'Log and program'): whether the bytes are a log, its first bad record, and one record as a call.
 ghost use mathlib.Core.Path.{_≡_};
 ghost use Rattle.host_log_read.specs.Answers.{left, settingsWords, checkTo, firstBadTo, noCall, readTo};
-use link_log::Log;
-use link_log::Played;
-use link_log::Settings;
+use log_whole::Log;
+use log_whole::PlayedCall;
+use log_whole::Settings;
 
 // Document 01's answers to bytes that are no log.
 const TOO_LONG: u8 = 9;
@@ -29,7 +29,7 @@ fn settings_words(s: Settings) -> [u64; 4]
 pub extern "C" fn ambrulicciu_log_check(log: &[u8], answer: &mut [u64; 4]) -> u8
     ensures { λ r. ⌜ left r (now (answer .exit)) ≡ checkTo (now (log .entry)) (now (answer .entry)) ⌝ }
 {
-    let checked = link_log::check(log);
+    let checked = log_whole::check(log);
     match checked {
         Log::TooLong => TOO_LONG,
         Log::BadTrailer => BAD_TRAILER,
@@ -47,7 +47,7 @@ pub extern "C" fn ambrulicciu_log_check(log: &[u8], answer: &mut [u64; 4]) -> u8
 pub extern "C" fn ambrulicciu_log_first_bad(log: &[u8], answer: &mut [u64; 1]) -> u8
     ensures { λ r. ⌜ left r (now (answer .exit)) ≡ firstBadTo (now (log .entry)) (now (answer .entry)) ⌝ }
 {
-    let checked = link_log::check(log);
+    let checked = log_whole::check(log);
     match checked {
         Log::TooLong => TOO_LONG,
         Log::BadTrailer => BAD_TRAILER,
@@ -89,13 +89,13 @@ fn no_call(checked: Log) -> u8
 pub extern "C" fn ambrulicciu_log_read(log: &[u8], at: u32, call: &mut [u32; 44]) -> u8
     ensures { λ r. ⌜ left r (now (call .exit)) ≡ readTo (now (log .entry)) at (now (call .entry)) ⌝ }
 {
-    let played = link_log::call_at(log, at);
+    let played = log_whole::call_at(log, at);
     match played {
-        Played::Call(told) => {
+        PlayedCall::Call(told) => {
             let words = host_call_words::call_words(told);
             *call = words;
             0
         }
-        Played::Nothing => no_call(link_log::check(log)),
+        PlayedCall::Nothing => no_call(log_whole::check(log)),
     }
 }

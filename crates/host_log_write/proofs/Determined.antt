@@ -8,7 +8,7 @@ use borrow.Fn.Kinds as Kinds'
 use denote.Triple.Clauses as Clauses
 use denote.Ref.{now}
 use Rattle.log_record.specs.Records.{Wrote}
-use Rattle.link_log.specs.Logs.{Wrote as WroteTrailer}
+use Rattle.log_whole.specs.Logs.{Wrote as WroteTrailer}
 use Rattle.host_log_write.proofs.ambrulicciu_log_write_accept as accept
 use Rattle.host_log_write.proofs.ambrulicciu_log_write_accept.Kinds as accept-kinds
 use Rattle.host_log_write.proofs.ambrulicciu_log_write_accept.Reads as accept-reads

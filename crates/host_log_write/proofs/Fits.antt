@@ -10,9 +10,9 @@ use mir.ValLaws.{toZ-fits}
 use Rattle.estimate.specs.Wire.{estimateOf}
 use Rattle.record_parts.specs.Parts.{flag, pendingBy, timeBy, ordinalBy, countersBy, followBy, estimatesBy}
 use Rattle.record_parts.specs.Fits.{U32, U64, PendingFits, TimeFits, OrdinalFits, CountersFit, FollowFits, ConvertedFits, EstimateFits, EstimatesFit, EntryFits}
-use Rattle.calls.specs.declared.FollowUp.{FollowUp}
-use Rattle.calls.specs.declared.FollowUp.the-variants as follow
-use Rattle.calls.specs.declared.Time.the-variants as time
+use Rattle.call_types.specs.declared.FollowUp.{FollowUp}
+use Rattle.call_types.specs.declared.FollowUp.the-variants as follow
+use Rattle.call_types.specs.declared.Time.the-variants as time
 use Rattle.host_numbers.specs.Numbers.{isSet}
 use Rattle.host_numbers.proofs.Back.{joined-below}
 use Rattle.host_observation.specs.Observation.{word, double, flagsAt, observationAt}

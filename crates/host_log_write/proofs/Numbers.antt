@@ -8,7 +8,7 @@ use native.Mathlib.Omega.{arith}
 use lib.Dec.{eqb, leb}
 use lib.ListN.{length}
 use borrow.Author.Tests.{le-leb}
-use Rattle.scope.specs.Refusals.{wrongRoom, outOfRange}
+use Rattle.limits.specs.Refusals.{wrongRoom, outOfRange}
 use Rattle.record_parts.specs.declared.Entry.{Entry}
 use Rattle.record_parts.specs.Parts.{flag, estimatesBy}
 use Rattle.ranges.specs.Ranges.{estimatesFit}

@@ -2,7 +2,7 @@
 -- bytes, and a refusal changes nothing. Assumes nothing.
 use mathlib.Core.List.{List}
 use Prim.Native.Nat.{ℕ}
-use Rattle.calls.specs.declared.Time.the-variants.{Absent}
+use Rattle.call_types.specs.declared.Time.the-variants.{Absent}
 use Rattle.record_parts.specs.declared.Entry.{Entry}
 use Rattle.record_parts.specs.declared.Entry.the-variants as entry
 use Rattle.record_parts.specs.Parts.{pendingBy}

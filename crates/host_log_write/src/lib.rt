@@ -2,11 +2,11 @@
 // crate host_log_write_sent.
 ghost use mathlib.Core.Path.{_≡_};
 ghost use Rattle.log_record.specs.Records.{wrote, writtenTo};
-ghost use Rattle.link_log.specs.Logs.{wrote as wroteTrailer, trailerTo};
+ghost use Rattle.log_whole.specs.Logs.{wrote as wroteTrailer, trailerTo};
 ghost use Rattle.host_log_write.specs.Told.{acceptTold, observeTold, advanceTold, idleTold};
-use calls::Reply;
-use calls::ReplyKey;
-use calls::Time;
+use call_types::Reply;
+use call_types::ReplyKey;
+use call_types::Time;
 use record_parts::Entry;
 
 // The record of an `accept`, over 96 lent bytes; 5 for another number of bytes. Where `pending` is 0 there is no pending packet, and time and tag are not looked at.
@@ -72,5 +72,5 @@ pub extern "C" fn ambrulicciu_log_write_trailer(
 ) -> u8
     ensures { λ r. ⌜ wroteTrailer r (now (bytes .exit)) ≡ trailerTo (now (bytes .entry)) count copies threshold timeout ⌝ }
 {
-    link_log::trailer::write(bytes, count, copies, threshold, timeout)
+    log_whole::trailer::write(bytes, count, copies, threshold, timeout)
 }

@@ -5,7 +5,7 @@ use mathlib.Core.List.{List}
 use Prim.Native.Nat.{ℕ}
 use lib.Dec.{eqb}
 use lib.ListN.{length}
-use Rattle.scope.specs.Refusals.{wrongRoom}
+use Rattle.limits.specs.Refusals.{wrongRoom}
 use Rattle.log_record.specs.Records.{writtenTo}
 use Rattle.host_log_write_sent.specs.Told.{sentTold}
 

@@ -3,8 +3,8 @@
 ghost use mathlib.Core.Path.{_≡_};
 ghost use Rattle.log_record.specs.Records.{wrote, writtenTo};
 ghost use Rattle.host_log_write_sent.specs.Told.{sentTold};
-use calls::PendingPacket;
-use calls::SentProbe;
+use call_types::PendingPacket;
+use call_types::SentProbe;
 use record_parts::Entry;
 
 // The record of a `sent`, over 96 lent bytes; 5 for another number of bytes.

@@ -21,12 +21,12 @@ use Rattle.determined.specs.Determines.{Determines}
 use Rattle.determined.proofs.Facts.{both-say}
 use lib.ListN.{length, getD}
 use lib.Dec.{eqb}
-use Rattle.scope.specs.Limits.{capacity}
-use Rattle.scope.specs.Refusals.{wrongRoom}
-use Rattle.probe_queue.specs.declared.Probe.{Probe}
+use Rattle.limits.specs.Limits.{capacity}
+use Rattle.limits.specs.Refusals.{wrongRoom}
+use Rattle.probe_queue.specs.declared.QueuedProbe.{QueuedProbe}
 use Rattle.probe_queue.specs.Queue.{choose, nil}
-use Rattle.monitor.specs.declared.Answer.{Answer}
-use Rattle.monitor.specs.declared.Answer.the-variants.{Refused}
+use Rattle.monitor.specs.declared.MonitorAnswer.{MonitorAnswer}
+use Rattle.monitor.specs.declared.MonitorAnswer.the-variants.{Refused}
 use Rattle.monitor.specs.declared.Deadline.the-variants.{Absent, At, Refused as Refused′}
 use Rattle.monitor.specs.Refusals.{misplaced, refusalOf, refusalOfSent}
 use Rattle.monitor.specs.Answers.{Outcome, number, deadlineOf}
@@ -99,15 +99,15 @@ summary-unique κs a r₁ r₂ s₁ s₂ p q = same-told (told r₁ (now (s₁ .
 
 -- ---- the number is the refusal's, 0 where there is none
 
-pub sent-number : (words : List ℕ) (queue : List Probe) (s t : ℕ) → sentTo words queue s t .number ≡ refusalOfSent (monitorAt words) (length queue) t
+pub sent-number : (words : List ℕ) (queue : List QueuedProbe) (s t : ℕ) → sentTo words queue s t .number ≡ refusalOfSent (monitorAt words) (length queue) t
 unfolding sentTo
 sent-number words queue s t = monitor.sent-number (monitorAt words) queue s t
 
-pub reply-number : (words : List ℕ) (queue : List Probe) (s : ℕ) → replyTo words queue s .number ≡ refusalOf (monitorAt words) (length queue)
+pub reply-number : (words : List ℕ) (queue : List QueuedProbe) (s : ℕ) → replyTo words queue s .number ≡ refusalOf (monitorAt words) (length queue)
 unfolding replyTo
 reply-number words queue s = monitor.reply-number (monitorAt words) queue s
 
-pub advance-number : (words : List ℕ) (queue : List Probe) (t : ℕ) → advanceTo words queue t .number ≡ refusalOf (monitorAt words) (length queue)
+pub advance-number : (words : List ℕ) (queue : List QueuedProbe) (t : ℕ) → advanceTo words queue t .number ≡ refusalOf (monitorAt words) (length queue)
 unfolding advanceTo
 advance-number words queue t = monitor.advance-number (monitorAt words) queue t
 
@@ -117,18 +117,18 @@ idle-number words = monitor.idle-number (monitorAt words)
 
 -- ---- a refusal changes nothing
 
-refused-by : (words : List ℕ) (queue : List Probe) (o : Outcome) (n : ℕ) → (o .answer ≡ Refused n) × (o .room ≡ queue) → ended words o ≡ left n words queue
+refused-by : (words : List ℕ) (queue : List QueuedProbe) (o : Outcome) (n : ℕ) → (o .answer ≡ Refused n) × (o .room ≡ queue) → ended words o ≡ left n words queue
 refused-by words queue o n e = λ i. left (number (e .0 i)) (wordsAfter words (e .0 i)) (e .1 i)
 
-pub sent-refused : (words : List ℕ) (queue : List Probe) (s t : ℕ) → (refusalOfSent (monitorAt words) (length queue) t ≡ 0 → ⊥) → sentTo words queue s t ≡ left (refusalOfSent (monitorAt words) (length queue) t) words queue
+pub sent-refused : (words : List ℕ) (queue : List QueuedProbe) (s t : ℕ) → (refusalOfSent (monitorAt words) (length queue) t ≡ 0 → ⊥) → sentTo words queue s t ≡ left (refusalOfSent (monitorAt words) (length queue) t) words queue
 unfolding sentTo
 sent-refused words queue s t h = refused-by words queue _ (refusalOfSent (monitorAt words) (length queue) t) (monitor.sent-refused (monitorAt words) queue s t h)
 
-pub reply-refused : (words : List ℕ) (queue : List Probe) (s : ℕ) → (refusalOf (monitorAt words) (length queue) ≡ 0 → ⊥) → replyTo words queue s ≡ left (refusalOf (monitorAt words) (length queue)) words queue
+pub reply-refused : (words : List ℕ) (queue : List QueuedProbe) (s : ℕ) → (refusalOf (monitorAt words) (length queue) ≡ 0 → ⊥) → replyTo words queue s ≡ left (refusalOf (monitorAt words) (length queue)) words queue
 unfolding replyTo
 reply-refused words queue s h = refused-by words queue _ (refusalOf (monitorAt words) (length queue)) (monitor.reply-refused (monitorAt words) queue s h)
 
-pub advance-refused : (words : List ℕ) (queue : List Probe) (t : ℕ) → (refusalOf (monitorAt words) (length queue) ≡ 0 → ⊥) → advanceTo words queue t ≡ left (refusalOf (monitorAt words) (length queue)) words queue
+pub advance-refused : (words : List ℕ) (queue : List QueuedProbe) (t : ℕ) → (refusalOf (monitorAt words) (length queue) ≡ 0 → ⊥) → advanceTo words queue t ≡ left (refusalOf (monitorAt words) (length queue)) words queue
 unfolding advanceTo
 advance-refused words queue t h = refused-by words queue _ (refusalOf (monitorAt words) (length queue)) (monitor.advance-refused (monitorAt words) queue t h)
 
@@ -136,7 +136,7 @@ pub idle-refused : (words : List ℕ) → (refusalOf (monitorAt words) capacity 
 unfolding idleTo
 idle-refused words h = ap (stopped words) (monitor.idle-refused (monitorAt words) h)
 
-pub deadline-refused : (words : List ℕ) (queue : List Probe) (answer : List ℕ) → misplaced (monitorAt words) (length queue) ≡ true → deadlineTo words queue answer ≡ told wrongRoom answer
+pub deadline-refused : (words : List ℕ) (queue : List QueuedProbe) (answer : List ℕ) → misplaced (monitorAt words) (length queue) ≡ true → deadlineTo words queue answer ≡ told wrongRoom answer
 unfolding deadlineTo deadlineOf
 deadline-refused words queue answer h =
     let m = monitorAt words in

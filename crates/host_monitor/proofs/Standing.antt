@@ -7,11 +7,11 @@ use mathlib.Core.List.{List}
 use Prim.Native.Nat.{ℕ, _<_, _^_}
 use lib.ListN.{length}
 use lib.Dec.{eqb}
-use Rattle.scope.specs.Limits.{capacity}
-use Rattle.probe_queue.specs.declared.Probe.{Probe}
+use Rattle.limits.specs.Limits.{capacity}
+use Rattle.probe_queue.specs.declared.QueuedProbe.{QueuedProbe}
 use Rattle.probe_queue.specs.Queue.{choose}
 use Rattle.monitor.specs.declared.Monitor.{Monitor}
-use Rattle.monitor.specs.declared.Answer.the-variants.{Served, Refused}
+use Rattle.monitor.specs.declared.MonitorAnswer.the-variants.{Served, Refused}
 use Rattle.monitor.specs.Refusals.{refusalOf, refusalOfSent}
 use Rattle.monitor.specs.Operations.{Stand, fresh, sentOn, replyOn, advanceOn, idleOn, unchanged, sentIf, replyIf, advanceIf}
 use Rattle.monitor.specs.Answers.{answered}
@@ -30,7 +30,7 @@ pub fresh-stands : (threshold timeout : ℕ) → threshold < 2 ^ 16 → monitorA
 unfolding freshTo
 fresh-stands threshold timeout h = stored (fresh threshold timeout) (fits-fresh threshold timeout h)
 
-pub sent-stands : (words : List ℕ) (queue : List Probe) (s t : ℕ) → s < 2 ^ 32 →
+pub sent-stands : (words : List ℕ) (queue : List QueuedProbe) (s t : ℕ) → s < 2 ^ 32 →
     (monitorAt (sentTo words queue s t .words) ≡ sentIf true (monitorAt words) queue s t .monitor) × (sentTo words queue s t .queue ≡ sentIf true (monitorAt words) queue s t .room)
 unfolding sentTo monitor.sentTo answered sentIf
 sent-stands words queue s t h =
@@ -41,7 +41,7 @@ sent-stands words queue s t h =
 held : (a b : Bool) (on off : Stand) → a ≡ false → choose (a && b) on off .monitor ≡ off .monitor
 held a b on off e = ap (λ (c : Bool). choose (c && b) on off .monitor) e
 
-pub reply-stands : (words : List ℕ) (queue : List Probe) (s : ℕ) →
+pub reply-stands : (words : List ℕ) (queue : List QueuedProbe) (s : ℕ) →
     (monitorAt (replyTo words queue s .words) ≡ replyIf true (monitorAt words) queue s .monitor) × (replyTo words queue s .queue ≡ replyIf true (monitorAt words) queue s .room)
 unfolding replyTo monitor.replyTo answered replyIf
 reply-stands words queue s =
@@ -49,7 +49,7 @@ reply-stands words queue s =
     let n = refusalOf m (length queue) in
     (stands words (replyIf true m queue s .monitor) (eqb n 0) n (fits-reply true m queue s (fits-at words)) (λ e. held (eqb n 0) (m .transmitting) (replyOn m queue s) (unchanged m queue) e), refl)
 
-pub advance-stands : (words : List ℕ) (queue : List Probe) (t : ℕ) →
+pub advance-stands : (words : List ℕ) (queue : List QueuedProbe) (t : ℕ) →
     (monitorAt (advanceTo words queue t .words) ≡ advanceIf true (monitorAt words) queue t .monitor) × (advanceTo words queue t .queue ≡ advanceIf true (monitorAt words) queue t .room)
 unfolding advanceTo monitor.advanceTo answered advanceIf
 advance-stands words queue t =

@@ -3,12 +3,12 @@
 -- Assumes nothing.
 use mathlib.Core.List.{List, [], _∷_}
 use Prim.Native.Nat.{ℕ}
-use Rattle.scope.specs.Limits.{capacity}
-use Rattle.scope.specs.Refusals.{wrongRoom}
-use Rattle.probe_queue.specs.declared.Probe.{Probe}
+use Rattle.limits.specs.Limits.{capacity}
+use Rattle.limits.specs.Refusals.{wrongRoom}
+use Rattle.probe_queue.specs.declared.QueuedProbe.{QueuedProbe}
 use Rattle.probe_queue.specs.Queue.{choose}
 use Rattle.monitor.specs.declared.Summary.{Summary}
-use Rattle.monitor.specs.declared.Answer.{Answer}
+use Rattle.monitor.specs.declared.MonitorAnswer.{MonitorAnswer}
 use Rattle.monitor.specs.declared.Deadline.{Deadline}
 use Rattle.monitor.specs.declared.Deadline.the-variants.{Absent, At, Refused}
 use Rattle.monitor.specs.Refusals.{misplaced}
@@ -30,10 +30,10 @@ told n words = record { number = n; words = words }
 pub record Left : Type 0 where
   pub number : ℕ
   pub words : List ℕ
-  pub queue : List Probe
+  pub queue : List QueuedProbe
 
 -- what such a call leaves, made of its number, the words and the queue
-abbrev pub left : ℕ → List ℕ → List Probe → Left
+abbrev pub left : ℕ → List ℕ → List QueuedProbe → Left
 left n words queue = record { number = n; words = words; queue = queue }
 
 -- an answer, as its number and the monitor's words
@@ -45,19 +45,19 @@ unfoldable pub freshTo : ℕ → ℕ → Told
 freshTo threshold timeout = told 0 (wordsOf (fresh threshold timeout))
 
 -- `sent` of a sequence at a time, on the monitor that the words say
-unfoldable pub sentTo : List ℕ → List Probe → ℕ → ℕ → Left
+unfoldable pub sentTo : List ℕ → List QueuedProbe → ℕ → ℕ → Left
 sentTo words queue sequence time = ended words (monitor.sentTo (monitorAt words) queue sequence time)
 
 -- `reply` with a sequence, on the monitor that the words say
-unfoldable pub replyTo : List ℕ → List Probe → ℕ → Left
+unfoldable pub replyTo : List ℕ → List QueuedProbe → ℕ → Left
 replyTo words queue sequence = ended words (monitor.replyTo (monitorAt words) queue sequence)
 
 -- `advance` to a time, on the monitor that the words say
-unfoldable pub advanceTo : List ℕ → List Probe → ℕ → Left
+unfoldable pub advanceTo : List ℕ → List QueuedProbe → ℕ → Left
 advanceTo words queue time = ended words (monitor.advanceTo (monitorAt words) queue time)
 
 -- an answer of `idle`, which is lent no queue: its number, and the monitor's words
-abbrev pub stopped : List ℕ → Answer → Told
+abbrev pub stopped : List ℕ → MonitorAnswer → Told
 stopped words a = told (number a) (wordsAfter words a)
 
 -- `idle`, on the monitor that the words say
@@ -75,7 +75,7 @@ abbrev pub answeredBy : List ℕ → Deadline → Told
 answeredBy answer d = told (deadlineNumber d) (answerWords answer d)
 
 -- the front probe's deadline, of the monitor that the words say; only the two words of the answer are written
-unfoldable pub deadlineTo : List ℕ → List Probe → List ℕ → Told
+unfoldable pub deadlineTo : List ℕ → List QueuedProbe → List ℕ → Told
 deadlineTo words queue answer = answeredBy answer (monitor.deadlineOf (monitorAt words) queue)
 
 -- the words of a summary: state (0 idle, 1 active, 2 failed), threshold, consecutive losses, active, failed and idle notifications

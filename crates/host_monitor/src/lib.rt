@@ -10,7 +10,7 @@ use host_monitor_words::store;
 use monitor::Deadline;
 use monitor::Monitor;
 use monitor::Summary;
-use probe_queue::Probe;
+use probe_queue::QueuedProbe;
 
 // Makes a monitor fresh, whatever its words held. Threshold 0 counts as 1.
 #[no_mangle]
@@ -29,7 +29,7 @@ pub extern "C" fn ambrulicciu_monitor_fresh(
 #[no_mangle]
 pub extern "C" fn ambrulicciu_monitor_sent(
     monitor: &mut [u64; 12],
-    queue: &mut [Probe],
+    queue: &mut [QueuedProbe],
     sequence: u32,
     time: u64,
 ) -> u8
@@ -44,7 +44,7 @@ pub extern "C" fn ambrulicciu_monitor_sent(
 #[no_mangle]
 pub extern "C" fn ambrulicciu_monitor_reply(
     monitor: &mut [u64; 12],
-    queue: &mut [Probe],
+    queue: &mut [QueuedProbe],
     sequence: u32,
 ) -> u8
     ensures { λ r. ⌜ left r (now (monitor .exit)) (now (queue .exit)) ≡ replyTo (now (monitor .entry)) (now (queue .entry)) sequence ⌝ }
@@ -58,7 +58,7 @@ pub extern "C" fn ambrulicciu_monitor_reply(
 #[no_mangle]
 pub extern "C" fn ambrulicciu_monitor_advance(
     monitor: &mut [u64; 12],
-    queue: &mut [Probe],
+    queue: &mut [QueuedProbe],
     time: u64,
 ) -> u8
     ensures { λ r. ⌜ left r (now (monitor .exit)) (now (queue .exit)) ≡ advanceTo (now (monitor .entry)) (now (queue .entry)) time ⌝ }
@@ -100,7 +100,7 @@ fn finish_deadline(answer: &mut [u64; 2], deadline: Deadline) -> u8
 #[no_mangle]
 pub extern "C" fn ambrulicciu_monitor_deadline(
     monitor: &[u64; 12],
-    queue: &[Probe],
+    queue: &[QueuedProbe],
     answer: &mut [u64; 2],
 ) -> u8
     ensures { λ r. ⌜ told r (now (answer .exit)) ≡ deadlineTo (now (monitor .entry)) (now (queue .entry)) (now (answer .entry)) ⌝ }
@@ -131,8 +131,8 @@ pub extern "C" fn ambrulicciu_monitor_summary(monitor: &[u64; 12], shown: &mut [
     ensures { λ r. ⌜ told r (now (shown .exit)) ≡ summaryTo (now (monitor .entry)) (now (shown .entry)) ⌝ }
 {
     let before = load(monitor);
-    if before.out_of_place(scope::CAPACITY) {
-        return scope::WRONG_ROOM;
+    if before.out_of_place(limits::CAPACITY) {
+        return limits::WRONG_ROOM;
     }
     let summary = before.summary();
     *shown = summary_words(summary);

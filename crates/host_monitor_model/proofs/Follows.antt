@@ -7,12 +7,12 @@ use mathlib.Core.List.{List, [], _∷_}
 use Prim.Native.Nat.{ℕ, _<_, _^_}
 use lib.ListN.{length}
 use lib.Dec.{eqb}
-use Rattle.scope.specs.Limits.{capacity}
-use Rattle.probe_queue.specs.declared.Probe.{Probe}
+use Rattle.limits.specs.Limits.{capacity}
+use Rattle.probe_queue.specs.declared.QueuedProbe.{QueuedProbe}
 use Rattle.probe_queue.specs.Queue.{choose}
 use Rattle.monitor.specs.declared.Monitor.{Monitor}
-use Rattle.monitor.specs.declared.Answer.{Answer}
-use Rattle.monitor.specs.declared.Answer.the-variants.{Served, Refused}
+use Rattle.monitor.specs.declared.MonitorAnswer.{MonitorAnswer}
+use Rattle.monitor.specs.declared.MonitorAnswer.the-variants.{Served, Refused}
 use Rattle.monitor.specs.Refusals.{refusalOf, refusalOfSent}
 use Rattle.monitor.specs.Operations.{Stand, fresh, idleOn, sentIf, replyIf, advanceIf}
 use Rattle.monitor.specs.Answers.{answered, deadlineOf}
@@ -28,7 +28,7 @@ use Rattle.host_monitor.proofs.Standing.{fresh-stands}
 use Rattle.host_monitor_model.specs.Hosted.{Lent, said, playHost, hostNumbers, hostAfter, begun, Typed, AllTyped}
 
 -- an answer whose monitor fits its types
-abbrev Fitting : Answer → Type 0
+abbrev Fitting : MonitorAnswer → Type 0
 Fitting (Served m) = Fits m
 Fitting (Refused n) = Unit {0}
 
@@ -37,7 +37,7 @@ fitting true m n f = f
 fitting false m n f = tt
 
 -- the words after a call say the monitor that whoever calls the library keeps
-kept : (x : Lent) (a : Answer) (room : List Probe) → Fitting a → said (record { words = wordsAfter (x .words) a; queue = room }) ≡ keep (said x) a room
+kept : (x : Lent) (a : MonitorAnswer) (room : List QueuedProbe) → Fitting a → said (record { words = wordsAfter (x .words) a; queue = room }) ≡ keep (said x) a room
 kept x (Served m) room f = ap (λ (n : Monitor). record { monitor = n; room = room }) (stored m f)
 kept x (Refused n) room f = refl
 
@@ -73,14 +73,14 @@ agree-all (c ∷ cs) x h =
     let r = agree-all cs (playHost c x .lent) (h .1) in
     ((λ i. a .0 i ∷ (r .0 ∙ ap (ringNumbers cs) (a .1)) i), r .1 ∙ ap (ringAfter cs) (a .1))
 
-abbrev at-once : ℕ → ℕ → List Probe → Stand
+abbrev at-once : ℕ → ℕ → List QueuedProbe → Stand
 at-once threshold timeout queue = record { monitor = fresh threshold timeout; room = queue }
 
-pub begins : (threshold timeout : ℕ) (queue : List Probe) → threshold < 2 ^ 16 → said (begun threshold timeout queue) ≡ at-once threshold timeout queue
+pub begins : (threshold timeout : ℕ) (queue : List QueuedProbe) → threshold < 2 ^ 16 → said (begun threshold timeout queue) ≡ at-once threshold timeout queue
 begins threshold timeout queue h = λ i. record { monitor = fresh-stands threshold timeout h i; room = queue }
 
 -- THE THEOREM
-pub host-follows : (threshold timeout : ℕ) (queue : List Probe) (calls : List Call) → threshold < 2 ^ 16 → length queue ≡ capacity → AllTyped calls
+pub host-follows : (threshold timeout : ℕ) (queue : List QueuedProbe) (calls : List Call) → threshold < 2 ^ 16 → length queue ≡ capacity → AllTyped calls
     → (hostNumbers calls (begun threshold timeout queue) ≡ plainNumbers calls (new threshold timeout)) × Shows (said (hostAfter calls (begun threshold timeout queue))) (plainAfter calls (new threshold timeout))
 host-follows threshold timeout queue calls h long typed =
     let x = begun threshold timeout queue in
@@ -90,7 +90,7 @@ host-follows threshold timeout queue calls h long typed =
     (a .0 ∙ ap (ringNumbers calls) e ∙ f .0, subst (λ (y : Stand). Shows y (plainAfter calls (new threshold timeout))) (sym (a .1 ∙ ap (ringAfter calls) e)) (f .1))
 
 -- and the deadline that `ambrulicciu_monitor_deadline` answers then
-pub host-deadline : (threshold timeout : ℕ) (queue : List Probe) (calls : List Call) → threshold < 2 ^ 16 → length queue ≡ capacity → AllTyped calls
+pub host-deadline : (threshold timeout : ℕ) (queue : List QueuedProbe) (calls : List Call) → threshold < 2 ^ 16 → length queue ≡ capacity → AllTyped calls
     → deadlineOf (monitorAt (hostAfter calls (begun threshold timeout queue) .words)) (hostAfter calls (begun threshold timeout queue) .queue) ≡ deadline (plainAfter calls (new threshold timeout) .probes)
 host-deadline threshold timeout queue calls h long typed =
     let x = begun threshold timeout queue in

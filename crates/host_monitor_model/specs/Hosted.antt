@@ -2,7 +2,7 @@
 -- Assumes nothing.
 use mathlib.Core.List.{List, [], _∷_}
 use Prim.Native.Nat.{ℕ, _<_, _^_}
-use Rattle.probe_queue.specs.declared.Probe.{Probe}
+use Rattle.probe_queue.specs.declared.QueuedProbe.{QueuedProbe}
 use Rattle.monitor.specs.Operations.{Stand}
 use Rattle.monitor_model.specs.Playing.{Call, sending, replying, advancing, idling}
 use Rattle.host_monitor_words.specs.Words.{monitorAt}
@@ -11,7 +11,7 @@ use Rattle.host_monitor.specs.Calls.{Left, freshTo, sentTo, replyTo, advanceTo,
 -- what the host lends
 pub record Lent : Type 0 where
   pub words : List ℕ
-  pub queue : List Probe
+  pub queue : List QueuedProbe
 
 -- what it says: a monitor with its room
 abbrev pub said : Lent → Stand
@@ -44,7 +44,7 @@ hostAfter [] x = x
 hostAfter (c ∷ cs) x = hostAfter cs (playHost c x .lent)
 
 -- a fresh monitor's words, with any queue
-abbrev pub begun : ℕ → ℕ → List Probe → Lent
+abbrev pub begun : ℕ → ℕ → List QueuedProbe → Lent
 begun threshold timeout queue = record { words = freshTo threshold timeout .words; queue = queue }
 
 -- the sequence of a call fits its type, which a host cannot break

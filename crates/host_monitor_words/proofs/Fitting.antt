@@ -9,8 +9,8 @@ use native.Mathlib.Omega.{arith}
 use lib.ListN.{length}
 use lib.Dec.{eqb, leb, ltb}
 use borrow.Author.Tests.{leb-true}
-use Rattle.probe_queue.specs.declared.Probe.{Probe}
-use Rattle.probe_queue.specs.declared.Ring.{Ring}
+use Rattle.probe_queue.specs.declared.QueuedProbe.{QueuedProbe}
+use Rattle.probe_queue.specs.declared.QueueRing.{QueueRing}
 use Rattle.probe_queue.specs.Queue.{choose, after}
 use Rattle.monitor.specs.declared.State.{State}
 use Rattle.monitor.specs.declared.State.the-variants.{Idle, Active, Failed}
@@ -55,7 +55,7 @@ sound-stops : (transmitting : Bool) (s : Summary) → Sound s → Sound (stops t
 sound-stops transmitting s p = sound-choose (same Idle (s .state)) _ (enters Idle s) (sound-choose transmitting _ s p p) (sound-enters Idle s p)
 
 -- ---- of a monitor
-fits-with : (m : Monitor) (s : Summary) (ring : Ring) → Fits m → Sound s → Fits (standing m s ring)
+fits-with : (m : Monitor) (s : Summary) (ring : QueueRing) → Fits m → Sound s → Fits (standing m s ring)
 fits-with m s ring f p = record { threshold = p .0; losses = p .1; latest = f .latest }
 
 sound-of : (m : Monitor) → Fits m → Sound (m .summary)
@@ -76,20 +76,20 @@ threshold-below threshold false h = h
 pub fits-fresh : (threshold timeout : ℕ) → threshold < 2 ^ 16 → Fits (fresh threshold timeout)
 fits-fresh threshold timeout h = record { threshold = threshold-below threshold (eqb threshold 0) h; losses = omega arith; latest = omega arith }
 
-pub fits-sent : (go : Bool) (m : Monitor) (room : List Probe) (s t : ℕ) → s < 2 ^ 32 → Fits m → Fits (sentIf go m room s t .monitor)
+pub fits-sent : (go : Bool) (m : Monitor) (room : List QueuedProbe) (s t : ℕ) → s < 2 ^ 32 → Fits m → Fits (sentIf go m room s t .monitor)
 unfolding sentIf sentOn
 fits-sent go m room s t h f =
     fits-choose (served go (refusalOfSent m (length room) t)) (sentOn m room s t) (unchanged m room)
     (fits-choose (ltb 0 (m .timeout)) (queues m room s t) (record { monitor = starts m; room = room })
     (record { threshold = f .threshold; losses = f .losses; latest = h }) (record { threshold = f .threshold; losses = f .losses; latest = f .latest })) f
 
-pub fits-reply : (go : Bool) (m : Monitor) (room : List Probe) (s : ℕ) → Fits m → Fits (replyIf go m room s .monitor)
+pub fits-reply : (go : Bool) (m : Monitor) (room : List QueuedProbe) (s : ℕ) → Fits m → Fits (replyIf go m room s .monitor)
 unfolding replyIf replyOn
 fits-reply go m room s f =
     fits-choose (served go (refusalOf m (length room)) && m .transmitting) (replyOn m room s) (unchanged m room)
     (fits-with m (hears (m .summary)) (after (m .ring) (taken room (searched m room s) s)) f (sound-hears (m .summary) (sound-of m f))) f
 
-pub fits-advance : (go : Bool) (m : Monitor) (room : List Probe) (t : ℕ) → Fits m → Fits (advanceIf go m room t .monitor)
+pub fits-advance : (go : Bool) (m : Monitor) (room : List QueuedProbe) (t : ℕ) → Fits m → Fits (advanceIf go m room t .monitor)
 unfolding advanceIf advanceOn
 fits-advance go m room t f =
     fits-choose (served go (refusalOf m (length room))) (advanceOn m room t) (unchanged m room)

@@ -12,8 +12,8 @@ use Rattle.monitor.specs.declared.State.{State}
 use Rattle.monitor.specs.declared.State.the-variants.{Idle, Active, Failed}
 use Rattle.monitor.specs.declared.Summary.{Summary}
 use Rattle.monitor.specs.declared.Monitor.{Monitor}
-use Rattle.monitor.specs.declared.Answer.{Answer}
-use Rattle.monitor.specs.declared.Answer.the-variants.{Served, Refused}
+use Rattle.monitor.specs.declared.MonitorAnswer.{MonitorAnswer}
+use Rattle.monitor.specs.declared.MonitorAnswer.the-variants.{Served, Refused}
 
 -- the word at a place
 abbrev pub word : List ℕ → ℕ → ℕ
@@ -71,7 +71,7 @@ wordsOf m =
     ∷ []
 
 -- the words after a call: the next monitor's, or as they were where it was refused
-abbrev pub wordsAfter : List ℕ → Answer → List ℕ
+abbrev pub wordsAfter : List ℕ → MonitorAnswer → List ℕ
 wordsAfter words (Served m) = wordsOf m
 wordsAfter words (Refused n) = words
 

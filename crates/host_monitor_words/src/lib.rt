@@ -6,11 +6,11 @@ ghost use Rattle.host_monitor_words.specs.Words.{stateAt, stateNumber, s
 use host_numbers::flag;
 use host_numbers::is_set;
 use host_numbers::low;
-use monitor::Answer;
 use monitor::Monitor;
+use monitor::MonitorAnswer;
 use monitor::State;
 use monitor::Summary;
-use probe_queue::Ring;
+use probe_queue::QueueRing;
 
 fn state_at(word: u64) -> State
     ensures { λ r. ⌜ r ≡ stateAt word ⌝ }
@@ -64,7 +64,7 @@ pub fn load(words: &[u64; 12]) -> Monitor
         summary: summary,
         timeout: words[6],
         transmitting: is_set(words[7]),
-        ring: Ring {
+        ring: QueueRing {
             head: words[8] as usize,
             len: words[9] as usize,
         },
@@ -103,14 +103,14 @@ pub fn store(words: &mut [u64; 12], monitor: Monitor)
 }
 
 // The number of an answer. The words change where the call was served, and not otherwise.
-pub fn finish(words: &mut [u64; 12], answer: Answer) -> u8
+pub fn finish(words: &mut [u64; 12], answer: MonitorAnswer) -> u8
     ensures { λ r. ⌜ (r ≡ number answer) × (now (words .exit) ≡ wordsAfter (now (words .entry)) answer) ⌝ }
 {
     match answer {
-        Answer::Served(monitor) => {
+        MonitorAnswer::Served(monitor) => {
             store(words, monitor);
             0
         }
-        Answer::Refused(number) => number,
+        MonitorAnswer::Refused(number) => number,
     }
 }

@@ -1,4 +1,4 @@
-// Small numbers in the words that a host lends: two u32 in one word, a flag, the bits of an f64. Two's complement is crate `words`.
+// Small numbers in the words that a host lends: two u32 in one word, a flag, the bits of an f64. Two's complement is crate `signed_words`.
 ghost use mathlib.Core.Path.{_≡_};
 ghost use Prim.Native.Nat.{_<_, _^_};
 ghost use lib.Ieee.{binary64, ofBits, toBits};

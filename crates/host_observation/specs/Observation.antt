@@ -9,10 +9,10 @@ use mir.Syntax.{w32, w64}
 use mir.Val.{toZ}
 use Rattle.estimate.specs.declared.Estimates.{Estimates}
 use Rattle.estimate.specs.Make.{formatOf}
-use Rattle.calls.specs.declared.Counters.{Counters}
-use Rattle.calls.specs.declared.FollowUp.{FollowUp}
-use Rattle.calls.specs.declared.ReplyKey.{ReplyKey}
-use Rattle.calls.specs.declared.ReplyObservation.{ReplyObservation}
+use Rattle.call_types.specs.declared.Counters.{Counters}
+use Rattle.call_types.specs.declared.FollowUp.{FollowUp}
+use Rattle.call_types.specs.declared.ReplyKey.{ReplyKey}
+use Rattle.call_types.specs.declared.ReplyObservation.{ReplyObservation}
 use Rattle.host_numbers.specs.Numbers.{joined}
 use Rattle.record_parts.specs.Parts.{flag, timeBy, ordinalBy, countersBy, followBy, estimatesBy}
 

@@ -6,12 +6,12 @@ ghost use mir.Val.{toZ};
 ghost use Rattle.record_parts.specs.Parts.{flag, timeBy, ordinalBy};
 ghost use Rattle.estimate.specs.Make.{formatOf};
 ghost use Rattle.host_observation.specs.Observation.{word, double, flagsAt, keyAt, countersAt, followAt, estimatesAt, observationAt};
-use calls::Counters;
-use calls::FollowUp;
-use calls::Ordinal;
-use calls::ReplyKey;
-use calls::ReplyObservation;
-use calls::Time;
+use call_types::Counters;
+use call_types::FollowUp;
+use call_types::Ordinal;
+use call_types::ReplyKey;
+use call_types::ReplyObservation;
+use call_types::Time;
 use estimate::ClockFormat;
 use estimate::Estimates;
 use host_numbers::both;
@@ -51,13 +51,13 @@ fn format(words: &[u32; 24]) -> ClockFormat
 fn reference(words: &[u32; 24]) -> i64
     ensures { λ r. ⌜ r ≡ toZ w64 (double (now (words .entry)) 6) ⌝ }
 {
-    words::signed64(both(words[6], words[7]))
+    signed_words::signed64(both(words[6], words[7]))
 }
 
 fn offset(words: &[u32; 24]) -> i32
     ensures { λ r. ⌜ r ≡ toZ w32 (word (now (words .entry)) 19) ⌝ }
 {
-    words::signed32(words[19])
+    signed_words::signed32(words[19])
 }
 
 fn ordinal(words: &[u32; 24]) -> Ordinal

@@ -9,7 +9,7 @@ use borrow.Fn.World as World
 use borrow.Fn.Kinds as Kinds'
 use denote.Triple.Clauses as Clauses
 use denote.Ref.{now}
-use Rattle.calls.specs.declared.Counters.{Counters}
+use Rattle.call_types.specs.declared.Counters.{Counters}
 use Rattle.ledger_steps.specs.Refusals.{refusalOfObserve}
 use Rattle.ledger_steps.specs.Observe.{ObserveOutcome, observeOn}
 use Rattle.ledger_steps.specs.Calls.{observeBy, observeTo}

@@ -5,8 +5,8 @@ use Prim.Native.Nat.{ℕ, suc, _+_, _≤_, _<_}
 use native.Mathlib.Omega.{arith}
 use lib.ListN.{length, getD, set}
 use lib.Seq.{sets, getD-set-other}
-use Rattle.calls.specs.declared.Counters.{Counters}
-use Rattle.calls.specs.declared.Counters.the-variants as counters
+use Rattle.call_types.specs.declared.Counters.{Counters}
+use Rattle.call_types.specs.declared.Counters.the-variants as counters
 use Rattle.direct.specs.declared.Direct.{Direct}
 use Rattle.direct.specs.declared.Counts.{Counts}
 use Rattle.direct.specs.declared.Window.{Window}

@@ -8,9 +8,9 @@ use mir.Val.{Fits}
 use lib.IntN.{pos}
 use lib.ListN.{length, getD}
 use lib.Seq.{sets}
-use Rattle.scope.specs.Limits.{capacity}
-use Rattle.calls.specs.declared.ReplyKey.{ReplyKey}
-use Rattle.calls.specs.declared.ReplyObservation.{ReplyObservation}
+use Rattle.limits.specs.Limits.{capacity}
+use Rattle.call_types.specs.declared.ReplyKey.{ReplyKey}
+use Rattle.call_types.specs.declared.ReplyObservation.{ReplyObservation}
 use Rattle.chains.specs.declared.Ring.{Ring}
 use Rattle.chains.specs.Hash.{numberHash}
 use Rattle.key_ring.specs.Table.{hashOf}

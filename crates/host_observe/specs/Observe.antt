@@ -2,9 +2,9 @@
 -- Assumes nothing.
 use mathlib.Core.List.{List}
 use Prim.Native.Nat.{ℕ}
-use Rattle.calls.specs.declared.Counters.{Counters}
-use Rattle.ledger_steps.specs.declared.Answer.{Answer}
-use Rattle.ledger_steps.specs.declared.Answer.the-variants as answer
+use Rattle.call_types.specs.declared.Counters.{Counters}
+use Rattle.ledger_steps.specs.declared.LedgerAnswer.{LedgerAnswer}
+use Rattle.ledger_steps.specs.declared.LedgerAnswer.the-variants as answer
 use Rattle.ledger_steps.specs.Observe.{DirectOutcome, FollowOutcome, ObserveOutcome}
 use Rattle.ledger_steps.specs.Calls.{ObserveResult, number, observeTo}
 use Rattle.host_observation.specs.Observation.{observationAt}
@@ -26,7 +26,7 @@ abbrev pub left : ℕ → List ℕ → List (List ℕ) → List ℕ → List (Li
 left number ledger slots offsets links = record { number = number; ledger = ledger; slots = slots; offsets = offsets; links = links }
 
 -- the words after a call that was told these counters, or none: those of the next ledger, or as they were
-abbrev pub ledgerAfter : Answer → Counters → List ℕ → List ℕ
+abbrev pub ledgerAfter : LedgerAnswer → Counters → List ℕ → List ℕ
 ledgerAfter (answer.Served next) told before = observedWords told before next
 ledgerAfter (answer.Refused n) told before = before
 

@@ -5,7 +5,7 @@ ghost use mathlib.Core.Path.{_≡_};
 ghost use Prim.Native.Nat.{_≤_};
 ghost use lib.ListN.{length};
 ghost use lib.Seq.{sets};
-ghost use Rattle.scope.specs.Limits.{capacity};
+ghost use Rattle.limits.specs.Limits.{capacity};
 ghost use Rattle.chains.specs.Hash.{numberHash};
 ghost use Rattle.chains.specs.Rings.{RingFits};
 ghost use Rattle.correlation.specs.declared.follow.Class.the-variants as classes;
@@ -25,15 +25,15 @@ ghost use Rattle.host_ledger.specs.Parts.{delaysAt, delaysWords, directAt, foll
 ghost use Rattle.host_ledger.specs.Words.{ledgerAt};
 ghost use Rattle.host_ledger.specs.Left.{followStored};
 ghost use Rattle.host_observe.specs.Observe.{directLeft, directLeaves, followLeft, followLeaves, left, servedLeaves, observeLeaves};
-use calls::Counters;
-use calls::FollowUp;
-use calls::ReplyObservation;
+use call_types::Counters;
+use call_types::FollowUp;
+use call_types::ReplyObservation;
 use chains::Ring;
 use correlation::follow::Class;
 use correlation::follow::Match;
 use host_ledger::LEDGER_WORDS;
 use host_numbers::is_set;
-use scope::CAPACITY;
+use limits::CAPACITY;
 
 // Why the call is refused, or 0. The key is read only in a room and a ring that fit.
 fn refusal(
@@ -52,15 +52,15 @@ fn refusal(
         & (slots == CAPACITY)
         & (offsets == CAPACITY)
         & (links == CAPACITY)
-        & host_checks::rings_fit(ledger);
+        & host_ledger_checks::rings_fit(ledger);
     if !placed {
-        return scope::WRONG_ROOM;
+        return limits::WRONG_ROOM;
     }
-    let ring = host_checks::keys_ring(ledger);
+    let ring = host_ledger_checks::keys_ring(ledger);
     let key = told.key;
     let awaiting = is_set(ledger[10]) & key_ring::is_newest(keys, ring, key);
     let ranged = host_own_slot::in_range(words);
-    let counted = host_checks::room_for_call(ledger);
+    let counted = host_ledger_checks::room_for_call(ledger);
     ledger_state::first_refusal(true, ranged, true, counted, awaiting, true)
 }
 
@@ -81,7 +81,7 @@ fn count_direct(
         Counters::Point(_) => {
             let before = host_ledger::direct_of(ledger);
             let after = ledger_direct::count_direct(before, offsets, links, secret, told);
-            host_observed::store_direct(ledger, after);
+            host_ledger_parts::store_direct(ledger, after);
         }
     }
 }
@@ -92,9 +92,9 @@ fn count_delay(ledger: &mut [u64; LEDGER_WORDS], times: Match, offset: i32)
     ensures { λ _. ⌜ now (ledger .exit) ≡ sets (now (ledger .entry)) 50 (delaysWords (recordedOf (delaysAt 50 (now (ledger .entry))) (nanosecondsOf (delayOf (times .t4) (times .t3) offset)))) ⌝ }
 {
     let ns = correlation::follow::delay(times.t4, times.t3, offset);
-    let before = host_observed::delay_of(ledger);
+    let before = host_ledger_parts::delay_of(ledger);
     let after = before.recorded(delays::from_i64(ns));
-    host_observed::store_delay(ledger, after);
+    host_ledger_parts::store_delay(ledger, after);
 }
 
 // A matched follow-up changes all that there is of follow-ups: two counts, the delay and the clock quality.
@@ -116,8 +116,8 @@ fn count_other(ledger: &mut [u64; LEDGER_WORDS], class: Class)
     requires { ⌜ follow_ups.CountsIn (followAt 44 (now ledger) .counts) ⌝ }
     ensures { λ _. ⌜ now (ledger .exit) ≡ sets (now (ledger .entry)) 44 (followCountsWords (counted class (followAt 44 (now (ledger .entry)) .counts))) ⌝ }
 {
-    let before = host_observed::follow_counts_of(ledger);
-    host_observed::store_follow_counts(ledger, follow_ups::count(class, before));
+    let before = host_ledger_parts::follow_counts_of(ledger);
+    host_ledger_parts::store_follow_counts(ledger, follow_ups::count(class, before));
 }
 
 // A follow-up whose class is known.
@@ -181,8 +181,8 @@ fn observed(
     requires { ⌜ SoundObserve (ledgerAt (now ledger)) (now keys) (length (now slots)) (length (now offsets)) (length (now links)) told × (told ≡ observationAt (now words)) ⌝ }
     ensures { λ _. ⌜ left 0 (now (ledger .exit)) (now (slots .exit)) (now (offsets .exit)) (now (links .exit)) ≡ servedLeaves (told .counters) (now (ledger .entry)) (observeOn (ledgerAt (now (ledger .entry))) (now (keys .entry)) (now (slots .entry)) (now (offsets .entry)) (now (links .entry)) told) ⌝ }
 {
-    let secret = host_checks::secret_words(ledger);
-    let ring = host_checks::keys_ring(ledger);
+    let secret = host_ledger_checks::secret_words(ledger);
+    let ring = host_ledger_checks::keys_ring(ledger);
     let copies = (ledger[0] % 65536) as u16;
     let calls = ledger[5];
     ledger[5] = calls + 1;

@@ -11,8 +11,8 @@ use mir.Syntax.{Width, w32, w64}
 use mir.Val.{Fits, SFits, ofZ, toZ}
 use mir.ValLaws.{ofZ-toZ, toZ-ofZ}
 use borrow.Author.Tests.{eq-eqb, ne-eqb, le-leb}
-use Rattle.calls.specs.declared.ReplyKey.{ReplyKey}
-use Rattle.calls.specs.declared.Time.{Time}
+use Rattle.call_types.specs.declared.ReplyKey.{ReplyKey}
+use Rattle.call_types.specs.declared.Time.{Time}
 use Rattle.chains.specs.declared.Ring.{Ring}
 use Rattle.estimate.specs.Make.{isPtp, formatOf}
 use Rattle.estimate.specs.Wire.{estimateOf, wireOf}

@@ -4,7 +4,7 @@
 ghost use mathlib.Core.Path.{_≡_};
 ghost use Prim.Native.Nat.{_+_, _*_, _^_, _≤_, _<_};
 ghost use lib.ListN.{length};
-ghost use Rattle.scope.specs.Limits.{capacity};
+ghost use Rattle.limits.specs.Limits.{capacity};
 ghost use Rattle.chains.specs.Hash.{numberHash};
 ghost use Rattle.chains.specs.Rings.{RingFits};
 ghost use Rattle.correlation.specs.declared.Unique.the-variants as unique;
@@ -36,8 +36,8 @@ pub fn in_range(words: &[u32; 24]) -> bool
 {
     let timed = has(words, 1);
     let t4 = record_parts::time_by(timed, both(words[4], words[5]));
-    let reference = words::signed64(both(words[6], words[7]));
-    let offset = words::signed32(words[19]);
+    let reference = signed_words::signed64(both(words[6], words[7]));
+    let offset = signed_words::signed32(words[19]);
     ranges::time_fits(t4) & ranges::reference_within(reference) & ranges::offset_within(offset)
 }
 

@@ -7,7 +7,7 @@ use native.Mathlib.Omega.{arith}
 use lib.Dec.{eqb}
 use lib.Ieee.{Float}
 use lib.ListN.{length, getD}
-use Rattle.scope.specs.Refusals.{wrongRoom}
+use Rattle.limits.specs.Refusals.{wrongRoom}
 use Rattle.host_numbers.specs.Numbers.{isSet}
 use Rattle.host_numbers.proofs.Back.{flag-again}
 use Rattle.quantiles.specs.declared.Quantiles.{Quantiles}

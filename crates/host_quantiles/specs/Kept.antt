@@ -3,7 +3,7 @@ use mathlib.Core.Bool.{Bool}
 use mathlib.Core.List.{List}
 use Prim.Native.Nat.{ℕ}
 use lib.ListN.{getD, set}
-use Rattle.scope.specs.Refusals.{wrongRoom}
+use Rattle.limits.specs.Refusals.{wrongRoom}
 use Rattle.quantiles.specs.declared.Quantiles.{Quantiles}
 use Rattle.quantiles.specs.declared.Recording.{Recording}
 use Rattle.quantiles.specs.declared.Recording.the-variants.{Refused, Full, Counted}

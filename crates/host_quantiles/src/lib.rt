@@ -48,7 +48,7 @@ fn keep(quantiles: &mut [u64; 4], recorded: &mut [u64; 1], answer: Recording) ->
     ensures { λ r. ⌜ kept r (now (quantiles .exit)) (now (recorded .exit)) ≡ keptBy answer (now (quantiles .entry)) (now (recorded .entry)) ⌝ }
 {
     match answer {
-        Recording::Refused => scope::WRONG_ROOM,
+        Recording::Refused => limits::WRONG_ROOM,
         Recording::Full => {
             recorded[0] = 0;
             0
@@ -117,7 +117,7 @@ pub extern "C" fn ambrulicciu_quantiles_percentiles(
     let state = load(quantiles);
     let answer = percentiles::percentiles(state, room, percents, shown);
     match answer {
-        Showing::Refused => scope::WRONG_ROOM,
+        Showing::Refused => limits::WRONG_ROOM,
         Showing::Empty => {
             present[0] = 0;
             0

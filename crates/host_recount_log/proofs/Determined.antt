@@ -8,7 +8,7 @@ use borrow.Fn.Kinds as Kinds'
 use denote.Triple.Clauses as Clauses
 use denote.Ref.{now}
 use lib.ListN.{length}
-use Rattle.link_log.specs.Logs.{logOf}
+use Rattle.log_whole.specs.Logs.{logOf}
 use Rattle.recount.specs.declared.Checked.{Checked}
 use Rattle.recount.specs.declared.Checked.the-variants.{Refused, Good}
 use Rattle.recount.specs.Recount.{roomsFit, checkedBy, recountBy, recountOfLog}

@@ -2,14 +2,14 @@
 use mathlib.Core.Path.{_≡_, ap, _∙_}
 use mathlib.Core.List.{List}
 use Prim.Native.Nat.{ℕ}
-use Rattle.report.specs.declared.Answer.{Answer}
+use Rattle.report.specs.declared.ReportAnswer.{ReportAnswer}
 use Rattle.report.specs.Report.{outcome}
 use Rattle.recount.specs.Recount.{Recounted, recounted, recountOfLog}
-use Rattle.host_told.specs.Told.{numberOf, wordAfter, Told, told}
-use Rattle.host_told.proofs.Laws.{tells-outcome}
+use Rattle.host_report_answer.specs.Told.{numberOf, wordAfter, Told, told}
+use Rattle.host_report_answer.proofs.Laws.{tells-outcome}
 use Rattle.host_recount_log.specs.LogTold.{left, leftBy, recountLogTo}
 
-pub log-told : (log marks fronts text word : List ℕ) (a : Answer) (marks′ fronts′ text′ : List ℕ) (n : ℕ) (word′ : List ℕ)
+pub log-told : (log marks fronts text word : List ℕ) (a : ReportAnswer) (marks′ fronts′ text′ : List ℕ) (n : ℕ) (word′ : List ℕ)
     → recounted (outcome a text′) marks′ fronts′ ≡ recountOfLog log marks fronts text
     → (n ≡ numberOf a) × (word′ ≡ wordAfter a word)
     → left (told n text′ word′) marks′ fronts′ ≡ recountLogTo log marks fronts text word

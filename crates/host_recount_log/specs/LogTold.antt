@@ -2,7 +2,7 @@
 use mathlib.Core.List.{List}
 use Prim.Native.Nat.{ℕ}
 use Rattle.recount.specs.Recount.{Recounted, recountOfLog}
-use Rattle.host_told.specs.Told.{Told, toldOf}
+use Rattle.host_report_answer.specs.Told.{Told, toldOf}
 
 -- what a call leaves
 pub record Left : Type 0 where

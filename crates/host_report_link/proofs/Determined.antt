@@ -10,12 +10,12 @@ use borrow.Fn.World as World
 use borrow.Fn.Kinds as Kinds'
 use denote.Triple.Clauses as Clauses
 use denote.Ref.{now}
-use Rattle.scope.specs.Refusals.{wrongRoom}
+use Rattle.limits.specs.Refusals.{wrongRoom}
 use Rattle.report.specs.Lines.{textOf}
 use Rattle.report.specs.Report.{reportRoom, pickOutcome, written, wrong, reportOf}
 use Rattle.link_figures.specs.Figures.{figuresOf}
 use Rattle.host_ledger.specs.Words.{ledgerAt}
-use Rattle.host_told.specs.Told.{Told, told, toldOf}
+use Rattle.host_report_answer.specs.Told.{Told, told, toldOf}
 use Rattle.host_report_link.specs.LinkTold.{watchAt, linkAt, outOfPlace, reportLinkTo}
 use Rattle.host_report_link.proofs.ambrulicciu_report_link.{signature}
 use Rattle.host_report_link.proofs.ambrulicciu_report_link.Kinds as K

@@ -3,8 +3,8 @@ use mathlib.Core.Path.{_≡_, refl, sym, ap, _∙_}
 use mathlib.Core.Bool.{Bool, true, false, not, _||_, cond}
 use mathlib.Core.List.{List}
 use Prim.Native.Nat.{ℕ, zero, suc}
-use Rattle.scope.specs.Limits.{capacity}
-use Rattle.scope.specs.Refusals.{wrongRoom}
+use Rattle.limits.specs.Limits.{capacity}
+use Rattle.limits.specs.Refusals.{wrongRoom}
 use Rattle.ledger_state.specs.declared.Ledger.{Ledger}
 use Rattle.ledger_state.specs.Refusal.{ringsFit}
 use Rattle.monitor.specs.declared.Monitor.{Monitor}
@@ -12,13 +12,13 @@ use Rattle.monitor.specs.Refusals.{misplaced}
 use Rattle.link_steps.specs.declared.Watch.{Watch}
 use Rattle.link_steps.specs.declared.Watch.the-variants.{Absent, Present}
 use Rattle.link_figures.specs.Figures.{figuresOf}
-use Rattle.report.specs.declared.Answer.{Answer}
+use Rattle.report.specs.declared.ReportAnswer.{ReportAnswer}
 use Rattle.report.specs.declared.figures.Figures.{Figures}
 use Rattle.report.specs.Report.{Outcome, outcome, reportOf}
 use Rattle.host_ledger.specs.Words.{ledgerAt}
 use Rattle.host_monitor_words.specs.Words.{monitorAt}
-use Rattle.host_told.specs.Told.{numberOf, wordAfter, told, toldOf}
-use Rattle.host_told.proofs.Laws.{tells-outcome}
+use Rattle.host_report_answer.specs.Told.{numberOf, wordAfter, told, toldOf}
+use Rattle.host_report_answer.proofs.Laws.{tells-outcome}
 use Rattle.host_report_link.specs.LinkTold.{watchAt, linkAt, outOfPlace, reportLinkTo}
 
 pub watched-is : (n : ℕ) (monitor : List ℕ) (m : Monitor) → (n ≡ 0 → ⊥) → m ≡ monitorAt monitor → Present m ≡ watchAt n monitor
@@ -47,7 +47,7 @@ pub link-refused : (ledger monitor : List ℕ) (watched records turned : ℕ) (t
     → told wrongRoom text word ≡ reportLinkTo ledger monitor watched records turned text word
 link-refused ledger monitor watched records turned text word w out ew eo h = link-by ledger monitor watched records turned text word w out true ew eo h
 
-pub link-told : (ledger monitor : List ℕ) (watched records turned : ℕ) (text text′ word word′ : List ℕ) (k : Ledger) (w : Watch) (f : Figures) (a : Answer) (n : ℕ) (out : Bool)
+pub link-told : (ledger monitor : List ℕ) (watched records turned : ℕ) (text text′ word word′ : List ℕ) (k : Ledger) (w : Watch) (f : Figures) (a : ReportAnswer) (n : ℕ) (out : Bool)
     → out ≡ outOfPlace (ledgerAt ledger) w → out ≡ false → k ≡ ledgerAt ledger → w ≡ watchAt watched monitor → f ≡ figuresOf (record { ledger = k; watch = w }) records turned
     → outcome a text′ ≡ reportOf text f → (n ≡ numberOf a) × (word′ ≡ wordAfter a word)
     → told n text′ word′ ≡ reportLinkTo ledger monitor watched records turned text word

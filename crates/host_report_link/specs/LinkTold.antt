@@ -2,8 +2,8 @@
 use mathlib.Core.Bool.{Bool, not, _||_, cond}
 use mathlib.Core.List.{List}
 use Prim.Native.Nat.{ℕ, zero, suc}
-use Rattle.scope.specs.Limits.{capacity}
-use Rattle.scope.specs.Refusals.{wrongRoom}
+use Rattle.limits.specs.Limits.{capacity}
+use Rattle.limits.specs.Refusals.{wrongRoom}
 use Rattle.monitor.specs.Refusals.{misplaced}
 use Rattle.ledger_state.specs.declared.Ledger.{Ledger}
 use Rattle.ledger_state.specs.Refusal.{ringsFit}
@@ -14,7 +14,7 @@ use Rattle.link_figures.specs.Figures.{figuresOf}
 use Rattle.report.specs.Report.{reportOf}
 use Rattle.host_ledger.specs.Words.{ledgerAt}
 use Rattle.host_monitor_words.specs.Words.{monitorAt}
-use Rattle.host_told.specs.Told.{Told, told, toldOf}
+use Rattle.host_report_answer.specs.Told.{Told, told, toldOf}
 
 -- `watched` 0: the link has no monitor, and the monitor's words are not looked at
 abbrev pub watchAt : ℕ → List ℕ → Watch

@@ -1,6 +1,6 @@
 // The report of a link as it stands (document 01, 'Log and program'), for a host: the text that linkreport prints of a log, of the words that it lends.
 ghost use mathlib.Core.Path.{_≡_};
-ghost use Rattle.host_told.specs.Told.{told};
+ghost use Rattle.host_report_answer.specs.Told.{told};
 ghost use Rattle.host_report_link.specs.LinkTold.{watchAt, outOfPlace, reportLinkTo};
 ghost use Rattle.host_ledger.specs.Words.{ledgerAt};
 use host_ledger::LEDGER_WORDS;
@@ -21,12 +21,12 @@ fn watch_at(watched: u32, monitor: &[u64; 12]) -> Watch
 fn out_of_place(ledger: &[u64; LEDGER_WORDS], watch: Watch) -> bool
     ensures { λ r. ⌜ r ≡ outOfPlace (ledgerAt (now (ledger .entry))) watch ⌝ }
 {
-    if !host_checks::rings_fit(ledger) {
+    if !host_ledger_checks::rings_fit(ledger) {
         return true;
     }
     match watch {
         Watch::Absent => false,
-        Watch::Present(monitor) => monitor.out_of_place(scope::CAPACITY),
+        Watch::Present(monitor) => monitor.out_of_place(limits::CAPACITY),
     }
 }
 
@@ -47,7 +47,7 @@ pub extern "C" fn ambrulicciu_report_link(
 {
     let watch = watch_at(watched, monitor);
     if out_of_place(ledger, watch) {
-        return scope::WRONG_ROOM;
+        return limits::WRONG_ROOM;
     }
     let state = host_ledger::load(ledger);
     let link = Link {
@@ -56,5 +56,5 @@ pub extern "C" fn ambrulicciu_report_link(
     };
     let figures = link_figures::figures_of(link, records, turned_away);
     let answer = report::report(text, figures);
-    host_told::tell(answer, length)
+    host_report_answer::tell(answer, length)
 }

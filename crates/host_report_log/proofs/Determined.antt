@@ -13,15 +13,15 @@ use contract.Monad.{Fun}
 use denote.Ref.{now}
 use Rattle.determined.specs.Determines.{Determines}
 use Rattle.determined.proofs.Facts.{both-say}
-use Rattle.probe_queue.specs.declared.Probe.{Probe}
+use Rattle.probe_queue.specs.declared.QueuedProbe.{QueuedProbe}
 use Rattle.ledger_steps.specs.Rooms.{Rooms}
-use Rattle.link_log.specs.declared.Settings.{Settings}
-use Rattle.link_log.specs.Logs.{logOf}
-use Rattle.link_tally.specs.Tally.{Tallied}
-use Rattle.link_settings.specs.declared.Checked.{Checked}
-use Rattle.link_settings.specs.declared.Checked.the-variants.{Refused, Good}
+use Rattle.log_whole.specs.declared.Settings.{Settings}
+use Rattle.log_whole.specs.Logs.{logOf}
+use Rattle.log_play.specs.Tally.{Tallied}
+use Rattle.log_settings.specs.declared.Checked.{Checked}
+use Rattle.log_settings.specs.declared.Checked.the-variants.{Refused, Good}
 use Rattle.link_report.specs.LogReport.{endOf, reportBy, fits, reportOfLog}
-use Rattle.link_settings.specs.Checks.{checkedBy}
+use Rattle.log_settings.specs.Checks.{checkedBy}
 use Rattle.host_report_log.specs.LogTold.{Left, leftBy, reportLogTo}
 use Rattle.host_report_log.proofs.ambrulicciu_report_log as report-log
 
@@ -43,14 +43,14 @@ report-log-unique 𝓤 H A mem run κs a g r₁ r₂ s₁ s₂ =
     ))
 
 -- what is left as it was
-pub record Unchanged (queue : List Probe) (rooms : Rooms) (text word : List ℕ) (x : Left) : Type 0 where
+pub record Unchanged (queue : List QueuedProbe) (rooms : Rooms) (text word : List ℕ) (x : Left) : Type 0 where
   pub same-queue : x .queue ≡ queue
   pub same-rooms : x .rooms ≡ rooms
   pub same-text : x .told .text ≡ text
   pub same-length : x .told .length ≡ word
 
 -- a refusal, 5 or 9, 7, 8 of the log itself, changes nothing
-pub refused-unchanged : (log secret : List ℕ) (queue : List Probe) (rooms : Rooms) (text word : List ℕ) → (reportLogTo log secret queue rooms text word .told .number ≡ 0 → ⊥)
+pub refused-unchanged : (log secret : List ℕ) (queue : List QueuedProbe) (rooms : Rooms) (text word : List ℕ) → (reportLogTo log secret queue rooms text word .told .number ≡ 0 → ⊥)
     → Unchanged queue rooms text word (reportLogTo log secret queue rooms text word)
 unfolding reportLogTo reportOfLog
 refused-unchanged log secret queue rooms text word = go (checkedBy (fits queue rooms text) (logOf log)) (endOf log secret queue rooms)

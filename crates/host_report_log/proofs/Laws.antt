@@ -2,17 +2,17 @@
 use mathlib.Core.Path.{_≡_, ap, _∙_}
 use mathlib.Core.List.{List}
 use Prim.Native.Nat.{ℕ}
-use Rattle.probe_queue.specs.declared.Probe.{Probe}
-use Rattle.report.specs.declared.Answer.{Answer}
+use Rattle.probe_queue.specs.declared.QueuedProbe.{QueuedProbe}
+use Rattle.report.specs.declared.ReportAnswer.{ReportAnswer}
 use Rattle.report.specs.Report.{outcome}
-use Rattle.link_parts.specs.Parts.{roomsOf}
+use Rattle.log_play_parts.specs.Parts.{roomsOf}
 use Rattle.link_report.specs.LogReport.{Reported, reported, reportOfLog}
-use Rattle.host_told.specs.Told.{numberOf, wordAfter, Told, told}
-use Rattle.host_told.proofs.Laws.{tells-outcome}
+use Rattle.host_report_answer.specs.Told.{numberOf, wordAfter, Told, told}
+use Rattle.host_report_answer.proofs.Laws.{tells-outcome}
 use Rattle.host_report_log.specs.LogTold.{left, leftBy, reportLogTo}
 
-pub log-told : (log secret : List ℕ) (keys slots probes : List (List ℕ)) (offsets : List ℕ) (links : List (List ℕ)) (queue : List Probe) (text word : List ℕ)
-    (a : Answer) (keys′ slots′ probes′ : List (List ℕ)) (offsets′ : List ℕ) (links′ : List (List ℕ)) (queue′ : List Probe) (text′ : List ℕ) (n : ℕ) (word′ : List ℕ)
+pub log-told : (log secret : List ℕ) (keys slots probes : List (List ℕ)) (offsets : List ℕ) (links : List (List ℕ)) (queue : List QueuedProbe) (text word : List ℕ)
+    (a : ReportAnswer) (keys′ slots′ probes′ : List (List ℕ)) (offsets′ : List ℕ) (links′ : List (List ℕ)) (queue′ : List QueuedProbe) (text′ : List ℕ) (n : ℕ) (word′ : List ℕ)
     → reported (outcome a text′) queue′ (roomsOf keys′ slots′ probes′ offsets′ links′) ≡ reportOfLog log secret queue (roomsOf keys slots probes offsets links) text
     → (n ≡ numberOf a) × (word′ ≡ wordAfter a word)
     → left (told n text′ word′) queue′ (roomsOf keys′ slots′ probes′ offsets′ links′) ≡ reportLogTo log secret queue (roomsOf keys slots probes offsets links) text word

@@ -1,9 +1,9 @@
 // The report of a log (document 01, 'Log and program') for a host: the text that the program linkreport prints of a log that is good.
 ghost use mathlib.Core.Path.{_≡_};
-ghost use Rattle.link_parts.specs.Parts.{roomsOf};
-ghost use Rattle.host_told.specs.Told.{told};
+ghost use Rattle.log_play_parts.specs.Parts.{roomsOf};
+ghost use Rattle.host_report_answer.specs.Told.{told};
 ghost use Rattle.host_report_log.specs.LogTold.{left, reportLogTo};
-use probe_queue::Probe;
+use probe_queue::QueuedProbe;
 
 // The report of a log at the start of `text`, and its length. The rooms, the queue and the text may hold anything; 5 where one has another size.
 // A log that is refused is refused with its number, 9, 7 or 8. A refusal changes nothing that is lent.
@@ -16,7 +16,7 @@ pub extern "C" fn ambrulicciu_report_log(
     probes: &mut [[u64; 4]],
     offsets: &mut [u32],
     links: &mut [[u16; 8]],
-    queue: &mut [Probe],
+    queue: &mut [QueuedProbe],
     text: &mut [u8],
     length: &mut [u64; 1],
 ) -> u8
@@ -36,5 +36,5 @@ pub extern "C" fn ambrulicciu_report_log(
         queue,
         text,
     );
-    host_told::tell(answer, length)
+    host_report_answer::tell(answer, length)
 }

@@ -13,7 +13,7 @@ use Rattle.floats.specs.Whole.{magnitude}
 use Rattle.delays.specs.declared.Delays.{Delays}
 use Rattle.delays.specs.declared.Extreme.the-variants as extreme
 use Rattle.delays.specs.declared.Sum.{Sum}
-use Rattle.scope.specs.Limits.{sumBound}
+use Rattle.limits.specs.Limits.{sumBound}
 use Rattle.delays.specs.Delays.{recordedOf}
 use Rattle.delays.specs.Sums.{nanosecondsOf, sumOf}
 use Rattle.host_ledger.specs.Parts.{extremeKind, extremeMagnitude, delaysOf, delaysAt, delaysWords}

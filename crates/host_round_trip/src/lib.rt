@@ -79,6 +79,6 @@ pub fn count(ledger: &mut [u64; LEDGER_WORDS], ns: u64)
         add(ledger, ns);
         return;
     }
-    let before = host_observed::rtt_of(ledger);
-    host_observed::store_rtt(ledger, round_trips::recorded(before, ns));
+    let before = host_ledger_parts::rtt_of(ledger);
+    host_ledger_parts::store_rtt(ledger, round_trips::recorded(before, ns));
 }

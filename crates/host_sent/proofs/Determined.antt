@@ -9,7 +9,7 @@ use borrow.Fn.Kinds as Kinds'
 use denote.Triple.Clauses as Clauses
 use denote.Ref.{now}
 use lib.ListN.{length}
-use Rattle.calls.specs.declared.SentProbe.{SentProbe}
+use Rattle.call_types.specs.declared.SentProbe.{SentProbe}
 use Rattle.ledger_steps.specs.Refusals.{refusalOfSent}
 use Rattle.ledger_steps.specs.Sent.{SentOutcome, sentOn}
 use Rattle.ledger_steps.specs.Calls.{sentBy, sentTo}

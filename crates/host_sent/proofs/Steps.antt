@@ -4,11 +4,11 @@ use mathlib.Core.Bool.{true, _&&_}
 use mathlib.Core.List.{List}
 use Prim.Native.Nat.{ℕ}
 use lib.ListN.{length}
-use Rattle.calls.specs.declared.SentProbe.{SentProbe}
+use Rattle.call_types.specs.declared.SentProbe.{SentProbe}
 use Rattle.ledger_state.specs.declared.Ledger.{Ledger}
 use Rattle.ledger_state.specs.Refusal.{firstRefusal, sized, ringsFit, roomForCall}
-use Rattle.ledger_steps.specs.declared.Answer.{Answer}
-use Rattle.ledger_steps.specs.declared.Answer.the-variants as answer
+use Rattle.ledger_steps.specs.declared.LedgerAnswer.{LedgerAnswer}
+use Rattle.ledger_steps.specs.declared.LedgerAnswer.the-variants as answer
 use Rattle.ledger_steps.specs.Refusals.{refusalOfSent}
 use Rattle.ledger_steps.specs.Sent.{sentOn}
 use Rattle.ledger_steps.specs.Calls.{SentResult, sentResult, sentTo}

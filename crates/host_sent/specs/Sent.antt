@@ -1,9 +1,9 @@
 -- What `ambrulicciu_sent` returns and leaves: the library's `sent` on the ledger that the words say. Assumes nothing.
 use mathlib.Core.List.{List}
 use Prim.Native.Nat.{ℕ}
-use Rattle.calls.specs.declared.SentProbe.{SentProbe}
-use Rattle.ledger_steps.specs.declared.Answer.{Answer}
-use Rattle.ledger_steps.specs.declared.Answer.the-variants as answer
+use Rattle.call_types.specs.declared.SentProbe.{SentProbe}
+use Rattle.ledger_steps.specs.declared.LedgerAnswer.{LedgerAnswer}
+use Rattle.ledger_steps.specs.declared.LedgerAnswer.the-variants as answer
 use Rattle.ledger_steps.specs.Calls.{SentResult, number, sentTo}
 use Rattle.host_ledger.specs.Words.{ledgerAt}
 use Rattle.host_ledger.specs.Left.{sentWords}
@@ -20,7 +20,7 @@ abbrev pub sentLeft : ℕ → List ℕ → List (List ℕ) → List (List ℕ) �
 sentLeft number ledger probes links = record { number = number; ledger = ledger; probes = probes; links = links }
 
 -- the words after an answer: a refusal changes none
-abbrev pub wordsAfter : List ℕ → Answer → List ℕ
+abbrev pub wordsAfter : List ℕ → LedgerAnswer → List ℕ
 wordsAfter w (answer.Served next) = sentWords w next
 wordsAfter w (answer.Refused n) = w
 

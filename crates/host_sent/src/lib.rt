@@ -1,10 +1,10 @@
 // `ambrulicciu_sent`: the ledger's `sent`, on the words and the rooms that a host lends. The refusals are tested in the words: of the ledger that is
 // then taken out the call needs a few words alone, and the others are not read.
 ghost use mathlib.Core.Path.{_≡_};
-ghost use Rattle.host_calls.specs.Calls.{probeOf};
+ghost use Rattle.host_calls.specs.Calls.{sentProbeOf};
 ghost use Rattle.host_sent.specs.Sent.{sentLeft, sentOf};
 use host_ledger::LEDGER_WORDS;
-use scope::CAPACITY;
+use limits::CAPACITY;
 
 #[no_mangle]
 pub extern "C" fn ambrulicciu_sent(
@@ -17,10 +17,10 @@ pub extern "C" fn ambrulicciu_sent(
     time: u64,
     tag: u64,
 ) -> u8
-    ensures { λ r. ⌜ sentLeft r (now (ledger .exit)) (now (probes .exit)) (now (links .exit)) ≡ sentOf (now (ledger .entry)) (now (probes .entry)) (now (links .entry)) (probeOf sequence ordinal train time tag) ⌝ }
+    ensures { λ r. ⌜ sentLeft r (now (ledger .exit)) (now (probes .exit)) (now (links .exit)) ≡ sentOf (now (ledger .entry)) (now (probes .entry)) (now (links .entry)) (sentProbeOf sequence ordinal train time tag) ⌝ }
 {
     let sized = (probes.len() == CAPACITY) & (links.len() == CAPACITY);
-    let refused = host_checks::refusal(ledger, sized);
+    let refused = host_ledger_checks::refusal(ledger, sized);
     if refused == 0 {
         let state = host_ledger::load(ledger);
         let probe = host_calls::probe_of(sequence, ordinal, train, time, tag);

@@ -15,8 +15,8 @@ use Rattle.ledger_snapshot.specs.Snapshot.{snapshotOf}
 use Rattle.host_quality.specs.Words.{qualityAt}
 use Rattle.host_ledger.specs.Parts.{repliesAt, delaysAt, directAt, followAt}
 use Rattle.host_ledger.specs.Words.{ledgerAt}
-use Rattle.host_shown.specs.Words.{repliesWords, evictedWords, lossWords, delayWords, directWords, followCountWords, qualityWords, followWords}
-use Rattle.host_shown.proofs.Groups.{follow-as, shown-as}
+use Rattle.host_snapshot_words.specs.Words.{repliesWords, evictedWords, lossWords, delayWords, directWords, followCountWords, qualityWords, followWords}
+use Rattle.host_snapshot_words.proofs.Groups.{follow-as, shown-as}
 use Rattle.host_snapshot.specs.Snapshot.{left, snapshotLeaves}
 
 -- unobserved and its thousandths, of the replies that the code read

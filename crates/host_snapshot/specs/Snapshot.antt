@@ -2,7 +2,7 @@
 use mathlib.Core.List.{List}
 use Prim.Native.Nat.{ℕ}
 use Rattle.ledger_snapshot.specs.Snapshot.{snapshotOf}
-use Rattle.host_shown.specs.Words.{shownWords}
+use Rattle.host_snapshot_words.specs.Words.{shownWords}
 use Rattle.host_ledger.specs.Words.{ledgerAt}
 
 -- the number returned, and the words shown

@@ -11,7 +11,7 @@ use lib.Ieee.Fits.{add-fits, ofInt-fits}
 use lib.IntN.{pos}
 use lib.ListN.{length, getD}
 use lib.Seq.{sets, length-sets}
-use Rattle.scope.specs.Refusals.{wrongRoom, countsFull}
+use Rattle.limits.specs.Refusals.{wrongRoom, countsFull}
 use Rattle.quantiles.specs.declared.Quantiles.{Quantiles}
 use Rattle.quantiles.specs.Record.{still, taken, refuses, grown, stored, pickOutcome, recorded}
 use Rattle.series.specs.Series.{recordedBeside}

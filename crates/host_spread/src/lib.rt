@@ -118,8 +118,8 @@ pub extern "C" fn ambrulicciu_spread_record(
     let state = load(spread);
     let answer = state.record(room, value);
     match answer {
-        Recording::Refused => scope::WRONG_ROOM,
-        Recording::SumsFull => scope::COUNTS_FULL,
+        Recording::Refused => limits::WRONG_ROOM,
+        Recording::SumsFull => limits::COUNTS_FULL,
         Recording::Full => {
             recorded[0] = 0;
             0

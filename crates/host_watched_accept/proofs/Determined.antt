@@ -13,7 +13,7 @@ use contract.Monad.{Fun}
 use denote.Ref.{now}
 use Rattle.determined.specs.Determines.{Determines}
 use Rattle.determined.proofs.Facts.{both-say}
-use Rattle.probe_queue.specs.declared.Probe.{Probe}
+use Rattle.probe_queue.specs.declared.QueuedProbe.{QueuedProbe}
 use Rattle.ledger_watched.specs.declared.WatchedAccept.the-variants.{Refused}
 use Rattle.ledger_watched.specs.Watched.{acceptTo}
 use Rattle.ledger_watched.proofs.Determined as watched
@@ -42,7 +42,7 @@ watched-accept-unique 𝓤 H A mem run κs a g r₁ r₂ s₁ s₂ =
     ))
 
 pub watched-accept-refused :
-    (ledger monitor : List ℕ) (keys slots probes links : List (List ℕ)) (queue : List Probe) (sender reflector t3 pending time tag : ℕ) (answer : List ℕ) (n : ℕ)
+    (ledger monitor : List ℕ) (keys slots probes links : List (List ℕ)) (queue : List QueuedProbe) (sender reflector t3 pending time tag : ℕ) (answer : List ℕ) (n : ℕ)
     → acceptTo (ledgerAt ledger) (monitorAt monitor) keys slots probes links queue (replyOf sender reflector t3 pending time tag) .answer ≡ Refused n
     → watchedAcceptTo ledger monitor keys slots probes links queue sender reflector t3 pending time tag answer ≡ left n ledger monitor keys slots probes links queue answer
 unfolding watchedAcceptTo

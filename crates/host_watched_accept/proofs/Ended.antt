@@ -3,8 +3,8 @@
 use mathlib.Core.Path.{_≡_, ap, _∙_}
 use mathlib.Core.List.{List}
 use Prim.Native.Nat.{ℕ}
-use Rattle.calls.specs.declared.Reply.{Reply}
-use Rattle.probe_queue.specs.declared.Probe.{Probe}
+use Rattle.call_types.specs.declared.Reply.{Reply}
+use Rattle.probe_queue.specs.declared.QueuedProbe.{QueuedProbe}
 use Rattle.ledger_state.specs.declared.Ledger.{Ledger}
 use Rattle.monitor.specs.declared.Monitor.{Monitor}
 use Rattle.ledger_watched.specs.declared.WatchedAccept.{WatchedAccept}
@@ -15,8 +15,8 @@ use Rattle.host_monitor_words.specs.Words.{monitorAt}
 use Rattle.host_watched_accept.specs.Calls.{left, ledgerAfter, monitorAfter, answerAfter, ended, watchedAcceptTo}
 
 pub accept-ends :
-    (ledger monitor : List ℕ) (keys slots probes links : List (List ℕ)) (queue : List Probe) (sender reflector t3 pending time tag : ℕ) (answer : List ℕ)
-    (l : Ledger) (m : Monitor) (s : Reply) (a : WatchedAccept) (keys′ slots′ probes′ links′ : List (List ℕ)) (queue′ : List Probe) (r : ℕ) (ledger′ monitor′ answer′ : List ℕ)
+    (ledger monitor : List ℕ) (keys slots probes links : List (List ℕ)) (queue : List QueuedProbe) (sender reflector t3 pending time tag : ℕ) (answer : List ℕ)
+    (l : Ledger) (m : Monitor) (s : Reply) (a : WatchedAccept) (keys′ slots′ probes′ links′ : List (List ℕ)) (queue′ : List QueuedProbe) (r : ℕ) (ledger′ monitor′ answer′ : List ℕ)
     → l ≡ ledgerAt ledger → m ≡ monitorAt monitor → s ≡ replyOf sender reflector t3 pending time tag
     → acceptResult a keys′ slots′ probes′ links′ queue′ ≡ acceptTo l m keys slots probes links queue s
     → (r ≡ acceptNumber a) × (ledger′ ≡ ledgerAfter ledger a) × (monitor′ ≡ monitorAfter monitor a) × (answer′ ≡ answerAfter answer a)

@@ -3,13 +3,13 @@
 -- Assumes nothing.
 use mathlib.Core.List.{List}
 use Prim.Native.Nat.{ℕ}
-use Rattle.probe_queue.specs.declared.Probe.{Probe}
+use Rattle.probe_queue.specs.declared.QueuedProbe.{QueuedProbe}
 use Rattle.ledger_watched.specs.declared.WatchedAccept.{WatchedAccept}
 use Rattle.ledger_watched.specs.declared.WatchedAccept.the-variants.{Served, Refused}
 use Rattle.ledger_watched.specs.Watched.{AcceptResult, acceptNumber, acceptTo}
 use Rattle.host_calls.specs.Calls.{replyOf, acceptedWords}
 use Rattle.host_ledger.specs.Words.{ledgerAt}
-use Rattle.host_served.specs.Served.{servedWords}
+use Rattle.host_accept_stored.specs.Served.{servedWords}
 use Rattle.host_monitor_words.specs.Words.{monitorAt, wordsOf}
 
 -- the number, and what is left of everything lent
@@ -21,11 +21,11 @@ pub record Left : Type 0 where
   pub slots : List (List ℕ)
   pub probes : List (List ℕ)
   pub links : List (List ℕ)
-  pub queue : List Probe
+  pub queue : List QueuedProbe
   pub answer : List ℕ
 
 -- these
-abbrev pub left : ℕ → List ℕ → List ℕ → (keys slots probes links : List (List ℕ)) → List Probe → List ℕ → Left
+abbrev pub left : ℕ → List ℕ → List ℕ → (keys slots probes links : List (List ℕ)) → List QueuedProbe → List ℕ → Left
 left n ledger monitor keys slots probes links queue answer =
     record { number = n; ledger = ledger; monitor = monitor; keys = keys; slots = slots; probes = probes; links = links; queue = queue; answer = answer }
 
@@ -50,6 +50,6 @@ ended ledger monitor answer r =
     left (acceptNumber (r .answer)) (ledgerAfter ledger (r .answer)) (monitorAfter monitor (r .answer)) (r .keys) (r .slots) (r .probes) (r .links) (r .queue) (answerAfter answer (r .answer))
 
 -- of all that is lent, and of the reply's key and pending packet; the answer's words last
-unfoldable pub watchedAcceptTo : List ℕ → List ℕ → (keys slots probes links : List (List ℕ)) → List Probe → (sender reflector t3 pending time tag : ℕ) → List ℕ → Left
+unfoldable pub watchedAcceptTo : List ℕ → List ℕ → (keys slots probes links : List (List ℕ)) → List QueuedProbe → (sender reflector t3 pending time tag : ℕ) → List ℕ → Left
 watchedAcceptTo ledger monitor keys slots probes links queue sender reflector t3 pending time tag answer =
     ended ledger monitor answer (acceptTo (ledgerAt ledger) (monitorAt monitor) keys slots probes links queue (replyOf sender reflector t3 pending time tag))

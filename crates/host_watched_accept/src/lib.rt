@@ -3,13 +3,13 @@
 ghost use mathlib.Core.Path.{_≡_};
 ghost use Rattle.ledger_watched.specs.Watched.{acceptNumber};
 ghost use Rattle.host_watched_accept.specs.Calls.{left, ledgerAfter, monitorAfter, answerAfter, watchedAcceptTo};
+use host_accept_stored::store_served;
 use host_calls::accepted_words;
 use host_calls::reply_of;
 use host_ledger::LEDGER_WORDS;
 use host_monitor_words::store;
-use host_served::store_served;
 use ledger_watched::WatchedAccept;
-use probe_queue::Probe;
+use probe_queue::QueuedProbe;
 
 // The number of what `accept` gave. The words change where the call was served, and not otherwise.
 fn finish(
@@ -40,7 +40,7 @@ pub extern "C" fn ambrulicciu_watched_accept(
     slots: &mut [[u64; 3]],
     probes: &mut [[u64; 4]],
     links: &mut [[u16; 8]],
-    queue: &mut [Probe],
+    queue: &mut [QueuedProbe],
     sender: u32,
     reflector: u32,
     t3: u64,

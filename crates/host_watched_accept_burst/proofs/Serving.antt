@@ -6,8 +6,8 @@ use native.Mathlib.Omega.{arith}
 use Prim.Native.Nat.{ℕ, zero, suc, _+_, _≤_, _<_}
 use lib.Dec.{eqb}
 use lib.ListN.{length, getD, set}
-use Rattle.calls.specs.declared.Reply.{Reply}
-use Rattle.probe_queue.specs.declared.Probe.{Probe}
+use Rattle.call_types.specs.declared.Reply.{Reply}
+use Rattle.probe_queue.specs.declared.QueuedProbe.{QueuedProbe}
 use Rattle.monitor.specs.declared.Monitor.{Monitor}
 use Rattle.ledger_state.specs.declared.Ledger.{Ledger}
 use Rattle.ledger_watched.specs.declared.WatchedAccept.{WatchedAccept}
@@ -41,15 +41,15 @@ row-by : (row : List ℕ) (k : ℕ) (o : AcceptOutcome) (m : Monitor) (keys slot
 row-by row zero o m keys slots probes links = ap (λ (v : List ℕ). 0 ∷ v) (sym (six (o .accepted)))
 row-by row (suc k) o m keys slots probes links = refl
 
-row-is : (row : List ℕ) (l : Ledger) (m : Monitor) (keys slots probes links : List (List ℕ)) (queue : List Probe) (a : Reply)
+row-is : (row : List ℕ) (l : Ledger) (m : Monitor) (keys slots probes links : List (List ℕ)) (queue : List QueuedProbe) (a : Reply)
     → let g = acceptTo l m keys slots probes links queue a .answer in rowAfter row (acceptNumber g) (answerAfter zeros g) ≡ acceptNumber g ∷ answerAfter (answerIn row) g
 unfolding acceptTo ledger.acceptTo
 row-is row l m keys slots probes links queue a =
     row-by row (refusalOfAccept (monitor.refusalOf m (length queue)) l (length keys) (length slots) (length probes) (length links)) (acceptOn l keys slots probes links a) _ keys slots probes links
 
 entry-ends :
-    (ledger monitor : List ℕ) (keys slots probes links : List (List ℕ)) (queue : List Probe) (entries : List (List ℕ)) (i : ℕ) (answers : List (List ℕ))
-    (reply : Reply) (state : Ledger) (watch : Monitor) (given : WatchedAccept) (keys′ slots′ probes′ links′ : List (List ℕ)) (queue′ : List Probe) (ledger′ monitor′ : List ℕ)
+    (ledger monitor : List ℕ) (keys slots probes links : List (List ℕ)) (queue : List QueuedProbe) (entries : List (List ℕ)) (i : ℕ) (answers : List (List ℕ))
+    (reply : Reply) (state : Ledger) (watch : Monitor) (given : WatchedAccept) (keys′ slots′ probes′ links′ : List (List ℕ)) (queue′ : List QueuedProbe) (ledger′ monitor′ : List ℕ)
     (number : ℕ) (words : List ℕ) (answers′ : List (List ℕ))
     → reply ≡ replyAt (getD entries i []) → state ≡ ledgerAt ledger → watch ≡ monitorAt monitor
     → acceptResult given keys′ slots′ probes′ links′ queue′ ≡ acceptTo state watch keys slots probes links queue reply
@@ -71,19 +71,19 @@ entry-ends ledger monitor keys slots probes links queue entries i answers reply 
     ∙ (λ j. left (rowed (ended ledger monitor (answerIn row) (whole j)) .state) (rowed-is j))
 
 -- ---- the loop
-module _ (ledger₀ monitor₀ : List ℕ) (keys₀ slots₀ probes₀ links₀ : List (List ℕ)) (queue₀ : List Probe) (entries : List (List ℕ)) (count : ℕ) (answers₀ : List (List ℕ)) (refusal : ℕ) where
+module _ (ledger₀ monitor₀ : List ℕ) (keys₀ slots₀ probes₀ links₀ : List (List ℕ)) (queue₀ : List QueuedProbe) (entries : List (List ℕ)) (count : ℕ) (answers₀ : List (List ℕ)) (refusal : ℕ) where
   abbrev begun : Burst Lent
   begun = left (lent ledger₀ monitor₀ keys₀ slots₀ probes₀ links₀ queue₀) answers₀
 
   -- what stands after i entries
-  abbrev pub Serves : ℕ → (ledger monitor : List ℕ) → (keys slots probes links : List (List ℕ)) → List Probe → List (List ℕ) → Type 0
+  abbrev pub Serves : ℕ → (ledger monitor : List ℕ) → (keys slots probes links : List (List ℕ)) → List QueuedProbe → List (List ℕ) → Type 0
   Serves i ledger monitor keys slots probes links queue answers = left (lent ledger monitor keys slots probes links queue) answers ≡ upTo acceptEntry entries begun i
 
   pub begins-serving : Serves 0 ledger₀ monitor₀ keys₀ slots₀ probes₀ links₀ queue₀ answers₀
   begins-serving = up-none acceptEntry entries begun
 
-  pub serves-on : (i : ℕ) (ledger monitor : List ℕ) (keys slots probes links : List (List ℕ)) (queue : List Probe) (answers : List (List ℕ))
-      (reply : Reply) (state : Ledger) (watch : Monitor) (given : WatchedAccept) (keys′ slots′ probes′ links′ : List (List ℕ)) (queue′ : List Probe) (ledger′ monitor′ : List ℕ)
+  pub serves-on : (i : ℕ) (ledger monitor : List ℕ) (keys slots probes links : List (List ℕ)) (queue : List QueuedProbe) (answers : List (List ℕ))
+      (reply : Reply) (state : Ledger) (watch : Monitor) (given : WatchedAccept) (keys′ slots′ probes′ links′ : List (List ℕ)) (queue′ : List QueuedProbe) (ledger′ monitor′ : List ℕ)
       (number : ℕ) (words : List ℕ) (answers′ : List (List ℕ))
       → Serves i ledger monitor keys slots probes links queue answers → i < count
       → reply ≡ replyAt (getD entries i []) → state ≡ ledgerAt ledger → watch ≡ monitorAt monitor
@@ -97,7 +97,7 @@ module _ (ledger₀ monitor₀ : List ℕ) (keys₀ slots₀ probes₀ links₀ 
       up-more acceptEntry entries begun (left (lent ledger monitor keys slots probes links queue) answers) (left (lent ledger′ monitor′ keys′ slots′ probes′ links′ queue′) answers′) i h
       (entry-ends ledger monitor keys slots probes links queue entries i answers reply state watch given keys′ slots′ probes′ links′ queue′ ledger′ monitor′ number words answers′ er es em eg el en ew ea)
 
-  pub all-served : (i : ℕ) (ledger monitor : List ℕ) (keys slots probes links : List (List ℕ)) (queue : List Probe) (answers : List (List ℕ)) (r : ℕ)
+  pub all-served : (i : ℕ) (ledger monitor : List ℕ) (keys slots probes links : List (List ℕ)) (queue : List QueuedProbe) (answers : List (List ℕ)) (r : ℕ)
       → Serves i ledger monitor keys slots probes links queue answers → i ≤ count → count ≤ i → r ≡ refusal
       → (left (lent ledger monitor keys slots probes links queue) answers ≡ upTo acceptEntry entries begun count) × (r ≡ refusal)
   all-served i ledger monitor keys slots probes links queue answers r h most least er =
@@ -106,8 +106,8 @@ module _ (ledger₀ monitor₀ : List ℕ) (keys₀ slots₀ probes₀ links₀ 
 
 -- ---- the list
 pub burst-ends :
-    (ledger monitor : List ℕ) (keys slots probes links : List (List ℕ)) (queue : List Probe) (entries answers : List (List ℕ)) (refusal count r : ℕ)
-    (ledger′ monitor′ : List ℕ) (keys′ slots′ probes′ links′ : List (List ℕ)) (queue′ : List Probe) (answers′ : List (List ℕ))
+    (ledger monitor : List ℕ) (keys slots probes links : List (List ℕ)) (queue : List QueuedProbe) (entries answers : List (List ℕ)) (refusal count r : ℕ)
+    (ledger′ monitor′ : List ℕ) (keys′ slots′ probes′ links′ : List (List ℕ)) (queue′ : List QueuedProbe) (answers′ : List (List ℕ))
     → refusal ≡ burstRefusal (length entries) (length answers) → count ≡ cond (eqb refusal 0) (length entries) 0
     → (left (lent ledger′ monitor′ keys′ slots′ probes′ links′ queue′) answers′ ≡ upTo acceptEntry entries (left (lent ledger monitor keys slots probes links queue) answers) count) × (r ≡ refusal)
     → listed r (left (lent ledger′ monitor′ keys′ slots′ probes′ links′ queue′) answers′) ≡ watchedBurst (lent ledger monitor keys slots probes links queue) entries answers

@@ -2,7 +2,7 @@
 use mathlib.Core.List.{List, _∷_}
 use Prim.Native.Nat.{ℕ}
 use lib.ListN.{getD}
-use Rattle.probe_queue.specs.declared.Probe.{Probe}
+use Rattle.probe_queue.specs.declared.QueuedProbe.{QueuedProbe}
 use Rattle.host_numbers.specs.Numbers.{lower, upper}
 use Rattle.host_watched_accept.specs.Calls.{Left, watchedAcceptTo}
 use Rattle.host_burst.specs.Burst.{Single, Listed, single, burstTo}
@@ -16,10 +16,10 @@ pub record Lent : Type 0 where
   pub slots : List (List ℕ)
   pub probes : List (List ℕ)
   pub links : List (List ℕ)
-  pub queue : List Probe
+  pub queue : List QueuedProbe
 
 -- these
-abbrev pub lent : List ℕ → List ℕ → (keys slots probes links : List (List ℕ)) → List Probe → Lent
+abbrev pub lent : List ℕ → List ℕ → (keys slots probes links : List (List ℕ)) → List QueuedProbe → Lent
 lent ledger monitor keys slots probes links queue =
     record { ledger = ledger; monitor = monitor; keys = keys; slots = slots; probes = probes; links = links; queue = queue }
 

@@ -7,6 +7,7 @@ ghost use Rattle.host_burst.specs.Burst.{left, listed, upTo};
 ghost use Rattle.ledger_watched.specs.Watched.{acceptNumber};
 ghost use Rattle.host_watched_accept.specs.Calls.{ledgerAfter, monitorAfter, answerAfter};
 ghost use Rattle.host_watched_accept_burst.specs.Burst.{lent, acceptEntry, watchedBurst};
+use host_accept_stored::store_served;
 use host_burst::put_row;
 use host_burst::refusal_of_list;
 use host_burst::reply_at;
@@ -15,9 +16,8 @@ use host_burst::told;
 use host_calls::accepted_words;
 use host_ledger::LEDGER_WORDS;
 use host_monitor_words::store;
-use host_served::store_served;
 use ledger_watched::WatchedAccept;
-use probe_queue::Probe;
+use probe_queue::QueuedProbe;
 
 // What the answer leaves of the words: a refusal changes none.
 fn store_given(ledger: &mut [u64; LEDGER_WORDS], monitor: &mut [u64; 12], given: WatchedAccept)
@@ -59,7 +59,7 @@ fn serve(
     slots: &mut [[u64; 3]],
     probes: &mut [[u64; 4]],
     links: &mut [[u16; 8]],
-    queue: &mut [Probe],
+    queue: &mut [QueuedProbe],
     entries: &[[u64; 5]],
     count: usize,
     answers: &mut [[u64; 7]],
@@ -92,7 +92,7 @@ pub extern "C" fn ambrulicciu_watched_accept_burst(
     slots: &mut [[u64; 3]],
     probes: &mut [[u64; 4]],
     links: &mut [[u16; 8]],
-    queue: &mut [Probe],
+    queue: &mut [QueuedProbe],
     entries: &[[u64; 5]],
     answers: &mut [[u64; 7]],
 ) -> u8

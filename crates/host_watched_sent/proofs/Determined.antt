@@ -13,11 +13,11 @@ use contract.Monad.{Fun}
 use denote.Ref.{now}
 use Rattle.determined.specs.Determines.{Determines}
 use Rattle.determined.proofs.Facts.{both-say}
-use Rattle.probe_queue.specs.declared.Probe.{Probe}
+use Rattle.probe_queue.specs.declared.QueuedProbe.{QueuedProbe}
 use Rattle.ledger_watched.specs.declared.WatchedAnswer.the-variants.{Refused}
 use Rattle.ledger_watched.specs.Watched.{sentTo}
 use Rattle.ledger_watched.proofs.Determined as watched
-use Rattle.host_calls.specs.Calls.{probeOf}
+use Rattle.host_calls.specs.Calls.{sentProbeOf}
 use Rattle.host_ledger.specs.Words.{ledgerAt}
 use Rattle.host_monitor_words.specs.Words.{monitorAt}
 use Rattle.host_watched_sent.specs.Calls.{Left, left, ended, watchedSentTo}
@@ -32,9 +32,9 @@ watched-sent-unique 𝓤 H A mem run κs a g r₁ r₂ s₁ s₂ =
     (ap (λ (x : Left). x .number) e, ap (λ (x : Left). x .ledger) e, ap (λ (x : Left). x .monitor) e, ap (λ (x : Left). x .probes) e, ap (λ (x : Left). x .links) e, ap (λ (x : Left). x .queue) e))
 
 pub watched-sent-refused :
-    (ledger monitor : List ℕ) (probes links : List (List ℕ)) (queue : List Probe) (sequence ordinal train time tag n : ℕ)
-    → sentTo (ledgerAt ledger) (monitorAt monitor) probes links queue (probeOf sequence ordinal train time tag) .answer ≡ Refused n
+    (ledger monitor : List ℕ) (probes links : List (List ℕ)) (queue : List QueuedProbe) (sequence ordinal train time tag n : ℕ)
+    → sentTo (ledgerAt ledger) (monitorAt monitor) probes links queue (sentProbeOf sequence ordinal train time tag) .answer ≡ Refused n
     → watchedSentTo ledger monitor probes links queue sequence ordinal train time tag ≡ left n ledger monitor probes links queue
 unfolding watchedSentTo
 watched-sent-refused ledger monitor probes links queue sequence ordinal train time tag n h =
-    ap (ended ledger monitor) (watched.sent-refused (ledgerAt ledger) (monitorAt monitor) probes links queue (probeOf sequence ordinal train time tag) n h)
+    ap (ended ledger monitor) (watched.sent-refused (ledgerAt ledger) (monitorAt monitor) probes links queue (sentProbeOf sequence ordinal train time tag) n h)

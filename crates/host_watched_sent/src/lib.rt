@@ -8,7 +8,7 @@ use host_ledger::LEDGER_WORDS;
 use host_ledger::store_sent;
 use host_monitor_words::store;
 use ledger_watched::WatchedAnswer;
-use probe_queue::Probe;
+use probe_queue::QueuedProbe;
 
 // The number of an answer. The words change where the call was served, and not otherwise.
 fn finish(ledger: &mut [u64; LEDGER_WORDS], monitor: &mut [u64; 12], answer: WatchedAnswer) -> u8
@@ -31,7 +31,7 @@ pub extern "C" fn ambrulicciu_watched_sent(
     monitor: &mut [u64; 12],
     probes: &mut [[u64; 4]],
     links: &mut [[u16; 8]],
-    queue: &mut [Probe],
+    queue: &mut [QueuedProbe],
     sequence: u32,
     ordinal: u32,
     train: u32,

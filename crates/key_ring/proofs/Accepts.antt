@@ -9,7 +9,7 @@ use native.Mathlib.Omega.{arith}
 use lib.Dec.{eqb, ltb}
 use lib.ListN.{length, take, getD, set, getElem?}
 use lib.Seq.{getD-set-same, getD-set-other, take-all}
-use Rattle.calls.specs.declared.ReplyKey.{ReplyKey}
+use Rattle.call_types.specs.declared.ReplyKey.{ReplyKey}
 use Rattle.chains.specs.declared.Ring.{Ring}
 use Rattle.chains.specs.Rings.{wrap, contents, pushSlot, afterPush, RingFits}
 use Rattle.chains.proofs.Tests.{Test, holds, fails, lt-test, lt-true, lt-false}

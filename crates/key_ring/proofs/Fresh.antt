@@ -8,7 +8,7 @@ use native.Mathlib.Omega.{arith}
 use lib.Dec.{ltb}
 use lib.ListN.{length, take, getD}
 use lib.Seq.{take-nil}
-use Rattle.calls.specs.declared.ReplyKey.{ReplyKey}
+use Rattle.call_types.specs.declared.ReplyKey.{ReplyKey}
 use Rattle.chains.specs.Rings.{contents}
 use Rattle.chains.specs.Links.{Rows}
 use Rattle.chains.specs.Hash.{numberHash}

@@ -5,7 +5,7 @@ use mathlib.Core.Bool.{true, false, _&&_}
 use Prim.Native.Nat.{ℕ, _+_, _-_, _*_, _/_, _%_, _<_}
 use native.Mathlib.Omega.{arith}
 use lib.Dec.{T, eqb}
-use Rattle.calls.specs.declared.ReplyKey.{ReplyKey}
+use Rattle.call_types.specs.declared.ReplyKey.{ReplyKey}
 use Rattle.chains.proofs.Tests.{Test, holds, fails, eq-test, eq-true, eq-false}
 use Rattle.key_ring.specs.Keys.{keyOf, keyRow, numbersOf, sameKey}
 use Rattle.correlation.specs.Slots.{lowerWord}

@@ -3,7 +3,7 @@
 use mathlib.Core.Path.{_≡_}
 use mathlib.Core.List.{List}
 use Prim.Native.Nat.{ℕ}
-use Rattle.calls.specs.declared.ReplyKey.{ReplyKey}
+use Rattle.call_types.specs.declared.ReplyKey.{ReplyKey}
 use Rattle.chains.specs.declared.Ring.{Ring}
 use Rattle.chains.specs.Links.{newest, older}
 use Rattle.chains.specs.Walk.{walk}

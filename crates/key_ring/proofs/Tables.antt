@@ -10,7 +10,7 @@ use native.Mathlib.Omega.{arith}
 use lib.Dec.{ltb}
 use lib.ListN.{length, take, getD, set, length-set}
 use lib.Seq.{getD-set-same, getD-set-other}
-use Rattle.calls.specs.declared.ReplyKey.{ReplyKey}
+use Rattle.call_types.specs.declared.ReplyKey.{ReplyKey}
 use Rattle.chains.specs.Rings.{wrap, contents, pushSlot, RingFits}
 use Rattle.chains.specs.Links.{wordOf, newest, older, linked, ended, Rows}
 use Rattle.chains.specs.Walk.{newestOf, firstOf}

@@ -6,8 +6,8 @@ use mathlib.Core.List.{List, [], _∷_}
 use Prim.Native.Nat.{ℕ, _+_, _-_}
 use lib.Dec.{ltb}
 use lib.ListN.{getD, set}
-use Rattle.calls.specs.declared.ReplyKey.{ReplyKey}
-use Rattle.scope.specs.Limits.{capacity}
+use Rattle.call_types.specs.declared.ReplyKey.{ReplyKey}
+use Rattle.limits.specs.Limits.{capacity}
 use Rattle.chains.specs.declared.Ring.{Ring}
 use Rattle.chains.specs.Rings.{wrap, contents, pushSlot, afterPush, RingFits}
 use Rattle.chains.specs.Links.{newest, older, linked, ended, Rows}

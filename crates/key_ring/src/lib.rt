@@ -5,14 +5,14 @@
 ghost use mathlib.Core.Path.{_≡_};
 ghost use Prim.Native.Nat.{ℕ, _+_, _-_, _*_, _%_, _≤_, _<_};
 ghost use lib.ListN.{length, getD};
-ghost use Rattle.scope.specs.Limits.{capacity};
+ghost use Rattle.limits.specs.Limits.{capacity};
 ghost use Rattle.chains.specs.Rings.{RingFits};
 ghost use Rattle.key_ring.specs.Keys.{numbersOf, keyAt, sameKey};
 ghost use Rattle.key_ring.specs.Rows.{holds?};
 ghost use Rattle.key_ring.specs.Table.{tableOf, rowAt, wordsAt, storedAt, newestIs, newestSlot, hashOf, find as findKey, holder as holderOf, evicted, unlinked, pushed, accepted};
-use calls::ReplyKey;
+use call_types::ReplyKey;
 use chains::Ring;
-use scope::CAPACITY;
+use limits::CAPACITY;
 
 fn wide(number: u32) -> u64
     ensures { λ q. ⌜ (q ≡ number) × (q < 4294967296) ⌝ }

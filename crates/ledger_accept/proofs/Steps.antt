@@ -8,15 +8,15 @@ use native.Mathlib.Omega.{arith}
 use borrow.Author.Tests.{lt-ltb, le-ltb}
 use lib.Dec.{ltb, leb}
 use lib.ListN.{length, getD, set}
-use Rattle.calls.specs.declared.ReplyKey.{ReplyKey}
-use Rattle.calls.specs.declared.PendingPacket.{PendingPacket}
-use Rattle.calls.specs.declared.Pending.{Pending}
-use Rattle.calls.specs.declared.Ordinal.the-variants as ordinal
-use Rattle.calls.specs.declared.Reply.{Reply}
+use Rattle.call_types.specs.declared.ReplyKey.{ReplyKey}
+use Rattle.call_types.specs.declared.PendingPacket.{PendingPacket}
+use Rattle.call_types.specs.declared.Pending.{Pending}
+use Rattle.call_types.specs.declared.Ordinal.the-variants as ordinal
+use Rattle.call_types.specs.declared.Reply.{Reply}
 use Rattle.chains.specs.Hash.{numberHash}
 use Rattle.key_ring.specs.Table.{Table, tableOf, findIn, acceptedKey, hashOf}
-use Rattle.probe_ring.specs.declared.Probe.{Probe}
-use Rattle.probe_ring.specs.Row.{unanswered, packetAfter, afterReply, wordsOf, probeOf}
+use Rattle.probe_ring.specs.declared.HeldProbe.{HeldProbe}
+use Rattle.probe_ring.specs.Row.{unanswered, packetAfter, afterReply, wordsOf, heldProbeOf}
 use Rattle.probe_ring.specs.Rooms.{Rooms, rooms, Outcome, outcome, slotOf, pushed}
 use Rattle.replies.specs.declared.Replies.{Replies}
 use Rattle.replies.specs.declared.ReplyClass.{ReplyClass}
@@ -42,21 +42,21 @@ module _ (N : ℕ) (byKey : ReplyKey → ℕ) (byNumber : ℕ → ℕ) (r : Room
   unfolding readied
   new-ready h = rw (le-ltb slot N h)
 
-  pub ready-new : (packet : PendingPacket) (probe : Probe) (o : Outcome) → N ≤ slot → packet ≡ packetAfter (a .pending) noPacket
+  pub ready-new : (packet : PendingPacket) (probe : HeldProbe) (o : Outcome) → N ≤ slot → packet ≡ packetAfter (a .pending) noPacket
       → probe ≡ unanswered (a .key .sender) packet ordinal.Absent 0 → o ≡ pushed N byNumber r probe → o ≡ readied N byKey byNumber r slot (a .key) (a .pending)
   ready-new packet probe o h e f g =
       g ∙ ap (pushed N byNumber r) (f ∙ ap (λ (x : PendingPacket). unanswered (a .key .sender) x ordinal.Absent 0) e) ∙ new-ready h
 
 -- what one reply more leaves, and what it answers
-module _ (rows : List (List ℕ)) (slot : ℕ) (p : Pending) (probe after : Probe) (e : probe ≡ probeOf (getD rows slot [])) (f : after ≡ afterReply p probe) where
+module _ (rows : List (List ℕ)) (slot : ℕ) (p : Pending) (probe after : HeldProbe) (e : probe ≡ heldProbeOf (getD rows slot [])) (f : after ≡ afterReply p probe) where
   pub replied-before : probe .replies ≡ probeAt rows slot .replies
-  replied-before = ap (λ (x : Probe). x .replies) e
+  replied-before = ap (λ (x : HeldProbe). x .replies) e
 
   pub replied-context : contextOf after ≡ contextOf (afterReply p (probeAt rows slot))
   replied-context = ap contextOf (f ∙ ap (afterReply p) e)
 
   pub replied-rows : (left : List (List ℕ)) → left ≡ set rows slot (wordsOf after) → left ≡ repliedRows rows slot p
-  replied-rows left g = g ∙ ap (λ (x : Probe). set rows slot (wordsOf x)) (f ∙ ap (afterReply p) e)
+  replied-rows left g = g ∙ ap (λ (x : HeldProbe). set rows slot (wordsOf x)) (f ∙ ap (afterReply p) e)
 
 -- ---- a unique reply
 

@@ -4,7 +4,7 @@ ghost use mathlib.Core.Bool.{cond};
 ghost use Prim.Native.Nat.{_<_};
 ghost use lib.ListN.{length};
 ghost use lib.Dec.{leb};
-ghost use Rattle.scope.specs.Limits.{capacity, mostCalls};
+ghost use Rattle.limits.specs.Limits.{capacity, mostCalls};
 ghost use Rattle.chains.specs.Rings.{RingFits};
 ghost use Rattle.chains.specs.Hash.{numberHash};
 ghost use Rattle.key_ring.specs.Table.{hashOf};
@@ -19,21 +19,21 @@ ghost use Rattle.ledger_steps.specs.Accept.{isPending, noPacket, ledgerCounted,
 ghost use Rattle.ledger_steps.specs.Calls.{acceptResult, acceptTo};
 ghost use Rattle.ledger_checks.specs.Sound.{SoundAccept};
 ghost use Rattle.ledger_accept.specs.Served.{servedAs};
-use calls::Ordinal;
-use calls::Pending;
-use calls::PendingPacket;
-use calls::Reply;
+use call_types::Ordinal;
+use call_types::Pending;
+use call_types::PendingPacket;
+use call_types::Reply;
 use chains::Ring;
 use ledger_state::Counts;
 use ledger_state::Ledger;
 use ledger_state::Tables;
 use ledger_steps::AcceptAnswer;
 use ledger_steps::Accepted;
-use probe_ring::Probe;
+use limits::CAPACITY;
+use probe_ring::HeldProbe;
 use probe_ring::Remembered;
 use replies::Replies;
 use replies::ReplyClass;
-use scope::CAPACITY;
 
 pub fn is_pending(pending: Pending) -> bool
     ensures { λ r. ⌜ r ≡ isPending pending ⌝ }
@@ -121,7 +121,7 @@ pub fn ready_probe(
     }
     let pending = reply.pending;
     let packet = packet_of(pending);
-    let probe = Probe::unanswered(reply.key.sender, packet, Ordinal::Absent, 0);
+    let probe = HeldProbe::unanswered(reply.key.sender, packet, Ordinal::Absent, 0);
     probe_ring::push(probes, links, ring, secret, probe)
 }
 

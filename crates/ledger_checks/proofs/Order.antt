@@ -5,7 +5,7 @@ use Prim.Native.Nat.{ℕ, _≤_, _<_}
 use lib.Dec.{eqb, leb}
 use native.Mathlib.Omega.{arith}
 use borrow.Author.Tests.{le-leb, lt-leb, leb-false}
-use Rattle.scope.specs.Refusals.{wrongRoom, outOfRange, deadlinePasses, countsFull, notAwaiting, queueFull}
+use Rattle.limits.specs.Refusals.{wrongRoom, outOfRange, deadlinePasses, countsFull, notAwaiting, queueFull}
 use Rattle.ledger_state.specs.Refusal.{firstRefusal}
 use Rattle.ledger_steps.specs.Refusals.{line, earlier}
 

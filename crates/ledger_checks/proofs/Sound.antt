@@ -6,8 +6,8 @@ use Prim.Native.Nat.{ℕ}
 use lib.Dec.{ltb, leb}
 use lib.ListN.{length}
 use borrow.Author.Tests.{ltb-true, leb-true, eqb-true}
-use Rattle.scope.specs.Limits.{capacity, mostCalls, countBound}
-use Rattle.calls.specs.declared.ReplyObservation.{ReplyObservation}
+use Rattle.limits.specs.Limits.{capacity, mostCalls, countBound}
+use Rattle.call_types.specs.declared.ReplyObservation.{ReplyObservation}
 use Rattle.chains.specs.declared.Ring.{Ring}
 use Rattle.chains.specs.Rings.{RingFits}
 use Rattle.ranges.specs.Ranges.{inRange}

@@ -4,33 +4,33 @@ ghost use mathlib.Core.Path.{_≡_};
 ghost use lib.ListN.{length};
 ghost use Rattle.ledger_steps.specs.Refusals.{line as lineOf, earlier as earlierOf, awaitsKey};
 ghost use Rattle.ledger_steps.specs.Refusals.{refusalOfSent, refusalOfAccept, refusalOfObserve, refusalOfAnswered};
-use calls::ReplyObservation;
+use call_types::ReplyObservation;
 use ledger_state::Ledger;
 use ledger_state::first_refusal;
 use ledger_state::rings_fit;
 use ledger_state::room_for_call;
-use scope::CAPACITY;
+use limits::CAPACITY;
 
 // The line of a refusal in the table; no refusal comes after all of them.
 fn line(number: u8) -> u8
     ensures { λ r. ⌜ r ≡ lineOf number ⌝ }
 {
-    if number == scope::WRONG_ROOM {
+    if number == limits::WRONG_ROOM {
         return 0;
     }
-    if number == scope::OUT_OF_RANGE {
+    if number == limits::OUT_OF_RANGE {
         return 1;
     }
-    if number == scope::DEADLINE_PASSES {
+    if number == limits::DEADLINE_PASSES {
         return 2;
     }
-    if number == scope::COUNTS_FULL {
+    if number == limits::COUNTS_FULL {
         return 3;
     }
-    if number == scope::NOT_AWAITING {
+    if number == limits::NOT_AWAITING {
         return 4;
     }
-    if number == scope::QUEUE_FULL {
+    if number == limits::QUEUE_FULL {
         return 5;
     }
     6
@@ -97,7 +97,7 @@ pub fn refusal_of_observe(
         & (links == CAPACITY)
         & rings_fit(ledger);
     if !placed {
-        return scope::WRONG_ROOM;
+        return limits::WRONG_ROOM;
     }
     let tables = ledger.tables;
     let ring = tables.keys;

@@ -2,16 +2,16 @@
 ghost use mathlib.Core.Path.{_≡_};
 ghost use Prim.Native.Nat.{_≤_};
 ghost use lib.ListN.{length};
-ghost use Rattle.scope.specs.Limits.{capacity};
-ghost use Rattle.calls.specs.declared.Counters.the-variants as counters;
+ghost use Rattle.limits.specs.Limits.{capacity};
+ghost use Rattle.call_types.specs.declared.Counters.the-variants as counters;
 ghost use Rattle.chains.specs.Hash.{numberHash};
 ghost use Rattle.direct.specs.Outcomes.{InBounds, seenIn};
 ghost use Rattle.offset_set.specs.Offsets.{offsetSet};
 ghost use Rattle.ledger_steps.specs.Observe.{offsetsAfter, directOutcome, directBy, directIn};
-use calls::CounterPoint;
-use calls::Counters;
-use calls::Ordinal;
-use calls::ReplyObservation;
+use call_types::CounterPoint;
+use call_types::Counters;
+use call_types::Ordinal;
+use call_types::ReplyObservation;
 use direct::Direct;
 use direct::Offsets;
 

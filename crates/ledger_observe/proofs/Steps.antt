@@ -7,9 +7,9 @@ use Prim.Native.Nat.{ℕ, zero, suc, _+_}
 use lib.IntN.{pos}
 use lib.ListN.{length}
 use borrow.Author.Tests.{leb-true}
-use Rattle.scope.specs.Limits.{capacity}
-use Rattle.calls.specs.declared.ReplyKey.{ReplyKey}
-use Rattle.calls.specs.declared.ReplyObservation.{ReplyObservation}
+use Rattle.limits.specs.Limits.{capacity}
+use Rattle.call_types.specs.declared.ReplyKey.{ReplyKey}
+use Rattle.call_types.specs.declared.ReplyObservation.{ReplyObservation}
 use Rattle.chains.specs.Hash.{numberHash}
 use Rattle.ranges.specs.Ranges.{timeFits, referenceWithin, offsetWithin, estimatesFit, inRange}
 use Rattle.correlation.specs.Class.{offsetInRange}
@@ -22,7 +22,7 @@ use Rattle.direct.specs.declared.Direct.{Direct}
 use Rattle.follow_ups.specs.declared.FollowUps.{FollowUps}
 use Rattle.ledger_state.specs.State.{hashWords}
 use Rattle.ledger_state.specs.declared.Ledger.{Ledger}
-use Rattle.ledger_steps.specs.declared.Answer.the-variants as answer
+use Rattle.ledger_steps.specs.declared.LedgerAnswer.the-variants as answer
 use Rattle.ledger_steps.specs.Refusals.{refusalOfObserve}
 use Rattle.ledger_steps.specs.Observe.{DirectOutcome, directOutcome, directIn, FollowOutcome, followOutcome, followIn, ownIn}
 use Rattle.ledger_steps.specs.Observe.{ledgerObserved, ObserveOutcome, observeOutcome, observeWith, observeIn, observeOn}

@@ -5,13 +5,13 @@ ghost use lib.ListN.{length};
 ghost use Rattle.ledger_checks.specs.Sound.{SoundCounts, SoundObserve};
 ghost use Rattle.ledger_steps.specs.Observe.{ledgerObserved, observeOutcome, observeOn};
 ghost use Rattle.ledger_steps.specs.Calls.{observeResult, observeTo};
-use calls::ReplyObservation;
+use call_types::ReplyObservation;
 use direct::Direct;
 use follow_ups::FollowUps;
 use ledger_state::Counts;
 use ledger_state::Ledger;
 use ledger_state::Tables;
-use ledger_steps::Answer;
+use ledger_steps::LedgerAnswer;
 
 // The state after the round trip, the direct counters and the follow-up: the key no longer awaits.
 fn ledger_observed(ledger: Ledger, rtt: u64, direct: Direct, follow: FollowUps) -> Ledger
@@ -84,7 +84,7 @@ pub fn observe(
     offsets: &mut [u32],
     links: &mut [[u16; 8]],
     observation: ReplyObservation,
-) -> Answer
+) -> LedgerAnswer
     ensures { λ q. ⌜ observeResult q (now (slots .exit)) (now (offsets .exit)) (now (links .exit)) ≡ observeTo ledger (now (keys .entry)) (now (slots .entry)) (now (offsets .entry)) (now (links .entry)) observation ⌝ }
 {
     let number = ledger_checks::refusal_of_observe(
@@ -96,7 +96,7 @@ pub fn observe(
         observation,
     );
     if number == 0 {
-        return Answer::Served(observed(ledger, keys, slots, offsets, links, observation));
+        return LedgerAnswer::Served(observed(ledger, keys, slots, offsets, links, observation));
     }
-    Answer::Refused(number)
+    LedgerAnswer::Refused(number)
 }

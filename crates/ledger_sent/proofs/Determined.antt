@@ -11,10 +11,10 @@ use borrow.Fn.Kinds as Kinds'
 use denote.Triple.Clauses as Clauses
 use denote.Ref.{now}
 use lib.ListN.{length}
-use Rattle.calls.specs.declared.SentProbe.{SentProbe}
+use Rattle.call_types.specs.declared.SentProbe.{SentProbe}
 use Rattle.ledger_state.specs.declared.Ledger.{Ledger}
-use Rattle.ledger_steps.specs.declared.Answer.{Answer}
-use Rattle.ledger_steps.specs.declared.Answer.the-variants as answer
+use Rattle.ledger_steps.specs.declared.LedgerAnswer.{LedgerAnswer}
+use Rattle.ledger_steps.specs.declared.LedgerAnswer.the-variants as answer
 use Rattle.ledger_steps.specs.declared.AnsweredAnswer.{AnsweredAnswer}
 use Rattle.ledger_steps.specs.declared.AnsweredAnswer.the-variants as answers
 use Rattle.ledger_steps.specs.Refusals.{refusalOfSent, refusalOfAnswered}
@@ -85,7 +85,7 @@ refused-by :
     (k : ℕ) (o : SentOutcome) (probes links : List (List ℕ)) (n : ℕ) → sentBy k o probes links .answer ≡ answer.Refused n →
     (k ≡ n) × (sentBy k o probes links ≡ sentResult (answer.Refused n) probes links)
 refused-by zero o probes links n e = absurd (let z : _≡_ {A = ℕ} 0 1 = cc in omega arith)
-refused-by (suc k) o probes links n e = (ap number e, ap (λ (a : Answer). sentResult a probes links) e)
+refused-by (suc k) o probes links n e = (ap number e, ap (λ (a : LedgerAnswer). sentResult a probes links) e)
 
 pub sent-refused :
     (other : ℕ) (l : Ledger) (probes links : List (List ℕ)) (s : SentProbe) (n : ℕ) →

@@ -5,21 +5,21 @@ use mathlib.Core.List.{List, []}
 use Prim.Native.Nat.{ℕ, zero, suc, _+_, _<_, _≤_}
 use lib.ListN.{length, getD}
 use borrow.Author.Tests.{lt-ltb, le-ltb}
-use Rattle.scope.specs.Limits.{capacity}
-use Rattle.calls.specs.declared.ReplyKey.{ReplyKey}
-use Rattle.calls.specs.declared.SentProbe.{SentProbe}
-use Rattle.calls.specs.declared.Ordinal.the-variants as ordinal
+use Rattle.limits.specs.Limits.{capacity}
+use Rattle.call_types.specs.declared.ReplyKey.{ReplyKey}
+use Rattle.call_types.specs.declared.SentProbe.{SentProbe}
+use Rattle.call_types.specs.declared.Ordinal.the-variants as ordinal
 use Rattle.chains.specs.Hash.{numberHash}
 use Rattle.key_ring.specs.Table.{hashOf}
-use Rattle.probe_ring.specs.declared.Probe.{Probe}
+use Rattle.probe_ring.specs.declared.HeldProbe.{HeldProbe}
 use Rattle.probe_ring.specs.declared.Remembered.{Remembered}
-use Rattle.probe_ring.specs.Row.{unanswered, isAnswered, probeOf}
+use Rattle.probe_ring.specs.Row.{unanswered, isAnswered, heldProbeOf}
 use Rattle.probe_ring.specs.Rooms.{rooms, outcome, remembered, slotOf}
 use Rattle.replies.specs.declared.Replies.{Replies}
 use Rattle.replies.specs.Served.{afterSent}
 use Rattle.ledger_state.specs.declared.Ledger.{Ledger}
 use Rattle.ledger_state.specs.State.{wordsOf}
-use Rattle.ledger_steps.specs.declared.Answer.the-variants as answer
+use Rattle.ledger_steps.specs.declared.LedgerAnswer.the-variants as answer
 use Rattle.ledger_steps.specs.declared.AnsweredAnswer.{AnsweredAnswer}
 use Rattle.ledger_steps.specs.declared.AnsweredAnswer.the-variants as answers
 use Rattle.ledger_steps.specs.Refusals.{refusalOfSent, refusalOfAnswered}
@@ -75,15 +75,15 @@ module _ (other : ℕ) (l : Ledger) (probes links : List (List ℕ)) (s : SentPr
 
 module _ (byKey : ReplyKey → ℕ) (byNumber : ℕ → ℕ) (probes : List (List ℕ)) (found at : ℕ) (e : found ≡ at) where
   pub held-is :
-      (p : Probe) (r : Bool) → found < capacity → p ≡ probeOf (getD probes found []) → r ≡ isAnswered p → r ≡ answeredAt capacity byKey byNumber probes at
+      (p : HeldProbe) (r : Bool) → found < capacity → p ≡ heldProbeOf (getD probes found []) → r ≡ isAnswered p → r ≡ answeredAt capacity byKey byNumber probes at
   held-is p r h pe re =
       re ∙ ap isAnswered pe
-      ∙ ap (λ (t : Bool). cond t (isAnswered (probeOf (getD probes found []))) false) (sym (lt-ltb found capacity h))
+      ∙ ap (λ (t : Bool). cond t (isAnswered (heldProbeOf (getD probes found []))) false) (sym (lt-ltb found capacity h))
       ∙ ap (answeredAt capacity byKey byNumber probes) e
 
   pub unheld-is : capacity ≤ found → false ≡ answeredAt capacity byKey byNumber probes at
   unheld-is h =
-      ap (λ (t : Bool). cond t (isAnswered (probeOf (getD probes found []))) false) (sym (le-ltb found capacity h))
+      ap (λ (t : Bool). cond t (isAnswered (heldProbeOf (getD probes found []))) false) (sym (le-ltb found capacity h))
       ∙ ap (answeredAt capacity byKey byNumber probes) e
 
 module _ (l : Ledger) (probes links : List (List ℕ)) (s : ℕ) where

@@ -2,7 +2,7 @@
 ghost use mathlib.Core.Path.{_≡_};
 ghost use Prim.Native.Nat.{ℕ};
 ghost use lib.ListN.{length};
-ghost use Rattle.scope.specs.Limits.{capacity};
+ghost use Rattle.limits.specs.Limits.{capacity};
 ghost use Rattle.chains.specs.Rings.{RingFits};
 ghost use Rattle.chains.specs.Hash.{numberHash};
 ghost use Rattle.key_ring.specs.Table.{hashOf};
@@ -12,17 +12,17 @@ ghost use Rattle.ledger_steps.specs.Sent.{sentOn};
 ghost use Rattle.ledger_steps.specs.Readers.{answeredAt};
 ghost use Rattle.ledger_steps.specs.Calls.{sentResult, sentTo, answeredTo};
 ghost use Rattle.ledger_sent.specs.Left.{left};
-use calls::Ordinal;
-use calls::SentProbe;
+use call_types::Ordinal;
+use call_types::SentProbe;
 use chains::Ring;
 use ledger_checks::refusal_of_answered;
 use ledger_checks::refusal_of_sent;
 use ledger_state::Counts;
 use ledger_state::Ledger;
 use ledger_state::Tables;
-use ledger_steps::Answer;
 use ledger_steps::AnsweredAnswer;
-use scope::CAPACITY;
+use ledger_steps::LedgerAnswer;
+use limits::CAPACITY;
 
 // Remembers the probe, and counts: a `sent` that no test has refused.
 pub fn served(
@@ -83,14 +83,14 @@ pub fn sent_unless(
     probes: &mut [[u64; 4]],
     links: &mut [[u16; 8]],
     probe: SentProbe,
-) -> Answer
+) -> LedgerAnswer
     ensures { λ r. ⌜ sentResult r (now (probes .exit)) (now (links .exit)) ≡ sentTo other ledger (now (probes .entry)) (now (links .entry)) probe ⌝ }
 {
     let refused = refusal_of_sent(other, ledger, probes.len(), links.len());
     if refused != 0 {
-        return Answer::Refused(refused);
+        return LedgerAnswer::Refused(refused);
     }
-    Answer::Served(served(ledger, probes, links, probe))
+    LedgerAnswer::Served(served(ledger, probes, links, probe))
 }
 
 pub fn sent(
@@ -98,7 +98,7 @@ pub fn sent(
     probes: &mut [[u64; 4]],
     links: &mut [[u16; 8]],
     probe: SentProbe,
-) -> Answer
+) -> LedgerAnswer
     ensures { λ r. ⌜ sentResult r (now (probes .exit)) (now (links .exit)) ≡ sentTo 0 ledger (now (probes .entry)) (now (links .entry)) probe ⌝ }
 {
     sent_unless(0, ledger, probes, links, probe)

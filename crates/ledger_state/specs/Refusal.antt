@@ -2,8 +2,8 @@
 use mathlib.Core.Bool.{Bool, true, false, _&&_}
 use Prim.Native.Nat.{ℕ}
 use lib.Dec.{leb, ltb, eqb}
-use Rattle.scope.specs.Refusals.{wrongRoom, outOfRange, deadlinePasses, countsFull, notAwaiting, queueFull}
-use Rattle.scope.specs.Limits.{capacity, mostCalls}
+use Rattle.limits.specs.Refusals.{wrongRoom, outOfRange, deadlinePasses, countsFull, notAwaiting, queueFull}
+use Rattle.limits.specs.Limits.{capacity, mostCalls}
 use Rattle.chains.specs.declared.Ring.{Ring}
 use Rattle.replies.specs.Bounds.{repliesFit}
 use Rattle.direct.specs.Outcomes.{countsInBounds, seenIn}

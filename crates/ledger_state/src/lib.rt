@@ -129,22 +129,22 @@ pub fn first_refusal(
     ensures { λ r. ⌜ r ≡ firstRefusal placed ranged timely counted awaiting room ⌝ }
 {
     if !placed {
-        return scope::WRONG_ROOM;
+        return limits::WRONG_ROOM;
     }
     if !ranged {
-        return scope::OUT_OF_RANGE;
+        return limits::OUT_OF_RANGE;
     }
     if !timely {
-        return scope::DEADLINE_PASSES;
+        return limits::DEADLINE_PASSES;
     }
     if !counted {
-        return scope::COUNTS_FULL;
+        return limits::COUNTS_FULL;
     }
     if !awaiting {
-        return scope::NOT_AWAITING;
+        return limits::NOT_AWAITING;
     }
     if !room {
-        return scope::QUEUE_FULL;
+        return limits::QUEUE_FULL;
     }
     0
 }
@@ -152,7 +152,7 @@ pub fn first_refusal(
 fn ring_fits(ring: Ring) -> bool
     ensures { λ r. ⌜ r ≡ ringFits ring ⌝ }
 {
-    (ring.head < scope::CAPACITY) & (ring.len <= scope::CAPACITY)
+    (ring.head < limits::CAPACITY) & (ring.len <= limits::CAPACITY)
 }
 
 // Refusal 5, the part of the state: whether every ring and the number of seen offsets are in bounds.
@@ -165,7 +165,7 @@ pub fn rings_fit(ledger: Ledger) -> bool
     let probes = tables.probes;
     let direct = counts.direct;
     let window = direct.window;
-    ring_fits(keys) & ring_fits(probes) & (direct::seen_in(window) <= scope::CAPACITY)
+    ring_fits(keys) & ring_fits(probes) & (direct::seen_in(window) <= limits::CAPACITY)
 }
 
 fn counts_fit(counts: Counts) -> bool
@@ -187,7 +187,7 @@ pub fn room_for_call(ledger: Ledger) -> bool
     ensures { λ r. ⌜ r ≡ roomForCall ledger ⌝ }
 {
     let counts = ledger.counts;
-    (ledger.calls < scope::MOST_CALLS) & counts_fit(counts)
+    (ledger.calls < limits::MOST_CALLS) & counts_fit(counts)
 }
 
 pub fn needs_burst_wait(ledger: Ledger) -> bool

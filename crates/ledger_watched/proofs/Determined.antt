@@ -16,9 +16,9 @@ use denote.Ref.{now}
 use Rattle.determined.specs.Determines.{Determines}
 use Rattle.determined.proofs.Facts.{both-say}
 use lib.ListN.{length}
-use Rattle.calls.specs.declared.SentProbe.{SentProbe}
-use Rattle.calls.specs.declared.Reply.{Reply}
-use Rattle.probe_queue.specs.declared.Probe.{Probe}
+use Rattle.call_types.specs.declared.SentProbe.{SentProbe}
+use Rattle.call_types.specs.declared.Reply.{Reply}
+use Rattle.probe_queue.specs.declared.QueuedProbe.{QueuedProbe}
 use Rattle.probe_queue.specs.Queue.{choose}
 use Rattle.monitor.specs.declared.Monitor.{Monitor}
 use Rattle.monitor.specs.Refusals.{misplaced, counted, passing, crowded, refusalOf, refusalOfSent}
@@ -27,8 +27,8 @@ use Rattle.replies.proofs.Tested.{both}
 use Rattle.ledger_state.specs.declared.Ledger.{Ledger}
 use Rattle.ledger_state.specs.Refusal.{firstRefusal, sized, ringsFit, roomForCall}
 use Rattle.ledger_state.proofs.Served.{served, not-refused}
-use Rattle.ledger_steps.specs.declared.Answer.{Answer}
-use Rattle.ledger_steps.specs.declared.Answer.the-variants as answer
+use Rattle.ledger_steps.specs.declared.LedgerAnswer.{LedgerAnswer}
+use Rattle.ledger_steps.specs.declared.LedgerAnswer.the-variants as answer
 use Rattle.ledger_steps.specs.declared.AcceptAnswer.{AcceptAnswer}
 use Rattle.ledger_steps.specs.declared.AcceptAnswer.the-variants as accepts
 use Rattle.ledger_steps.specs.Refusals as refusals
@@ -98,12 +98,12 @@ monitor-table m room = lines (misplaced m room) (counted (m .summary))
 
 -- ---- the number of an answer: of several tests of both parts that fail, the first in table order
 
-number-is : (x : Answer) (m : Monitor) → number (bothSent x m) ≡ ledger.number x
+number-is : (x : LedgerAnswer) (m : Monitor) → number (bothSent x m) ≡ ledger.number x
 number-is (answer.Served l) m = refl
 number-is (answer.Refused n) m = refl
 
 pub sent-number :
-    (l : Ledger) (m : Monitor) (probes links : List (List ℕ)) (queue : List Probe) (s : SentProbe) →
+    (l : Ledger) (m : Monitor) (probes links : List (List ℕ)) (queue : List QueuedProbe) (s : SentProbe) →
     number (sentTo l m probes links queue s .answer)
     ≡ firstRefusal (sized (length probes) && sized (length links) && ringsFit l && not (misplaced m (length queue))) true (not (passing m (s .packet .time)))
     (roomForCall l && not (counted (m .summary))) true (not (crowded m))
@@ -136,7 +136,7 @@ ledger-accept-number other l keys slots probes links a =
     ledger-number-by (refusals.refusalOfAccept other l (length keys) (length slots) (length probes) (length links)) (acceptOn l keys slots probes links a) keys slots probes links
 
 pub accept-number :
-    (l : Ledger) (m : Monitor) (keys slots probes links : List (List ℕ)) (queue : List Probe) (a : Reply) →
+    (l : Ledger) (m : Monitor) (keys slots probes links : List (List ℕ)) (queue : List QueuedProbe) (a : Reply) →
     acceptNumber (acceptTo l m keys slots probes links queue a .answer)
     ≡ firstRefusal
     (sized (length keys) && sized (length slots) && sized (length probes) && sized (length links) && ringsFit l && not (misplaced m (length queue)))
@@ -154,7 +154,7 @@ accept-number l m keys slots probes links queue a =
 -- ---- where the monitor refuses, the call is refused
 
 pub sent-served-by-both :
-    (l : Ledger) (m : Monitor) (probes links : List (List ℕ)) (queue : List Probe) (s : SentProbe) →
+    (l : Ledger) (m : Monitor) (probes links : List (List ℕ)) (queue : List QueuedProbe) (s : SentProbe) →
     number (sentTo l m probes links queue s .answer) ≡ 0 → refusalOfSent m (length queue) (s .packet .time) ≡ 0
 sent-served-by-both l m probes links queue s h =
     let placed = sized (length probes) && sized (length links) && ringsFit l in
@@ -174,7 +174,7 @@ sent-served-by-both l m probes links queue s h =
     })
 
 pub accept-served-by-both :
-    (l : Ledger) (m : Monitor) (keys slots probes links : List (List ℕ)) (queue : List Probe) (a : Reply) →
+    (l : Ledger) (m : Monitor) (keys slots probes links : List (List ℕ)) (queue : List QueuedProbe) (a : Reply) →
     acceptNumber (acceptTo l m keys slots probes links queue a .answer) ≡ 0 → refusalOf m (length queue) ≡ 0
 accept-served-by-both l m keys slots probes links queue a h =
     let placed = sized (length keys) && sized (length slots) && sized (length probes) && sized (length links) && ringsFit l in
@@ -193,16 +193,16 @@ accept-served-by-both l m keys slots probes links queue a h =
 
 -- ---- a refusal, for whichever part's sake, changes neither
 
-stays-sent : (m : Monitor) (queue : List Probe) (sequence time : ℕ) → sentIf false m queue sequence time ≡ unchanged m queue
+stays-sent : (m : Monitor) (queue : List QueuedProbe) (sequence time : ℕ) → sentIf false m queue sequence time ≡ unchanged m queue
 unfolding sentIf
 stays-sent m queue sequence time = refl
 
-refused-of : (x : Answer) (m : Monitor) (n : ℕ) → bothSent x m ≡ watched.Refused n → x ≡ answer.Refused n
+refused-of : (x : LedgerAnswer) (m : Monitor) (n : ℕ) → bothSent x m ≡ watched.Refused n → x ≡ answer.Refused n
 refused-of (answer.Served l) m n e = absurd (let z : _≡_ {A = ℕ} 0 1 = cc in omega arith)
 refused-of (answer.Refused k) m n e = ap answer.Refused (ap number e)
 
 pub sent-refused :
-    (l : Ledger) (m : Monitor) (probes links : List (List ℕ)) (queue : List Probe) (s : SentProbe) (n : ℕ) →
+    (l : Ledger) (m : Monitor) (probes links : List (List ℕ)) (queue : List QueuedProbe) (s : SentProbe) (n : ℕ) →
     sentTo l m probes links queue s .answer ≡ watched.Refused n →
     sentTo l m probes links queue s ≡ sentResult (watched.Refused n) probes links queue
 unfolding sentTo
@@ -213,7 +213,7 @@ sent-refused l m probes links queue s n e =
     (sent.sent-refused other l probes links s n (refused-of (r .answer) (sentIf (wasServed (r .answer)) m queue (s .sequence) (s .packet .time) .monitor) n e) .1)
     ∙ ap (sentWith (ledger.sentResult (answer.Refused n) probes links)) (stays-sent m queue (s .sequence) (s .packet .time))
 
-stays-reply : (m : Monitor) (queue : List Probe) (sender : ℕ) → replyIf false m queue sender ≡ unchanged m queue
+stays-reply : (m : Monitor) (queue : List QueuedProbe) (sender : ℕ) → replyIf false m queue sender ≡ unchanged m queue
 unfolding replyIf
 stays-reply m queue sender = refl
 
@@ -222,7 +222,7 @@ accept-refused-of (accepts.Served l a) m n e = absurd (let z : _≡_ {A = ℕ} 0
 accept-refused-of (accepts.Refused k) m n e = ap accepts.Refused (ap acceptNumber e)
 
 pub accept-refused :
-    (l : Ledger) (m : Monitor) (keys slots probes links : List (List ℕ)) (queue : List Probe) (a : Reply) (n : ℕ) →
+    (l : Ledger) (m : Monitor) (keys slots probes links : List (List ℕ)) (queue : List QueuedProbe) (a : Reply) (n : ℕ) →
     acceptTo l m keys slots probes links queue a .answer ≡ watchedAccept.Refused n →
     acceptTo l m keys slots probes links queue a ≡ acceptResult (watchedAccept.Refused n) keys slots probes links queue
 unfolding acceptTo

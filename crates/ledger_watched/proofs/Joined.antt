@@ -4,14 +4,14 @@ use mathlib.Core.Bool.{Bool}
 use mathlib.Core.List.{List}
 use Prim.Native.Nat.{ℕ}
 use lib.ListN.{length}
-use Rattle.calls.specs.declared.SentProbe.{SentProbe}
-use Rattle.calls.specs.declared.Reply.{Reply}
-use Rattle.probe_queue.specs.declared.Probe.{Probe}
+use Rattle.call_types.specs.declared.SentProbe.{SentProbe}
+use Rattle.call_types.specs.declared.Reply.{Reply}
+use Rattle.probe_queue.specs.declared.QueuedProbe.{QueuedProbe}
 use Rattle.monitor.specs.declared.Monitor.{Monitor}
 use Rattle.monitor.specs.Refusals.{refusalOf, refusalOfSent}
 use Rattle.monitor.specs.Operations.{Leaves, sentIf, replyIf}
 use Rattle.ledger_state.specs.declared.Ledger.{Ledger}
-use Rattle.ledger_steps.specs.declared.Answer.{Answer}
+use Rattle.ledger_steps.specs.declared.LedgerAnswer.{LedgerAnswer}
 use Rattle.ledger_steps.specs.declared.AcceptAnswer.{AcceptAnswer}
 use Rattle.ledger_steps.specs.Calls as ledger
 use Rattle.link_steps.specs.Steps.{wasServed, wasUnique}
@@ -20,8 +20,8 @@ use Rattle.ledger_watched.specs.declared.WatchedAccept.{WatchedAccept}
 use Rattle.ledger_watched.specs.Watched.{bothSent, sentResult, sentWith, sentBy, sentTo, bothAccept, acceptResult, acceptWith, acceptBy, acceptTo}
 
 pub sent-joined :
-    (l : Ledger) (m : Monitor) (probes links : List (List ℕ)) (queue : List Probe) (s : SentProbe)
-    (time sequence other : ℕ) (answer : Answer) (probes′ links′ : List (List ℕ)) (go : Bool) (next : Monitor) (queue′ : List Probe) (r : WatchedAnswer) →
+    (l : Ledger) (m : Monitor) (probes links : List (List ℕ)) (queue : List QueuedProbe) (s : SentProbe)
+    (time sequence other : ℕ) (answer : LedgerAnswer) (probes′ links′ : List (List ℕ)) (go : Bool) (next : Monitor) (queue′ : List QueuedProbe) (r : WatchedAnswer) →
     time ≡ s .packet .time → sequence ≡ s .sequence → other ≡ refusalOfSent m (length queue) time →
     ledger.sentResult answer probes′ links′ ≡ ledger.sentTo other l probes links s → go ≡ wasServed answer →
     Leaves (sentIf go m queue sequence time) next queue′ → r ≡ bothSent answer next →
@@ -36,8 +36,8 @@ sent-joined l m probes links queue s time sequence other answer probes′ links�
     ∙ (λ i. sentBy (ledger.sentTo (refusalOfSent m (length queue) (et i)) l probes links s) m queue s)
 
 pub accept-joined :
-    (l : Ledger) (m : Monitor) (keys slots probes links : List (List ℕ)) (queue : List Probe) (a : Reply)
-    (sender other : ℕ) (answer : AcceptAnswer) (keys′ slots′ probes′ links′ : List (List ℕ)) (go : Bool) (next : Monitor) (queue′ : List Probe) (r : WatchedAccept) →
+    (l : Ledger) (m : Monitor) (keys slots probes links : List (List ℕ)) (queue : List QueuedProbe) (a : Reply)
+    (sender other : ℕ) (answer : AcceptAnswer) (keys′ slots′ probes′ links′ : List (List ℕ)) (go : Bool) (next : Monitor) (queue′ : List QueuedProbe) (r : WatchedAccept) →
     sender ≡ a .key .sender → other ≡ refusalOf m (length queue) →
     ledger.acceptResult answer keys′ slots′ probes′ links′ ≡ ledger.acceptTo other l keys slots probes links a → go ≡ wasUnique answer →
     Leaves (replyIf go m queue sender) next queue′ → r ≡ bothAccept answer next →

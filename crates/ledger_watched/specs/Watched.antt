@@ -4,15 +4,15 @@
 use mathlib.Core.List.{List}
 use Prim.Native.Nat.{ℕ}
 use lib.ListN.{length}
-use Rattle.calls.specs.declared.SentProbe.{SentProbe}
-use Rattle.calls.specs.declared.Reply.{Reply}
-use Rattle.probe_queue.specs.declared.Probe.{Probe}
+use Rattle.call_types.specs.declared.SentProbe.{SentProbe}
+use Rattle.call_types.specs.declared.Reply.{Reply}
+use Rattle.probe_queue.specs.declared.QueuedProbe.{QueuedProbe}
 use Rattle.monitor.specs.declared.Monitor.{Monitor}
 use Rattle.monitor.specs.Refusals as monitor
 use Rattle.monitor.specs.Operations.{Stand, sentIf, replyIf}
 use Rattle.ledger_state.specs.declared.Ledger.{Ledger}
-use Rattle.ledger_steps.specs.declared.Answer.{Answer}
-use Rattle.ledger_steps.specs.declared.Answer.the-variants as answer
+use Rattle.ledger_steps.specs.declared.LedgerAnswer.{LedgerAnswer}
+use Rattle.ledger_steps.specs.declared.LedgerAnswer.the-variants as answer
 use Rattle.ledger_steps.specs.declared.AcceptAnswer.{AcceptAnswer}
 use Rattle.ledger_steps.specs.declared.AcceptAnswer.the-variants as accepts
 use Rattle.ledger_steps.specs.Calls as ledger
@@ -41,14 +41,14 @@ pub record SentResult : Type 0 where
   pub answer : WatchedAnswer
   pub probes : List (List ℕ)
   pub links : List (List ℕ)
-  pub queue : List Probe
+  pub queue : List QueuedProbe
 
 -- the result of a `sent` with a monitor, made of its answer, the rooms and the queue
-abbrev pub sentResult : WatchedAnswer → List (List ℕ) → List (List ℕ) → List Probe → SentResult
+abbrev pub sentResult : WatchedAnswer → List (List ℕ) → List (List ℕ) → List QueuedProbe → SentResult
 sentResult r probes links queue = record { answer = r; probes = probes; links = links; queue = queue }
 
 -- the ledger's answer, with the monitor
-abbrev pub bothSent : Answer → Monitor → WatchedAnswer
+abbrev pub bothSent : LedgerAnswer → Monitor → WatchedAnswer
 bothSent (answer.Served l) m = watched.Served l m
 bothSent (answer.Refused n) m = watched.Refused n
 
@@ -57,11 +57,11 @@ abbrev pub sentWith : ledger.SentResult → Stand → SentResult
 sentWith r stand = sentResult (bothSent (r .answer) (stand .monitor)) (r .probes) (r .links) (stand .room)
 
 -- the monitor goes on where the ledger was served
-abbrev pub sentBy : ledger.SentResult → Monitor → List Probe → SentProbe → SentResult
+abbrev pub sentBy : ledger.SentResult → Monitor → List QueuedProbe → SentProbe → SentResult
 sentBy r m queue s = sentWith r (sentIf (wasServed (r .answer)) m queue (s .sequence) (s .packet .time))
 
 -- the ledger is refused also for the monitor's sake
-unfoldable pub sentTo : Ledger → Monitor → List (List ℕ) → List (List ℕ) → List Probe → SentProbe → SentResult
+unfoldable pub sentTo : Ledger → Monitor → List (List ℕ) → List (List ℕ) → List QueuedProbe → SentProbe → SentResult
 sentTo l m probes links queue s = sentBy (ledger.sentTo (monitor.refusalOfSent m (length queue) (s .packet .time)) l probes links s) m queue s
 
 -- ---- `accept`
@@ -73,10 +73,10 @@ pub record AcceptResult : Type 0 where
   pub slots : List (List ℕ)
   pub probes : List (List ℕ)
   pub links : List (List ℕ)
-  pub queue : List Probe
+  pub queue : List QueuedProbe
 
 -- the result of an `accept` with a monitor, made of its answer, the rooms and the queue
-abbrev pub acceptResult : WatchedAccept → List (List ℕ) → List (List ℕ) → List (List ℕ) → List (List ℕ) → List Probe → AcceptResult
+abbrev pub acceptResult : WatchedAccept → List (List ℕ) → List (List ℕ) → List (List ℕ) → List (List ℕ) → List QueuedProbe → AcceptResult
 acceptResult r keys slots probes links queue = record { answer = r; keys = keys; slots = slots; probes = probes; links = links; queue = queue }
 
 -- the ledger's answer, with the monitor where it was served
@@ -89,10 +89,10 @@ abbrev pub acceptWith : ledger.AcceptResult → Stand → AcceptResult
 acceptWith r stand = acceptResult (bothAccept (r .answer) (stand .monitor)) (r .keys) (r .slots) (r .probes) (r .links) (stand .room)
 
 -- the monitor hears a unique reply
-abbrev pub acceptBy : ledger.AcceptResult → Monitor → List Probe → Reply → AcceptResult
+abbrev pub acceptBy : ledger.AcceptResult → Monitor → List QueuedProbe → Reply → AcceptResult
 acceptBy r m queue a = acceptWith r (replyIf (wasUnique (r .answer)) m queue (a .key .sender))
 
 -- the ledger is refused also for the monitor's sake
-unfoldable pub acceptTo : Ledger → Monitor → List (List ℕ) → List (List ℕ) → List (List ℕ) → List (List ℕ) → List Probe → Reply → AcceptResult
+unfoldable pub acceptTo : Ledger → Monitor → List (List ℕ) → List (List ℕ) → List (List ℕ) → List (List ℕ) → List QueuedProbe → Reply → AcceptResult
 acceptTo l m keys slots probes links queue a =
     acceptBy (ledger.acceptTo (monitor.refusalOf m (length queue)) l keys slots probes links a) m queue a

@@ -4,14 +4,14 @@
 ghost use mathlib.Core.Path.{_≡_};
 ghost use Rattle.link_steps.specs.Steps.{isUnique, wasServed, wasUnique};
 ghost use Rattle.ledger_watched.specs.Watched.{bothSent, bothAccept, sentResult, acceptResult, sentTo, acceptTo};
-use calls::Reply;
-use calls::SentProbe;
+use call_types::Reply;
+use call_types::SentProbe;
 use ledger_state::Ledger;
 use ledger_steps::AcceptAnswer;
 use ledger_steps::Accepted;
-use ledger_steps::Answer;
+use ledger_steps::LedgerAnswer;
 use monitor::Monitor;
-use probe_queue::Probe;
+use probe_queue::QueuedProbe;
 
 // Of `sent`: the next ledger and the next monitor, or document 01's number of the refusal.
 pub enum WatchedAnswer {
@@ -45,12 +45,12 @@ fn sender_of(reply: Reply) -> u32
     key.sender
 }
 
-fn was_served(answer: Answer) -> bool
+fn was_served(answer: LedgerAnswer) -> bool
     ensures { λ r. ⌜ r ≡ wasServed answer ⌝ }
 {
     match answer {
-        Answer::Served(_) => true,
-        Answer::Refused(_) => false,
+        LedgerAnswer::Served(_) => true,
+        LedgerAnswer::Refused(_) => false,
     }
 }
 
@@ -73,12 +73,12 @@ fn was_unique(answer: AcceptAnswer) -> bool
     }
 }
 
-fn both_sent(answer: Answer, monitor: Monitor) -> WatchedAnswer
+fn both_sent(answer: LedgerAnswer, monitor: Monitor) -> WatchedAnswer
     ensures { λ r. ⌜ r ≡ bothSent answer monitor ⌝ }
 {
     match answer {
-        Answer::Served(ledger) => WatchedAnswer::Served(ledger, monitor),
-        Answer::Refused(number) => WatchedAnswer::Refused(number),
+        LedgerAnswer::Served(ledger) => WatchedAnswer::Served(ledger, monitor),
+        LedgerAnswer::Refused(number) => WatchedAnswer::Refused(number),
     }
 }
 
@@ -99,7 +99,7 @@ pub fn sent(
     monitor: Monitor,
     probes: &mut [[u64; 4]],
     links: &mut [[u16; 8]],
-    queue: &mut [Probe],
+    queue: &mut [QueuedProbe],
     probe: SentProbe,
 ) -> WatchedAnswer
     ensures { λ r. ⌜ sentResult r (now (probes .exit)) (now (links .exit)) (now (queue .exit)) ≡ sentTo ledger monitor (now (probes .entry)) (now (links .entry)) (now (queue .entry)) probe ⌝ }
@@ -122,7 +122,7 @@ pub fn accept(
     slots: &mut [[u64; 3]],
     probes: &mut [[u64; 4]],
     links: &mut [[u16; 8]],
-    queue: &mut [Probe],
+    queue: &mut [QueuedProbe],
     reply: Reply,
 ) -> WatchedAccept
     ensures { λ r. ⌜ acceptResult r (now (keys .exit)) (now (slots .exit)) (now (probes .exit)) (now (links .exit)) (now (queue .exit)) ≡ acceptTo ledger monitor (now (keys .entry)) (now (slots .entry)) (now (probes .entry)) (now (links .entry)) (now (queue .entry)) reply ⌝ }

@@ -148,7 +148,7 @@ pub fn figures_of(link: Link, records: u64, turned: u64) -> Figures
     let classes = follow.counts;
     let summary = direct::summary::summary_of(direct);
     Figures {
-        played: figures::Played {
+        played: figures::PlayedRecords {
             records,
             turned_away: turned,
         },

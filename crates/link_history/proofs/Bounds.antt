@@ -10,9 +10,9 @@ use lib.Dec.{ltb}
 use lib.IntN.{ℤ}
 use lib.ListN.{length}
 use borrow.Author.Tests.{ltb-true}
-use Rattle.scope.specs.Limits.{capacity, mostCalls, countBound, sumBound}
+use Rattle.limits.specs.Limits.{capacity, mostCalls, countBound, sumBound}
 use Rattle.estimate.specs.declared.Estimates.{Estimates}
-use Rattle.calls.specs.declared.Call.{Call}
+use Rattle.call_types.specs.declared.Call.{Call}
 use Rattle.chains.proofs.Tests.{lt-true}
 use Rattle.clock_quality.specs.Quality.{Class, isBoth, isUnsynchronized, isInvalid, isUnknown, isInvalidSender, isInvalidReflector, isInvalidBoth}
 use Rattle.clock_quality.specs.Samples as samples

@@ -5,19 +5,19 @@ use mathlib.Core.Bool.{false}
 use mathlib.Core.List.{List, [], _∷_}
 use mathlib.Core.Option.{some}
 use lib.IntN.{pos}
-use Rattle.scope.specs.Limits.{capacity}
+use Rattle.limits.specs.Limits.{capacity}
 use Rattle.estimate.specs.declared.ClockFormat.the-variants.{NTP}
 use Rattle.estimate.specs.declared.Estimates.the-variants.{Absent as NoEstimates}
-use Rattle.calls.specs.declared.PendingPacket.{PendingPacket}
-use Rattle.calls.specs.declared.Pending.the-variants.{Held}
-use Rattle.calls.specs.declared.Ordinal.the-variants.{Absent as NoOrdinal}
-use Rattle.calls.specs.declared.Counters.the-variants.{Absent as NoCounters}
-use Rattle.calls.specs.declared.Time.the-variants.{Absent as NoTime}
-use Rattle.calls.specs.declared.FollowUp.the-variants.{Absent as NoFollowUp}
-use Rattle.calls.specs.declared.ReplyKey.{ReplyKey}
-use Rattle.calls.specs.declared.ReplyObservation.{ReplyObservation}
-use Rattle.calls.specs.declared.Call.{Call}
-use Rattle.calls.specs.declared.Call.the-variants.{Sent, Accept, Observe}
+use Rattle.call_types.specs.declared.PendingPacket.{PendingPacket}
+use Rattle.call_types.specs.declared.Pending.the-variants.{Held}
+use Rattle.call_types.specs.declared.Ordinal.the-variants.{Absent as NoOrdinal}
+use Rattle.call_types.specs.declared.Counters.the-variants.{Absent as NoCounters}
+use Rattle.call_types.specs.declared.Time.the-variants.{Absent as NoTime}
+use Rattle.call_types.specs.declared.FollowUp.the-variants.{Absent as NoFollowUp}
+use Rattle.call_types.specs.declared.ReplyKey.{ReplyKey}
+use Rattle.call_types.specs.declared.ReplyObservation.{ReplyObservation}
+use Rattle.call_types.specs.declared.Call.{Call}
+use Rattle.call_types.specs.declared.Call.the-variants.{Sent, Accept, Observe}
 use Rattle.ranges.specs.Ranges.{inRange}
 use Rattle.replies.specs.declared.Reflector.the-variants.{Number}
 use Rattle.thousandths.specs.declared.Thousandths.the-variants.{Absent as NoThousandths, Known}

@@ -6,9 +6,9 @@ use mathlib.Core.List.{List, [], _∷_}
 use Prim.Native.Nat.{ℕ, zero, suc, _+_, _<_}
 use native.Mathlib.Omega.{arith}
 use lib.ListN.{length}
-use Rattle.scope.specs.Limits.{mostCalls}
-use Rattle.scope.specs.Refusals.{wrongRoom, queueFull}
-use Rattle.calls.specs.declared.Call.{Call}
+use Rattle.limits.specs.Limits.{mostCalls}
+use Rattle.limits.specs.Refusals.{wrongRoom, queueFull}
+use Rattle.call_types.specs.declared.Call.{Call}
 use Rattle.history.specs.Ledger.{copiesOf}
 use Rattle.ledger_state.specs.Refusal.{countsFit}
 use Rattle.link_steps.specs.Steps.{Standing, refuses, played, keptIf, served, oneIf, turnedAway}

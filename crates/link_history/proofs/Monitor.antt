@@ -7,17 +7,17 @@ use Prim.Native.Nat.{ℕ}
 use native.Mathlib.Omega.{arith}
 use lib.Dec.{eqb}
 use lib.ListN.{length}
-use Rattle.scope.specs.Limits.{capacity}
-use Rattle.scope.specs.Refusals.{wrongRoom, deadlinePasses, countsFull, queueFull}
-use Rattle.calls.specs.declared.SentProbe.{SentProbe}
-use Rattle.calls.specs.declared.Reply.{Reply}
-use Rattle.calls.specs.declared.ReplyObservation.{ReplyObservation}
-use Rattle.calls.specs.declared.Call.{Call}
-use Rattle.calls.specs.declared.Call.the-variants.{Sent, Accept, Observe, Advance, Idle}
-use Rattle.probe_queue.specs.declared.Probe.{Probe}
+use Rattle.limits.specs.Limits.{capacity}
+use Rattle.limits.specs.Refusals.{wrongRoom, deadlinePasses, countsFull, queueFull}
+use Rattle.call_types.specs.declared.SentProbe.{SentProbe}
+use Rattle.call_types.specs.declared.Reply.{Reply}
+use Rattle.call_types.specs.declared.ReplyObservation.{ReplyObservation}
+use Rattle.call_types.specs.declared.Call.{Call}
+use Rattle.call_types.specs.declared.Call.the-variants.{Sent, Accept, Observe, Advance, Idle}
+use Rattle.probe_queue.specs.declared.QueuedProbe.{QueuedProbe}
 use Rattle.probe_queue.specs.Queue.{choose}
 use Rattle.monitor.specs.declared.Monitor.{Monitor}
-use Rattle.monitor.specs.declared.Answer.the-variants as answer
+use Rattle.monitor.specs.declared.MonitorAnswer.the-variants as answer
 use Rattle.monitor.specs.Refusals.{misplaced, passing, counted, crowded, refusalOf, refusalOfSent}
 use Rattle.monitor.specs.Operations as monitor
 use Rattle.monitor.specs.Operations.{sentIf, replyIf, advanceIf, idleOn}
@@ -111,19 +111,19 @@ module _ (x : monitor.Stand) (marks : Marks) (ok : Kept x marks) where
 -- ---- the monitor of a link
 
 -- the plain monitor is shown, and all that keeps it so
-abbrev pub WatchFollows : Watching → List Call → Watch → List Probe → Type 0
+abbrev pub WatchFollows : Watching → List Call → Watch → List QueuedProbe → Type 0
 WatchFollows alone h Absent queue = Unit
 WatchFollows alone h (Present m) queue = ⊥
 WatchFollows (watching threshold timeout) h Absent queue = ⊥
 WatchFollows (watching threshold timeout) h (Present m) queue = Next (record { monitor = m; room = queue }) (monitorFrom threshold timeout h)
 
-pub watch-fresh : (v : Watching) (queue : List Probe) → QueueFits v queue → WatchFollows v [] (freshWatch v) queue
+pub watch-fresh : (v : Watching) (queue : List QueuedProbe) → QueueFits v queue → WatchFollows v [] (freshWatch v) queue
 unfolding monitorFrom
 watch-fresh alone queue fit = tt
 watch-fresh (watching threshold timeout) queue fit = (λ s. false, (refl, begins threshold timeout queue fit))
 
 module _ (h : List Call) where
-  pub watch-sent : (v : Watching) (w : Watch) (queue : List Probe) (s : SentProbe) → watchRefusesSent w (length queue) s ≡ 0 → WatchFollows v h w queue
+  pub watch-sent : (v : Watching) (w : Watch) (queue : List QueuedProbe) (s : SentProbe) → watchRefusesSent w (length queue) s ≡ 0 → WatchFollows v h w queue
       → WatchFollows v (Sent s ∷ h) (watchSent true w queue s .watch) (watchSent true w queue s .queue)
   unfolding monitorFrom
   watch-sent alone Absent queue s e f = tt
@@ -134,7 +134,7 @@ module _ (h : List Call) where
       (sent-next (record { monitor = m; room = queue }) (f .0) (f .1 .1) (s .sequence) (s .packet .time) e)
 
   -- a unique reply
-  watch-unique : (v : Watching) (w : Watch) (queue : List Probe) (a : Reply) → watchRefuses w (length queue) ≡ 0 → unique? capacity (a .key) (packetOf (a .pending)) (events capacity h) ≡ true
+  watch-unique : (v : Watching) (w : Watch) (queue : List QueuedProbe) (a : Reply) → watchRefuses w (length queue) ≡ 0 → unique? capacity (a .key) (packetOf (a .pending)) (events capacity h) ≡ true
       → WatchFollows v h w queue → WatchFollows v (Accept a ∷ h) (watchReply true w queue a .watch) (watchReply true w queue a .queue)
   unfolding monitorFrom
   watch-unique alone Absent queue a e u f = tt
@@ -145,7 +145,7 @@ module _ (h : List Call) where
       (reply-next (record { monitor = m; room = queue }) (f .0) (f .1 .1) (a .key .sender) e))
 
   -- another
-  watch-other : (v : Watching) (w : Watch) (queue : List Probe) (a : Reply) → unique? capacity (a .key) (packetOf (a .pending)) (events capacity h) ≡ false
+  watch-other : (v : Watching) (w : Watch) (queue : List QueuedProbe) (a : Reply) → unique? capacity (a .key) (packetOf (a .pending)) (events capacity h) ≡ false
       → WatchFollows v h w queue → WatchFollows v (Accept a ∷ h) w queue
   unfolding monitorFrom
   watch-other alone Absent queue a u f = tt
@@ -163,7 +163,7 @@ module _ (h : List Call) where
       go unknown = refl
       go unique = refl
 
-  pub watch-accept : (v : Watching) (w : Watch) (queue : List Probe) (a : Reply) → watchRefuses w (length queue) ≡ 0 → WatchFollows v h w queue
+  pub watch-accept : (v : Watching) (w : Watch) (queue : List QueuedProbe) (a : Reply) → watchRefuses w (length queue) ≡ 0 → WatchFollows v h w queue
       → WatchFollows v (Accept a ∷ h) (watchReply (isUnique (acceptedFrom h a)) w queue a .watch) (watchReply (isUnique (acceptedFrom h a)) w queue a .queue)
   watch-accept v w queue a e f = go (isUnique (acceptedFrom h a)) refl
     where
@@ -171,14 +171,14 @@ module _ (h : List Call) where
       go true u = watch-unique v w queue a e (sym (says-unique a) ∙ u) f
       go false u = rw (reply-off w queue a) (watch-other v w queue a (sym (says-unique a) ∙ u) f)
 
-  pub watch-observe : (v : Watching) (w : Watch) (queue : List Probe) (o : ReplyObservation) → WatchFollows v h w queue → WatchFollows v (Observe o ∷ h) w queue
+  pub watch-observe : (v : Watching) (w : Watch) (queue : List QueuedProbe) (o : ReplyObservation) → WatchFollows v h w queue → WatchFollows v (Observe o ∷ h) w queue
   unfolding monitorFrom
   watch-observe alone Absent queue o f = tt
   watch-observe alone (Present m) queue o f = absurd f
   watch-observe (watching threshold timeout) Absent queue o f = absurd f
   watch-observe (watching threshold timeout) (Present m) queue o f = f
 
-  pub watch-advance : (v : Watching) (w : Watch) (queue : List Probe) (t : ℕ) → watchRefuses w (length queue) ≡ 0 → WatchFollows v h w queue
+  pub watch-advance : (v : Watching) (w : Watch) (queue : List QueuedProbe) (t : ℕ) → watchRefuses w (length queue) ≡ 0 → WatchFollows v h w queue
       → WatchFollows v (Advance t ∷ h) (watchAdvance w queue t .watch) (watchAdvance w queue t .queue)
   unfolding monitorFrom
   watch-advance alone Absent queue t e f = tt
@@ -187,7 +187,7 @@ module _ (h : List Call) where
   watch-advance (watching threshold timeout) (Present m) queue t e f =
       subst (λ (q : Plain). Next (advanceIf true m queue t) (advance q t)) (sym (f .1 .0)) (advance-next (record { monitor = m; room = queue }) (f .0) (f .1 .1) t e)
 
-  pub watch-idle : (v : Watching) (w : Watch) (queue : List Probe) → watchRefuses w capacity ≡ 0 → WatchFollows v h w queue
+  pub watch-idle : (v : Watching) (w : Watch) (queue : List QueuedProbe) → watchRefuses w capacity ≡ 0 → WatchFollows v h w queue
       → WatchFollows v (Idle ∷ h) (watchIdle w queue .watch) (watchIdle w queue .queue)
   unfolding monitorFrom
   watch-idle alone Absent queue e f = tt
@@ -198,7 +198,7 @@ module _ (h : List Call) where
 
 -- ---- what is shown
 
-pub watch-shown : (v : Watching) (h : List Call) (w : Watch) (queue : List Probe) → WatchFollows v h w queue → WatchShows v h w queue
+pub watch-shown : (v : Watching) (h : List Call) (w : Watch) (queue : List QueuedProbe) → WatchFollows v h w queue → WatchShows v h w queue
 watch-shown alone h Absent queue f = tt
 watch-shown alone h (Present m) queue f = f
 watch-shown (watching threshold timeout) h Absent queue f = f

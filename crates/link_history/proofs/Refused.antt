@@ -8,14 +8,14 @@ use native.Mathlib.Omega.{arith}
 use lib.Dec.{ltb, leb}
 use lib.ListN.{length}
 use borrow.Author.Tests.{leb-true}
-use Rattle.scope.specs.Limits.{capacity, mostCalls}
-use Rattle.scope.specs.Refusals.{wrongRoom, deadlinePasses, countsFull, queueFull}
-use Rattle.calls.specs.declared.SentProbe.{SentProbe}
-use Rattle.calls.specs.declared.ReplyObservation.{ReplyObservation}
-use Rattle.calls.specs.declared.Call.{Call}
-use Rattle.calls.specs.declared.Call.the-variants.{Sent, Accept, Observe, Advance, Idle}
+use Rattle.limits.specs.Limits.{capacity, mostCalls}
+use Rattle.limits.specs.Refusals.{wrongRoom, deadlinePasses, countsFull, queueFull}
+use Rattle.call_types.specs.declared.SentProbe.{SentProbe}
+use Rattle.call_types.specs.declared.ReplyObservation.{ReplyObservation}
+use Rattle.call_types.specs.declared.Call.{Call}
+use Rattle.call_types.specs.declared.Call.the-variants.{Sent, Accept, Observe, Advance, Idle}
 use Rattle.chains.proofs.Tests.{true-not-false}
-use Rattle.probe_queue.specs.declared.Probe.{Probe}
+use Rattle.probe_queue.specs.declared.QueuedProbe.{QueuedProbe}
 use Rattle.probe_queue.specs.Queue.{choose}
 use Rattle.monitor.specs.Refusals as monitor
 use Rattle.monitor_model.specs.Plain.{Plain, refusal, sentRefusal}
@@ -60,30 +60,30 @@ observe-number (suc n) o slots offsets links = refl
 -- ---- the monitor's refusals
 
 module _ (v : Watching) (h : List Call) where
-  sent-other : (w : Watch) (queue : List Probe) (s : SentProbe) → WatchFollows v h w queue → watchRefusesSent w (length queue) s ≡ monitorRefusesSent v h (s .packet .time)
+  sent-other : (w : Watch) (queue : List QueuedProbe) (s : SentProbe) → WatchFollows v h w queue → watchRefusesSent w (length queue) s ≡ monitorRefusesSent v h (s .packet .time)
   sent-other = by v
     where
-      by : (x : Watching) (w : Watch) (queue : List Probe) (s : SentProbe) → WatchFollows x h w queue → watchRefusesSent w (length queue) s ≡ monitorRefusesSent x h (s .packet .time)
+      by : (x : Watching) (w : Watch) (queue : List QueuedProbe) (s : SentProbe) → WatchFollows x h w queue → watchRefusesSent w (length queue) s ≡ monitorRefusesSent x h (s .packet .time)
       by alone Absent queue s f = refl
       by alone (Present m) queue s f = absurd f
       by (watching threshold timeout) Absent queue s f = absurd f
       by (watching threshold timeout) (Present m) queue s f =
           same-sent-refusal (record { monitor = m; room = queue }) (f .0) (f .1 .1) (s .packet .time) ∙ ap (λ (p : Plain). sentRefusal p (s .packet .time)) (sym (f .1 .0))
 
-  other : (w : Watch) (queue : List Probe) → WatchFollows v h w queue → watchRefuses w (length queue) ≡ monitorRefuses v h
+  other : (w : Watch) (queue : List QueuedProbe) → WatchFollows v h w queue → watchRefuses w (length queue) ≡ monitorRefuses v h
   other = by v
     where
-      by : (x : Watching) (w : Watch) (queue : List Probe) → WatchFollows x h w queue → watchRefuses w (length queue) ≡ monitorRefuses x h
+      by : (x : Watching) (w : Watch) (queue : List QueuedProbe) → WatchFollows x h w queue → watchRefuses w (length queue) ≡ monitorRefuses x h
       by alone Absent queue f = refl
       by alone (Present m) queue f = absurd f
       by (watching threshold timeout) Absent queue f = absurd f
       by (watching threshold timeout) (Present m) queue f = same-refusal (record { monitor = m; room = queue }) (f .0) (f .1 .1) ∙ ap refusal (sym (f .1 .0))
 
   -- `idle` is lent no room
-  idle-other : (w : Watch) (queue : List Probe) → WatchFollows v h w queue → watchRefuses w capacity ≡ monitorRefuses v h
+  idle-other : (w : Watch) (queue : List QueuedProbe) → WatchFollows v h w queue → watchRefuses w capacity ≡ monitorRefuses v h
   idle-other = by v
     where
-      by : (x : Watching) (w : Watch) (queue : List Probe) → WatchFollows x h w queue → watchRefuses w capacity ≡ monitorRefuses x h
+      by : (x : Watching) (w : Watch) (queue : List QueuedProbe) → WatchFollows x h w queue → watchRefuses w capacity ≡ monitorRefuses x h
       by alone Absent queue f = refl
       by alone (Present m) queue f = absurd f
       by (watching threshold timeout) Absent queue f = absurd f

@@ -9,10 +9,10 @@ use Prim.Native.Nat.{ℕ, zero, suc, _+_, _≤_}
 use native.Mathlib.Omega.{arith}
 use lib.Dec.{eqb}
 use lib.ListN.{length, getD}
-use Rattle.scope.specs.Limits.{capacity}
-use Rattle.calls.specs.declared.Reply.{Reply}
-use Rattle.calls.specs.declared.Call.{Call}
-use Rattle.calls.specs.declared.Call.the-variants.{Accept}
+use Rattle.limits.specs.Limits.{capacity}
+use Rattle.call_types.specs.declared.Reply.{Reply}
+use Rattle.call_types.specs.declared.Call.{Call}
+use Rattle.call_types.specs.declared.Call.the-variants.{Accept}
 use Rattle.chains.specs.Hash.{numberHash}
 use Rattle.chains.proofs.Contents.{length-contents}
 use Rattle.chains.proofs.Tests.{eq-false, true-not-false}

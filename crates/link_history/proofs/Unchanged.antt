@@ -6,14 +6,14 @@ use mathlib.Core.List.{List}
 use Prim.Native.Nat.{ℕ, zero, suc}
 use native.Mathlib.Omega.{arith}
 use lib.ListN.{length}
-use Rattle.scope.specs.Limits.{capacity}
-use Rattle.calls.specs.declared.SentProbe.{SentProbe}
-use Rattle.calls.specs.declared.Reply.{Reply}
-use Rattle.calls.specs.declared.ReplyObservation.{ReplyObservation}
-use Rattle.calls.specs.declared.Call.{Call}
-use Rattle.calls.specs.declared.Call.the-variants.{Sent, Accept, Observe, Advance, Idle}
+use Rattle.limits.specs.Limits.{capacity}
+use Rattle.call_types.specs.declared.SentProbe.{SentProbe}
+use Rattle.call_types.specs.declared.Reply.{Reply}
+use Rattle.call_types.specs.declared.ReplyObservation.{ReplyObservation}
+use Rattle.call_types.specs.declared.Call.{Call}
+use Rattle.call_types.specs.declared.Call.the-variants.{Sent, Accept, Observe, Advance, Idle}
 use Rattle.chains.proofs.Tests.{eq-false}
-use Rattle.probe_queue.specs.declared.Probe.{Probe}
+use Rattle.probe_queue.specs.declared.QueuedProbe.{QueuedProbe}
 use Rattle.monitor.specs.Operations.{sentIf, replyIf, advanceIf}
 use Rattle.ledger_steps.specs.Refusals.{refusalOfSent, refusalOfAccept, refusalOfObserve}
 use Rattle.ledger_steps.specs.Sent.{SentOutcome, sentOn}
@@ -25,27 +25,27 @@ use Rattle.link_steps.specs.declared.Watch.the-variants.{Absent, Present}
 use Rattle.link_steps.specs.Steps.{Standing, Watched, standing, watchRefusesSent, watchRefuses, watchSent, watchReply, watchAdvance, watchIdle, sentLeaves, acceptLeaves, observeLeaves, refuses, after}
 
 -- a monitor and its queue, as they are
-abbrev pub kept : Watch → List Probe → Watched
+abbrev pub kept : Watch → List QueuedProbe → Watched
 kept w queue = record { watch = w; queue = queue }
 
 -- ---- the monitor, where the call does not go on or is refused
 
-sent-off : (w : Watch) (queue : List Probe) (s : SentProbe) → watchSent false w queue s ≡ kept w queue
+sent-off : (w : Watch) (queue : List QueuedProbe) (s : SentProbe) → watchSent false w queue s ≡ kept w queue
 unfolding sentIf
 sent-off Absent queue s = refl
 sent-off (Present m) queue s = refl
 
-pub reply-off : (w : Watch) (queue : List Probe) (a : Reply) → watchReply false w queue a ≡ kept w queue
+pub reply-off : (w : Watch) (queue : List QueuedProbe) (a : Reply) → watchReply false w queue a ≡ kept w queue
 unfolding replyIf
 reply-off Absent queue a = refl
 reply-off (Present m) queue a = refl
 
-advance-off : (w : Watch) (queue : List Probe) (t n : ℕ) → watchRefuses w (length queue) ≡ suc n → watchAdvance w queue t ≡ kept w queue
+advance-off : (w : Watch) (queue : List QueuedProbe) (t n : ℕ) → watchRefuses w (length queue) ≡ suc n → watchAdvance w queue t ≡ kept w queue
 unfolding advanceIf
 advance-off Absent queue t n e = refl
 advance-off (Present m) queue t n e = rw (e, eq-false (suc n) 0 (λ q. omega (arith, q)))
 
-idle-off : (w : Watch) (queue : List Probe) (n : ℕ) → watchRefuses w capacity ≡ suc n → watchIdle w queue ≡ kept w queue
+idle-off : (w : Watch) (queue : List QueuedProbe) (n : ℕ) → watchRefuses w capacity ≡ suc n → watchIdle w queue ≡ kept w queue
 idle-off Absent queue n e = refl
 idle-off (Present m) queue n e = rw (e, eq-false (suc n) 0 (λ q. omega (arith, q)))
 

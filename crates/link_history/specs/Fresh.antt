@@ -4,10 +4,10 @@ use mathlib.Core.Path.{_≡_}
 use mathlib.Core.List.{List, [], _∷_}
 use Prim.Native.Nat.{ℕ, _^_, _<_}
 use lib.ListN.{length}
-use Rattle.scope.specs.Limits.{capacity}
-use Rattle.calls.specs.declared.Call.{Call}
-use Rattle.calls.specs.declared.Call.the-variants.{Sent, Accept, Observe, Advance, Idle}
-use Rattle.probe_queue.specs.declared.Probe.{Probe}
+use Rattle.limits.specs.Limits.{capacity}
+use Rattle.call_types.specs.declared.Call.{Call}
+use Rattle.call_types.specs.declared.Call.the-variants.{Sent, Accept, Observe, Advance, Idle}
+use Rattle.probe_queue.specs.declared.QueuedProbe.{QueuedProbe}
 use Rattle.monitor.specs.Operations.{fresh}
 use Rattle.ledger_state.specs.State.{freshLedger, hashWords}
 use Rattle.ledger_steps.specs.Rooms.{Rooms, Stand}
@@ -31,10 +31,10 @@ pub record Making : Type 0 where
   pub secret : List ℕ
   pub monitor : Watching
   pub rooms : Rooms
-  pub queue : List Probe
+  pub queue : List QueuedProbe
 
 -- the room of the queue has the right size; without a monitor it is not looked at
-abbrev pub QueueFits : Watching → List Probe → Type 0
+abbrev pub QueueFits : Watching → List QueuedProbe → Type 0
 QueueFits alone queue = Unit
 QueueFits (watching threshold timeout) queue = length queue ≡ capacity
 

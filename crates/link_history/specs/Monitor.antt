@@ -5,10 +5,10 @@ use mathlib.Core.Path.{_≡_}
 use mathlib.Core.Bool.{cond}
 use mathlib.Core.List.{List, [], _∷_}
 use Prim.Native.Nat.{ℕ}
-use Rattle.scope.specs.Limits.{capacity}
-use Rattle.calls.specs.declared.Call.{Call}
-use Rattle.calls.specs.declared.Call.the-variants.{Sent, Accept, Observe, Advance, Idle}
-use Rattle.probe_queue.specs.declared.Probe.{Probe}
+use Rattle.limits.specs.Limits.{capacity}
+use Rattle.call_types.specs.declared.Call.{Call}
+use Rattle.call_types.specs.declared.Call.the-variants.{Sent, Accept, Observe, Advance, Idle}
+use Rattle.probe_queue.specs.declared.QueuedProbe.{QueuedProbe}
 use Rattle.monitor.specs.declared.Monitor.{Monitor}
 use Rattle.monitor.specs.Answers.{deadlineOf}
 use Rattle.monitor_model.specs.Plain.{Plain, new, sent, reply, advance, idle, deadline}
@@ -30,12 +30,12 @@ monitorFrom threshold timeout (Advance t ∷ h) = advance (monitorFrom threshold
 monitorFrom threshold timeout (Idle ∷ h) = idle (monitorFrom threshold timeout h)
 
 -- its summary, whether it is transmitting, its queued probes and its marks, and the deadline that it answers
-pub record MonitorShows (m : Monitor) (queue : List Probe) (p : Plain) : Type 0 where
+pub record MonitorShows (m : Monitor) (queue : List QueuedProbe) (p : Plain) : Type 0 where
   pub state : Shows (record { monitor = m; room = queue }) p
   pub deadline-is : deadlineOf m queue ≡ deadline (p .probes)
 
 -- WHAT THE MONITOR OF A LINK SHOWS IS WHAT THE SERVED CALLS h CALL FOR; a link made without a monitor has none.
-abbrev pub WatchShows : Watching → List Call → Watch → List Probe → Type 0
+abbrev pub WatchShows : Watching → List Call → Watch → List QueuedProbe → Type 0
 WatchShows alone h Absent queue = Unit
 WatchShows alone h (Present m) queue = ⊥
 WatchShows (watching threshold timeout) h Absent queue = ⊥

@@ -6,8 +6,8 @@ use mathlib.Core.List.{List}
 use mathlib.Core.Option.{some}
 use Prim.Native.Nat.{ℕ, _<_, _^_}
 use lib.ListN.{length}
-use Rattle.scope.specs.Limits.{capacity}
-use Rattle.probe_queue.specs.declared.Probe.{Probe}
+use Rattle.limits.specs.Limits.{capacity}
+use Rattle.probe_queue.specs.declared.QueuedProbe.{QueuedProbe}
 use Rattle.monitor.specs.Operations.{Stand}
 use Rattle.monitor_model.specs.Plain.{Plain, new}
 use Rattle.monitor_model.proofs.Standing.{Next}
@@ -20,10 +20,10 @@ use Rattle.link_steps.specs.Steps.{Standing}
 use Rattle.link_history.specs.Fresh.{Watching, watching, Making, MakingFits}
 use Rattle.host_monitor_model.specs.Hosted.{Lent, said, begun, Typed}
 use Rattle.host_monitor_model.proofs.Follows.{agrees, begins}
-use Rattle.host_link.specs.Hosted.{HostLink, told, hostFresh}
-use Rattle.host_link.specs.Hosted as hosted
-use Rattle.host_link.proofs.Link as agreeing
-use Rattle.host_link.proofs.Shows as shown
+use Rattle.host_link_history.specs.Hosted.{HostLink, told, hostFresh}
+use Rattle.host_link_history.specs.Hosted as hosted
+use Rattle.host_link_history.proofs.Link as agreeing
+use Rattle.host_link_history.proofs.Shows as shown
 use Rattle.link_in_time.specs.Link.{drivesOf}
 use Rattle.link_in_time.specs.Host.{hostMonitor, hostLink, HostFits}
 use Rattle.link_in_time.proofs.Link.{Stands, link-models, link-begins}
@@ -43,7 +43,7 @@ host-models = record {
 }
 
 -- THE THEOREM, of the monitor's words
-pub host-in-time : (threshold timeout : ℕ) (queue : List Probe) → threshold < 2 ^ 16 → length queue ≡ capacity → InTime hostMonitor Typed (counting threshold) (begun threshold timeout queue)
+pub host-in-time : (threshold timeout : ℕ) (queue : List QueuedProbe) → threshold < 2 ^ 16 → length queue ≡ capacity → InTime hostMonitor Typed (counting threshold) (begun threshold timeout queue)
 host-in-time threshold timeout queue h long =
     holds hostMonitor Typed Says host-models (counting threshold) (counting-positive threshold) (counting-few threshold h)
     (begun threshold timeout queue) (new threshold timeout)

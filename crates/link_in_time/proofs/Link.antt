@@ -5,11 +5,11 @@ use mathlib.Core.Bool.{Bool, true, false, cond}
 use mathlib.Core.List.{List, [], _∷_}
 use mathlib.Core.Option.{Option, none, some}
 use Prim.Native.Nat.{ℕ, zero, suc, _<_, _^_}
-use Rattle.scope.specs.Limits.{capacity}
-use Rattle.calls.specs.declared.Reply.{Reply}
-use Rattle.calls.specs.declared.Call.{Call}
-use Rattle.calls.specs.declared.Call.the-variants.{Sent, Accept, Observe, Advance, Idle}
-use Rattle.probe_queue.specs.declared.Probe.{Probe}
+use Rattle.limits.specs.Limits.{capacity}
+use Rattle.call_types.specs.declared.Reply.{Reply}
+use Rattle.call_types.specs.declared.Call.{Call}
+use Rattle.call_types.specs.declared.Call.the-variants.{Sent, Accept, Observe, Advance, Idle}
+use Rattle.probe_queue.specs.declared.QueuedProbe.{QueuedProbe}
 use Rattle.monitor_model.specs.Plain.{Plain, new, reply}
 use Rattle.monitor_model.specs.Playing.{replying}
 use Rattle.monitor_model.specs.Playing as monitor
@@ -32,7 +32,7 @@ use Rattle.link_history.proofs.Watched.{watch-shows}
 use Rattle.link_in_time.specs.Link.{drivesOf, seenWatch, link}
 
 -- what is shown is what is seen
-seen-shown : (threshold timeout : ℕ) (h : List Call) (w : Watch) (queue : List Probe) → WatchShows (watching threshold timeout) h w queue → seenWatch w queue ≡ seenPlain (monitorFrom threshold timeout h)
+seen-shown : (threshold timeout : ℕ) (h : List Call) (w : Watch) (queue : List QueuedProbe) → WatchShows (watching threshold timeout) h w queue → seenWatch w queue ≡ seenPlain (monitorFrom threshold timeout h)
 seen-shown threshold timeout h Absent queue s = absurd s
 seen-shown threshold timeout h (Present m) queue s = λ i. record { summary = s .state .summary i; transmitting = s .state .transmitting i; queued = s .state .probes i }
 

@@ -6,8 +6,8 @@ use Rattle.monitor_in_time.specs.Calls.{Monitored}
 use Rattle.monitor_in_time.specs.Core.{seenStand}
 use Rattle.link_history.specs.Fresh.{Fits}
 use Rattle.host_monitor_model.specs.Hosted.{Lent, said, playHost}
-use Rattle.host_link.specs.Hosted.{HostLink, HostCall, told, Typed}
-use Rattle.host_link.specs.Hosted as hosted
+use Rattle.host_link_history.specs.Hosted.{HostLink, HostCall, told, Typed}
+use Rattle.host_link_history.specs.Hosted as hosted
 use Rattle.link_in_time.specs.Link.{link}
 
 -- `ambrulicciu_monitor_sent`, `_reply`, `_advance` and `_idle`, on the monitor that the words say

@@ -3,9 +3,9 @@
 use mathlib.Core.Bool.{cond}
 use mathlib.Core.List.{List}
 use mathlib.Core.Option.{Option, none, some}
-use Rattle.calls.specs.declared.Call.{Call}
-use Rattle.calls.specs.declared.Call.the-variants.{Sent, Accept, Observe, Advance, Idle}
-use Rattle.probe_queue.specs.declared.Probe.{Probe}
+use Rattle.call_types.specs.declared.Call.{Call}
+use Rattle.call_types.specs.declared.Call.the-variants.{Sent, Accept, Observe, Advance, Idle}
+use Rattle.probe_queue.specs.declared.QueuedProbe.{QueuedProbe}
 use Rattle.monitor_model.specs.Plain.{new}
 use Rattle.monitor_model.specs.Playing.{sending, replying, advancing, idling}
 use Rattle.monitor_model.specs.Playing as monitor
@@ -24,7 +24,7 @@ drivesOf k (Advance time) = some (advancing time)
 drivesOf k Idle = some idling
 
 -- what is seen of a link's monitor; a link made with one always has it, and without one this says nothing
-abbrev pub seenWatch : Watch → List Probe → Seen
+abbrev pub seenWatch : Watch → List QueuedProbe → Seen
 seenWatch Absent queue = seenPlain (new 0 0)
 seenWatch (Present m) queue = seenStand (record { monitor = m; room = queue })
 

@@ -16,25 +16,25 @@ use denote.Triple.Clauses as Clauses
 use denote.Ref.{now}
 use Rattle.determined.specs.Determines.{Determines}
 use Rattle.determined.proofs.Facts.{both-say}
-use Rattle.probe_queue.specs.declared.Probe.{Probe}
+use Rattle.probe_queue.specs.declared.QueuedProbe.{QueuedProbe}
 use Rattle.ledger_steps.specs.Rooms.{Rooms}
-use Rattle.link_log.specs.declared.Settings.{Settings}
-use Rattle.link_log.specs.Logs.{logOf}
-use Rattle.link_tally.specs.Tally.{Tallied}
-use Rattle.report.specs.declared.Answer.{Answer}
-use Rattle.report.specs.declared.Answer.the-variants.{Written, Refused}
+use Rattle.log_whole.specs.declared.Settings.{Settings}
+use Rattle.log_whole.specs.Logs.{logOf}
+use Rattle.log_play.specs.Tally.{Tallied}
+use Rattle.report.specs.declared.ReportAnswer.{ReportAnswer}
+use Rattle.report.specs.declared.ReportAnswer.the-variants.{Written, Refused}
 use Rattle.report.specs.Report.{Outcome, outcome}
-use Rattle.link_settings.specs.declared.Checked.{Checked}
-use Rattle.link_settings.specs.declared.Checked.the-variants as checked
+use Rattle.log_settings.specs.declared.Checked.{Checked}
+use Rattle.log_settings.specs.declared.Checked.the-variants as checked
 use Rattle.link_report.specs.LogReport.{endOf, Reported, reported, reportBy, fits, reportOfLog}
-use Rattle.link_settings.specs.Checks.{checkedBy}
+use Rattle.log_settings.specs.Checks.{checkedBy}
 use Rattle.link_report.proofs.report_log as report-log
 use Rattle.link_report.proofs.report_log_alone as alone
 use Rattle.link_report.proofs.report_log_alone.Kinds as alone-kinds
 use Rattle.link_report.proofs.report_log_alone.Reads as alone-reads
 
 -- an outcome tells the answer
-same-answer : (a b : Answer) (l m : List ℕ) → outcome a l ≡ outcome b m → a ≡ b
+same-answer : (a b : ReportAnswer) (l m : List ℕ) → outcome a l ≡ outcome b m → a ≡ b
 unfolding outcome
 same-answer (Written x) (Written y) l m e = cc (ap (λ (o : Outcome). o .values) e)
 same-answer (Written x) (Refused y) l m e = cc (ap (λ (o : Outcome). o .values) e)
@@ -42,12 +42,12 @@ same-answer (Refused x) (Written y) l m e = cc (ap (λ (o : Outcome). o .values)
 same-answer (Refused x) (Refused y) l m e = ap Refused (ap (λ (o : Outcome). o .number) e)
 
 -- and the buffer
-buffer-of : (a : Answer) (l : List ℕ) → outcome a l .buffer ≡ l
+buffer-of : (a : ReportAnswer) (l : List ℕ) → outcome a l .buffer ≡ l
 unfolding outcome
 buffer-of (Written n) l = refl
 buffer-of (Refused n) l = refl
 
-same-buffer : (a b : Answer) (l m : List ℕ) → outcome a l ≡ outcome b m → l ≡ m
+same-buffer : (a b : ReportAnswer) (l m : List ℕ) → outcome a l ≡ outcome b m → l ≡ m
 same-buffer a b l m e = sym (buffer-of a l) ∙ ap (λ (o : Outcome). o .buffer) e ∙ buffer-of b m
 
 -- the answer, the five rooms, the queue and the buffer; the function is lent the queue, so it is stated over its clauses
@@ -84,7 +84,7 @@ report-log-alone-unique κs a r₁ r₂ s₁ s₂ p q =
     )
 
 -- A refusal changes no byte of the buffer, no probe of the queue and no word of a room.
-pub refused-unchanged : (log secret : List ℕ) (queue queue′ : List Probe) (rooms rooms′ : Rooms) (buffer buffer′ : List ℕ) (n : ℕ)
+pub refused-unchanged : (log secret : List ℕ) (queue queue′ : List QueuedProbe) (rooms rooms′ : Rooms) (buffer buffer′ : List ℕ) (n : ℕ)
     → reported (outcome (Refused n) buffer′) queue′ rooms′ ≡ reportOfLog log secret queue rooms buffer → (buffer′ ≡ buffer) × (queue′ ≡ queue) × (rooms′ ≡ rooms)
 unfolding outcome reportOfLog
 refused-unchanged log secret queue queue′ rooms rooms′ buffer buffer′ n e = go (checkedBy (fits queue rooms buffer) (logOf log)) (endOf log secret queue rooms) e

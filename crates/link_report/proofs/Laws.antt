@@ -5,25 +5,25 @@ use mathlib.Core.List.{List}
 use Prim.Native.Nat.{ℕ, zero, suc}
 use lib.Dec.{eqb}
 use lib.ListN.{length}
-use Rattle.scope.specs.Limits.{capacity}
-use Rattle.probe_queue.specs.declared.Probe.{Probe}
+use Rattle.limits.specs.Limits.{capacity}
+use Rattle.probe_queue.specs.declared.QueuedProbe.{QueuedProbe}
 use Rattle.ledger_steps.specs.Rooms.{Rooms}
 use Rattle.link_steps.specs.declared.Link.{Link}
-use Rattle.link_log.specs.declared.Settings.{Settings}
-use Rattle.link_log.specs.declared.Log.{Log}
-use Rattle.link_log.specs.declared.Log.the-variants as log'
-use Rattle.link_log.specs.Logs.{logOf}
-use Rattle.link_parts.specs.Parts.{roomsOf}
-use Rattle.link_tally.specs.declared.Tally.{Tally}
-use Rattle.link_tally.specs.Tally.{standingOf, Tallied, tallyOf, tallied}
-use Rattle.report.specs.declared.Answer.{Answer}
-use Rattle.report.specs.declared.Answer.the-variants as answer
+use Rattle.log_whole.specs.declared.Settings.{Settings}
+use Rattle.log_whole.specs.declared.Log.{Log}
+use Rattle.log_whole.specs.declared.Log.the-variants as log'
+use Rattle.log_whole.specs.Logs.{logOf}
+use Rattle.log_play_parts.specs.Parts.{roomsOf}
+use Rattle.log_play.specs.declared.Tally.{Tally}
+use Rattle.log_play.specs.Tally.{standingOf, Tallied, tallyOf, tallied}
+use Rattle.report.specs.declared.ReportAnswer.{ReportAnswer}
+use Rattle.report.specs.declared.ReportAnswer.the-variants as answer
 use Rattle.report.specs.Report.{Outcome, outcome, pickOutcome, written, wrong, reportOf, reportRoom}
 use Rattle.link_figures.specs.Figures.{figuresOf}
-use Rattle.link_settings.specs.declared.Checked.{Checked}
-use Rattle.link_settings.specs.declared.Checked.the-variants.{Refused, Good}
-use Rattle.link_settings.specs.Checks.{checkedOf, checkedBy, settingsBy}
-use Rattle.link_settings.specs.Fresh.{watchBy, linkBy}
+use Rattle.log_settings.specs.declared.Checked.{Checked}
+use Rattle.log_settings.specs.declared.Checked.the-variants.{Refused, Good}
+use Rattle.log_settings.specs.Checks.{checkedOf, checkedBy, settingsBy}
+use Rattle.log_settings.specs.Fresh.{watchBy, linkBy}
 use Rattle.link_report.specs.LogReport.{startBy, endOf, playedText, outcomeBy, Reported, reported, reportBy, fits, reportOfLog, emptyQueue}
 
 -- the answer by the check
@@ -40,14 +40,14 @@ and-right true b e = e
 and-right false true e = refl
 and-right false false e = e
 
-buffer-fits : (queue : List Probe) (r : Rooms) (buffer : List ℕ) → true ≡ fits queue r buffer → eqb (length buffer) reportRoom ≡ true
+buffer-fits : (queue : List QueuedProbe) (r : Rooms) (buffer : List ℕ) → true ≡ fits queue r buffer → eqb (length buffer) reportRoom ≡ true
 buffer-fits queue r buffer y =
     and-right
     (eqb (length queue) capacity && eqb (length (r .keys)) capacity && eqb (length (r .slots)) capacity && eqb (length (r .probes)) capacity && eqb (length (r .offsets)) capacity && eqb (length (r .links)) capacity)
     (eqb (length buffer) reportRoom)
     (sym y)
 
-module _ (log secret : List ℕ) (queue : List Probe) (rooms : Rooms) (buffer : List ℕ) where
+module _ (log secret : List ℕ) (queue : List QueuedProbe) (rooms : Rooms) (buffer : List ℕ) where
   -- what is left after the records that the check lets through, and the answer, are the report by the check
   reports-by : (fit : Bool) → fit ≡ fits queue rooms buffer → (l : Log) (t : Tallied) (o : Outcome)
       → t ≡ tallied log (startBy (settingsBy (checkedBy fit l)) secret queue rooms) (settingsBy (checkedBy fit l) .count)
@@ -64,9 +64,9 @@ module _ (log secret : List ℕ) (queue : List Probe) (rooms : Rooms) (buffer : 
       ∙ ap (λ (x : Tallied). reported (written (playedText s x) buffer) (x .standing .queue) (x .standing .rooms)) e
 
 -- the call, in the order of its parts
-pub reports : (log secret : List ℕ) (keys slots probes : List (List ℕ)) (offsets : List ℕ) (links : List (List ℕ)) (queue : List Probe) (text : List ℕ)
+pub reports : (log secret : List ℕ) (keys slots probes : List (List ℕ)) (offsets : List ℕ) (links : List (List ℕ)) (queue : List QueuedProbe) (text : List ℕ)
     (fit : Bool) (found : Log) (checked : Checked) (settings : Settings) (start : Link) (count : ℕ)
-    (tally : Tally) (keys′ slots′ probes′ : List (List ℕ)) (offsets′ : List ℕ) (links′ : List (List ℕ)) (queue′ : List Probe) (r : Answer) (text′ : List ℕ)
+    (tally : Tally) (keys′ slots′ probes′ : List (List ℕ)) (offsets′ : List ℕ) (links′ : List (List ℕ)) (queue′ : List QueuedProbe) (r : ReportAnswer) (text′ : List ℕ)
     → fit ≡ fits queue (roomsOf keys slots probes offsets links) text → found ≡ logOf log → checked ≡ checkedBy fit found → settings ≡ settingsBy checked → start ≡ linkBy settings secret → count ≡ settings .count
     → tallyOf (standingOf (tally .link) queue′ (roomsOf keys′ slots′ probes′ offsets′ links′)) (tally .turned) ≡ tallied log (tallyOf (standingOf start queue (roomsOf keys slots probes offsets links)) 0) count
     → outcome r text′ ≡ outcomeBy checked (tally .link) (tally .turned) text
@@ -85,9 +85,9 @@ reports log secret keys slots probes offsets links queue text fit found checked 
 
 -- with a queue of its own
 pub reports-alone : (log secret : List ℕ) (keys slots probes : List (List ℕ)) (offsets : List ℕ) (links : List (List ℕ)) (text : List ℕ)
-    (queue : List Probe) (r : Answer) (keys′ slots′ probes′ : List (List ℕ)) (offsets′ : List ℕ) (links′ : List (List ℕ)) (queue′ : List Probe) (text′ : List ℕ) → queue ≡ emptyQueue
+    (queue : List QueuedProbe) (r : ReportAnswer) (keys′ slots′ probes′ : List (List ℕ)) (offsets′ : List ℕ) (links′ : List (List ℕ)) (queue′ : List QueuedProbe) (text′ : List ℕ) → queue ≡ emptyQueue
     → reported (outcome r text′) queue′ (roomsOf keys′ slots′ probes′ offsets′ links′) ≡ reportOfLog log secret queue (roomsOf keys slots probes offsets links) text
     → (outcome r text′ ≡ reportOfLog log secret emptyQueue (roomsOf keys slots probes offsets links) text .outcome) × (roomsOf keys′ slots′ probes′ offsets′ links′ ≡ reportOfLog log secret emptyQueue (roomsOf keys slots probes offsets links) text .rooms)
 reports-alone log secret keys slots probes offsets links text queue r keys′ slots′ probes′ offsets′ links′ queue′ text′ eq e =
-    let k = e ∙ ap (λ (q : List Probe). reportOfLog log secret q (roomsOf keys slots probes offsets links) text) eq in
+    let k = e ∙ ap (λ (q : List QueuedProbe). reportOfLog log secret q (roomsOf keys slots probes offsets links) text) eq in
     (ap (λ (x : Reported). x .outcome) k, ap (λ (x : Reported). x .rooms) k)

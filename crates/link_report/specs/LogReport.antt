@@ -4,30 +4,30 @@ use mathlib.Core.Bool.{Bool}
 use mathlib.Core.List.{List, []}
 use Prim.Native.Nat.{ℕ}
 use lib.ListN.{length, replicate}
-use Rattle.scope.specs.Limits.{capacity}
-use Rattle.probe_queue.specs.declared.Probe.{Probe}
+use Rattle.limits.specs.Limits.{capacity}
+use Rattle.probe_queue.specs.declared.QueuedProbe.{QueuedProbe}
 use Rattle.probe_queue.specs.Queue.{nil}
 use Rattle.ledger_steps.specs.Rooms.{Rooms}
 use Rattle.link_steps.specs.declared.Link.{Link}
-use Rattle.link_log.specs.declared.Settings.{Settings}
-use Rattle.link_log.specs.Logs.{logOf}
-use Rattle.link_tally.specs.Tally.{standingOf, Tallied, tallied}
+use Rattle.log_whole.specs.declared.Settings.{Settings}
+use Rattle.log_whole.specs.Logs.{logOf}
+use Rattle.log_play.specs.Tally.{standingOf, Tallied, tallied}
 use Rattle.report.specs.Lines.{textOf}
 use Rattle.report.specs.Report.{Outcome, written, reportOf}
 use Rattle.link_figures.specs.Figures.{figuresOf}
-use Rattle.link_settings.specs.declared.Checked.{Checked}
-use Rattle.link_settings.specs.declared.Checked.the-variants.{Refused, Good}
-use Rattle.link_settings.specs.Checks.{checkedBy, roomsFit}
-use Rattle.link_settings.specs.Fresh.{linkBy}
+use Rattle.log_settings.specs.declared.Checked.{Checked}
+use Rattle.log_settings.specs.declared.Checked.the-variants.{Refused, Good}
+use Rattle.log_settings.specs.Checks.{checkedBy, roomsFit}
+use Rattle.log_settings.specs.Fresh.{linkBy}
 
 -- ---- the records played
 
 -- a log's link, before any record
-abbrev pub startBy : Settings → List ℕ → List Probe → Rooms → Tallied
+abbrev pub startBy : Settings → List ℕ → List QueuedProbe → Rooms → Tallied
 startBy s secret queue rooms = record { standing = standingOf (linkBy s secret) queue rooms; turned = 0 }
 
 -- it, after all records
-unfoldable pub endOf : List ℕ → List ℕ → List Probe → Rooms → Settings → Tallied
+unfoldable pub endOf : List ℕ → List ℕ → List QueuedProbe → Rooms → Settings → Tallied
 endOf log secret queue rooms s = tallied log (startBy s secret queue rooms) (s .count)
 
 -- the report of a link and of how many records it turned away
@@ -50,26 +50,26 @@ outcomeBy (Good s) link turned buffer = reportOf buffer (figuresOf link (s .coun
 -- the answer with the buffer, the rooms and the queue
 pub record Reported : Type 0 where
   pub outcome : Outcome
-  pub queue : List Probe
+  pub queue : List QueuedProbe
   pub rooms : Rooms
 
 -- these
-abbrev pub reported : Outcome → List Probe → Rooms → Reported
+abbrev pub reported : Outcome → List QueuedProbe → Rooms → Reported
 reported o queue rooms = record { outcome = o; queue = queue; rooms = rooms }
 
 -- a refusal changes nothing; else the text in the buffer and its length, and what the records leave
-abbrev pub reportBy : Checked → (Settings → Tallied) → List Probe → Rooms → List ℕ → Reported
+abbrev pub reportBy : Checked → (Settings → Tallied) → List QueuedProbe → Rooms → List ℕ → Reported
 reportBy (Refused n) end queue rooms buffer = reported (refusedWith n buffer) queue rooms
 reportBy (Good s) end queue rooms buffer = reported (written (playedText s (end s)) buffer) (end s .standing .queue) (end s .standing .rooms)
 
 -- whether the rooms, the queue and the buffer have their sizes: 4,096 entries each, and 1,024 bytes
-abbrev pub fits : List Probe → Rooms → List ℕ → Bool
+abbrev pub fits : List QueuedProbe → Rooms → List ℕ → Bool
 fits queue r buffer = roomsFit (length queue) (length (r .keys)) (length (r .slots)) (length (r .probes)) (length (r .offsets)) (length (r .links)) (length buffer)
 
 -- The text of a log's report in the buffer, and what its records leave in the rooms; nothing is changed where it is refused.
-unfoldable pub reportOfLog : List ℕ → List ℕ → List Probe → Rooms → List ℕ → Reported
+unfoldable pub reportOfLog : List ℕ → List ℕ → List QueuedProbe → Rooms → List ℕ → Reported
 reportOfLog log secret queue rooms buffer = reportBy (checkedBy (fits queue rooms buffer) (logOf log)) (endOf log secret queue rooms) queue rooms buffer
 
 -- the queue that a program lends: one in which nothing was ever written
-abbrev pub emptyQueue : List Probe
+abbrev pub emptyQueue : List QueuedProbe
 emptyQueue = replicate capacity nil

@@ -3,16 +3,16 @@
 ghost use mathlib.Core.Path.{_≡_};
 ghost use Rattle.report.specs.Report.{outcome, reportOf};
 ghost use Rattle.link_figures.specs.Figures.{figuresOf};
-ghost use Rattle.link_parts.specs.Parts.{roomsOf};
+ghost use Rattle.log_play_parts.specs.Parts.{roomsOf};
 ghost use Rattle.link_report.specs.LogReport.{outcomeBy, emptyQueue, reported, reportOfLog};
-use link_settings::Checked;
-use link_tally::Tally;
-use probe_queue::Probe;
-use report::Answer;
+use log_play::Tally;
+use log_settings::Checked;
+use probe_queue::QueuedProbe;
+use report::ReportAnswer;
 
 // ---- the text
 
-fn write_played(text: &mut [u8], tally: Tally, count: u32) -> Answer
+fn write_played(text: &mut [u8], tally: Tally, count: u32) -> ReportAnswer
     ensures { λ r. ⌜ outcome r (now (text .exit)) ≡ reportOf (now (text .entry)) (figuresOf (tally .link) count (tally .turned)) ⌝ }
 {
     let link = tally.link;
@@ -20,11 +20,11 @@ fn write_played(text: &mut [u8], tally: Tally, count: u32) -> Answer
     report::report(text, figures)
 }
 
-fn write_checked(text: &mut [u8], checked: Checked, tally: Tally) -> Answer
+fn write_checked(text: &mut [u8], checked: Checked, tally: Tally) -> ReportAnswer
     ensures { λ r. ⌜ outcome r (now (text .exit)) ≡ outcomeBy checked (tally .link) (tally .turned) (now (text .entry)) ⌝ }
 {
     match checked {
-        Checked::Refused(number) => Answer::Refused(number),
+        Checked::Refused(number) => ReportAnswer::Refused(number),
         Checked::Good(settings) => write_played(text, tally, settings.count),
     }
 }
@@ -41,15 +41,15 @@ pub fn report_log(
     probes: &mut [[u64; 4]],
     offsets: &mut [u32],
     links: &mut [[u16; 8]],
-    queue: &mut [Probe],
+    queue: &mut [QueuedProbe],
     text: &mut [u8],
-) -> Answer
+) -> ReportAnswer
     ensures { λ r. ⌜ (
         let before = roomsOf (now (keys .entry)) (now (slots .entry)) (now (probes .entry)) (now (offsets .entry)) (now (links .entry)) in
         let after = roomsOf (now (keys .exit)) (now (slots .exit)) (now (probes .exit)) (now (offsets .exit)) (now (links .exit)) in
         reported (outcome r (now (text .exit))) (now (queue .exit)) after ≡ reportOfLog (now (log .entry)) (now (secret .entry)) (now (queue .entry)) before (now (text .entry))) ⌝ }
 {
-    let fit = link_settings::rooms_fit(
+    let fit = log_settings::rooms_fit(
         queue.len(),
         keys.len(),
         slots.len(),
@@ -58,12 +58,12 @@ pub fn report_log(
         links.len(),
         text.len(),
     );
-    let found = link_log::check(log);
-    let checked = link_settings::checked_by(fit, found);
-    let settings = link_settings::settings_of(checked);
-    let start = link_settings::link_by(settings, secret);
-    let count = link_settings::count_of(settings);
-    let tally = link_tally::play_records(
+    let found = log_whole::check(log);
+    let checked = log_settings::checked_by(fit, found);
+    let settings = log_settings::settings_of(checked);
+    let start = log_settings::link_by(settings, secret);
+    let count = log_settings::count_of(settings);
+    let tally = log_play::play_records(
         start,
         log,
         count,
@@ -77,10 +77,10 @@ pub fn report_log(
     write_checked(text, checked, tally)
 }
 
-fn empty_queue() -> [Probe; 4096]
+fn empty_queue() -> [QueuedProbe; 4096]
     ensures { λ r. ⌜ r ≡ emptyQueue ⌝ }
 {
-    [Probe {
+    [QueuedProbe {
         sequence: 0,
         deadline: 0,
         mark: 0,
@@ -97,7 +97,7 @@ pub fn report_log_alone(
     offsets: &mut [u32],
     links: &mut [[u16; 8]],
     text: &mut [u8],
-) -> Answer
+) -> ReportAnswer
     ensures { λ r. ⌜ (
         let before = roomsOf (now (keys .entry)) (now (slots .entry)) (now (probes .entry)) (now (offsets .entry)) (now (links .entry)) in
         let after = roomsOf (now (keys .exit)) (now (slots .exit)) (now (probes .exit)) (now (offsets .exit)) (now (links .exit)) in

@@ -6,21 +6,21 @@ use mathlib.Core.List.{List, [], _∷_}
 use Prim.Native.Nat.{ℕ, zero, suc, _+_}
 use lib.Dec.{eqb}
 use lib.ListN.{length}
-use Rattle.scope.specs.Limits.{capacity}
-use Rattle.calls.specs.declared.SentProbe.{SentProbe}
-use Rattle.calls.specs.declared.Reply.{Reply}
-use Rattle.calls.specs.declared.ReplyObservation.{ReplyObservation}
-use Rattle.calls.specs.declared.Call.{Call}
-use Rattle.calls.specs.declared.Call.the-variants.{Sent, Accept, Observe, Advance, Idle}
-use Rattle.probe_queue.specs.declared.Probe.{Probe}
+use Rattle.limits.specs.Limits.{capacity}
+use Rattle.call_types.specs.declared.SentProbe.{SentProbe}
+use Rattle.call_types.specs.declared.Reply.{Reply}
+use Rattle.call_types.specs.declared.ReplyObservation.{ReplyObservation}
+use Rattle.call_types.specs.declared.Call.{Call}
+use Rattle.call_types.specs.declared.Call.the-variants.{Sent, Accept, Observe, Advance, Idle}
+use Rattle.probe_queue.specs.declared.QueuedProbe.{QueuedProbe}
 use Rattle.monitor.specs.declared.Monitor.{Monitor}
 use Rattle.monitor.specs.Refusals as monitor
 use Rattle.monitor.specs.Operations.{Stand as Stands, sentIf, replyIf, advanceIf, idleOn}
 use Rattle.ledger_state.specs.declared.Ledger.{Ledger}
 use Rattle.ledger_steps.specs.declared.Accepted.{Accepted}
 use Rattle.ledger_steps.specs.declared.Accepted.the-variants as accepted
-use Rattle.ledger_steps.specs.declared.Answer.{Answer}
-use Rattle.ledger_steps.specs.declared.Answer.the-variants as answer
+use Rattle.ledger_steps.specs.declared.LedgerAnswer.{LedgerAnswer}
+use Rattle.ledger_steps.specs.declared.LedgerAnswer.the-variants as answer
 use Rattle.ledger_steps.specs.declared.AcceptAnswer.{AcceptAnswer}
 use Rattle.ledger_steps.specs.declared.AcceptAnswer.the-variants as accepts
 use Rattle.ledger_steps.specs.Rooms.{Rooms}
@@ -33,19 +33,19 @@ use Rattle.link_steps.specs.declared.Link.{Link}
 pub record Standing : Type 0 where
   pub link : Link
   pub rooms : Rooms
-  pub queue : List Probe
+  pub queue : List QueuedProbe
 
 -- a monitor and the queue, as the monitor's operation left them
 pub record Watched : Type 0 where
   pub watch : Watch
-  pub queue : List Probe
+  pub queue : List QueuedProbe
 
 -- of a monitor that is there, with its room
 abbrev pub watched : Stands → Watched
 watched s = record { watch = Present (s .monitor); queue = s .room }
 
 -- where there is no monitor the queue stays
-abbrev pub unwatched : List Probe → Watched
+abbrev pub unwatched : List QueuedProbe → Watched
 unwatched queue = record { watch = Absent; queue = queue }
 
 -- of these parts
@@ -65,17 +65,17 @@ watchRefuses Absent room = 0
 watchRefuses (Present m) room = monitor.refusalOf m room
 
 -- what it does where the call goes on: at `sent`, with the probe's sequence and send time
-abbrev pub watchSent : Bool → Watch → List Probe → SentProbe → Watched
+abbrev pub watchSent : Bool → Watch → List QueuedProbe → SentProbe → Watched
 watchSent go Absent queue s = unwatched queue
 watchSent go (Present m) queue s = watched (sentIf go m queue (s .sequence) (s .packet .time))
 
 -- at a reply: its key's sender number is the sequence that the monitor hears
-abbrev pub watchReply : Bool → Watch → List Probe → Reply → Watched
+abbrev pub watchReply : Bool → Watch → List QueuedProbe → Reply → Watched
 watchReply go Absent queue a = unwatched queue
 watchReply go (Present m) queue a = watched (replyIf go m queue (a .key .sender))
 
 -- "Without a monitor kinds 3 and 4 do nothing."
-abbrev pub watchAdvance : Watch → List Probe → ℕ → Watched
+abbrev pub watchAdvance : Watch → List QueuedProbe → ℕ → Watched
 watchAdvance Absent queue time = unwatched queue
 watchAdvance (Present m) queue time = watched (advanceIf true m queue time)
 
@@ -85,19 +85,19 @@ idleBy true m = idleOn m
 idleBy false m = m
 
 -- `idle` is lent no room: it is tested as with one of 4,096, and the queue's room stays
-abbrev pub watchIdle : Watch → List Probe → Watched
+abbrev pub watchIdle : Watch → List QueuedProbe → Watched
 watchIdle Absent queue = unwatched queue
 watchIdle (Present m) queue = record { watch = Present (idleBy (eqb (monitor.refusalOf m capacity) 0) m); queue = queue }
 
 -- ---- `sent`: the ledger's part with the monitor's refusal, then the monitor's where it was served
 
 -- the call was served
-abbrev pub wasServed : Answer → Bool
+abbrev pub wasServed : LedgerAnswer → Bool
 wasServed (answer.Served l) = true
 wasServed (answer.Refused n) = false
 
 -- the ledger of an answer: a refusal leaves it as it was
-abbrev pub ledgerOf : Ledger → Answer → Ledger
+abbrev pub ledgerOf : Ledger → LedgerAnswer → Ledger
 ledgerOf l (answer.Served next) = next
 ledgerOf l (answer.Refused n) = l
 

@@ -11,8 +11,8 @@ use lib.Seq.{length-take-le, take-append-seam, getD-take, getD-drop}
 use Rattle.big_endian.specs.Numbers.{numberAt}
 use Rattle.log_record.specs.Records.{good}
 use Rattle.log_rules.proofs.Theorem.{good-rules}
-use Rattle.link_log.specs.Logs.{trailerAt, distanceOf, countOf, recordAt}
-use Rattle.link_log.proofs.Laws.{trailer-facts}
+use Rattle.log_whole.specs.Logs.{trailerAt, distanceOf, countOf, recordAt}
+use Rattle.log_whole.proofs.Laws.{trailer-facts}
 use Rattle.log_cut.specs.Cut.{keptOf, stopOf, whole, droppedOf}
 use Rattle.log_cut.proofs.Kept.{both-ways, complete-fit, one-more-does-not, kept-is, Whole, whole-is, whole-keeps}
 use Rattle.log_cut.proofs.Fresh.{record-before}

@@ -6,8 +6,8 @@ use Prim.Native.Nat.{ℕ}
 use lib.ListN.{take, drop, replicate}
 use Rattle.log_record.specs.Records.{tableOf, blank, recordOf, entryOf, good}
 use Rattle.record_parts.specs.Parts.{observeFlags}
-use Rattle.link_log.specs.declared.Log.the-variants as log
-use Rattle.link_log.specs.Logs.{settingsOf, trailerGood, logOf, trailerOver}
+use Rattle.log_whole.specs.declared.Log.the-variants as log
+use Rattle.log_whole.specs.Logs.{settingsOf, trailerGood, logOf, trailerOver}
 use Rattle.log_cut.specs.Cut.{keptOf, whole, droppedOf, trailerOf, outputOf}
 
 -- "4 idle": byte 0 is 4, byte 95 is 251

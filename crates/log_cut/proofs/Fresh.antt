@@ -15,11 +15,11 @@ use Rattle.big_endian.specs.Fields.{Field}
 use Rattle.big_endian.proofs.Laws.{In, first, later, field-back, written-length}
 use Rattle.record_parts.specs.Fits.{U16, U64}
 use Rattle.log_record.specs.Records.{good}
-use Rattle.link_log.specs.declared.Settings.{Settings}
-use Rattle.link_log.specs.declared.Log.{Log}
-use Rattle.link_log.specs.declared.Log.the-variants as log
-use Rattle.link_log.specs.Logs.{mark, trailerAt, distanceOf, countOf, markOf, settingsOf, trailerFits, trailerGood, recordAt, firstBad, byRecords, logOf, trailerTable, trailerOver}
-use Rattle.link_log.proofs.Laws.{by-good, by-bad, log-by-records}
+use Rattle.log_whole.specs.declared.Settings.{Settings}
+use Rattle.log_whole.specs.declared.Log.{Log}
+use Rattle.log_whole.specs.declared.Log.the-variants as log
+use Rattle.log_whole.specs.Logs.{mark, trailerAt, distanceOf, countOf, markOf, settingsOf, trailerFits, trailerGood, recordAt, firstBad, byRecords, logOf, trailerTable, trailerOver}
+use Rattle.log_whole.proofs.Laws.{by-good, by-bad, log-by-records}
 use Rattle.log_cut.specs.Cut.{trailerOf}
 
 -- ---- a number behind other bytes

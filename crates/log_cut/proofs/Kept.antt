@@ -10,14 +10,14 @@ use lib.Dec.{eqb, ltb}
 use lib.ListN.{length}
 use borrow.Author.Tests.{ltb-true, ltb-false, eqb-true, eq-eqb}
 use Rattle.log_record.specs.Records.{good}
-use Rattle.link_log.specs.declared.Settings.{Settings}
-use Rattle.link_log.specs.declared.Log.{Log}
-use Rattle.link_log.specs.declared.Log.the-variants as log
-use Rattle.link_log.specs.Logs.{countOf, settingsOf, trailerGood, recordAt, firstBad, logOf}
-use Rattle.link_log.specs.Meaning.{Means}
-use Rattle.link_log.proofs.Accepted.{answer-means}
-use Rattle.link_log.proofs.First.{First, first-is}
-use Rattle.link_log.proofs.Laws.{count-is, records-within}
+use Rattle.log_whole.specs.declared.Settings.{Settings}
+use Rattle.log_whole.specs.declared.Log.{Log}
+use Rattle.log_whole.specs.declared.Log.the-variants as log
+use Rattle.log_whole.specs.Logs.{countOf, settingsOf, trailerGood, recordAt, firstBad, logOf}
+use Rattle.log_whole.specs.Meaning.{Means}
+use Rattle.log_whole.proofs.Accepted.{answer-means}
+use Rattle.log_whole.proofs.First.{First, first-is}
+use Rattle.log_whole.proofs.Laws.{count-is, records-within}
 use Rattle.log_cut.specs.Cut.{keptOf, wholeBy, whole}
 use Rattle.log_cut.specs.Answers.{Keeps}
 

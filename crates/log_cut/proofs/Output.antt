@@ -9,13 +9,13 @@ use lib.ListN.{length, take, drop, length-append, take-append-drop}
 use lib.Seq.{length-take-le, take-at}
 use Rattle.record_parts.specs.Fits.{U16, U64}
 use Rattle.log_record.specs.Records.{good, readOf}
-use Rattle.link_log.specs.declared.Settings.{Settings}
-use Rattle.link_log.specs.declared.Log.{Log}
-use Rattle.link_log.specs.declared.Log.the-variants as log
-use Rattle.link_log.specs.Logs.{trailerAt, countOf, settingsOf, trailerGood, recordAt, firstBad, logOf, playedBy, callAt}
-use Rattle.link_log.specs.Meaning.{Means}
-use Rattle.link_log.proofs.Accepted.{answer-means}
-use Rattle.link_log.proofs.Laws.{count-is, records-within, call-there}
+use Rattle.log_whole.specs.declared.Settings.{Settings}
+use Rattle.log_whole.specs.declared.Log.{Log}
+use Rattle.log_whole.specs.declared.Log.the-variants as log
+use Rattle.log_whole.specs.Logs.{trailerAt, countOf, settingsOf, trailerGood, recordAt, firstBad, logOf, playedBy, callAt}
+use Rattle.log_whole.specs.Meaning.{Means}
+use Rattle.log_whole.proofs.Accepted.{answer-means}
+use Rattle.log_whole.proofs.Laws.{count-is, records-within, call-there}
 use Rattle.log_cut.specs.Cut.{keptOf, stopOf, wholeBy, whole, droppedOf, trailerOf, outputOf, settingsFor}
 use Rattle.log_cut.specs.Answers.{Keeps}
 use Rattle.log_cut.proofs.Kept.{both-ways, first-at, keeps, kept-is, Whole, whole-is, accepted-whole, whole-keeps}

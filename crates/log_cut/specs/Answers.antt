@@ -5,7 +5,7 @@ use mathlib.Core.List.{List}
 use Prim.Native.Nat.{ℕ, _+_, _*_, _≤_, _<_}
 use lib.ListN.{length}
 use Rattle.log_record.specs.Records.{good}
-use Rattle.link_log.specs.Logs.{recordAt}
+use Rattle.log_whole.specs.Logs.{recordAt}
 
 -- n records are kept of the bytes: they are there, each is good, and the next one is incomplete or bad
 pub record Keeps (bs : List ℕ) (n : ℕ) : Type 0 where

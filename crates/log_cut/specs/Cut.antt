@@ -1,15 +1,15 @@
 -- A log that was cut short on the way (document 02, Q-11): "It keeps records from byte 0 up to the first that is bad or incomplete, and writes them
 -- with a new trailer. It says how many records were kept, at which byte it stopped and how many bytes were dropped. A bad record here is exactly one
--- that document 01 answers with 8." What a log is, and a bad record, are those of link_log. Assumes nothing.
+-- that document 01 answers with 8." What a log is, and a bad record, are those of log_whole. Assumes nothing.
 use mathlib.Core.Bool.{Bool, false, cond}
 use mathlib.Core.List.{List, _++_}
 use Prim.Native.Nat.{ℕ, _-_, _*_, _/_}
 use lib.Dec.{eqb}
 use lib.ListN.{length, take, replicate}
-use Rattle.link_log.specs.declared.Settings.{Settings}
-use Rattle.link_log.specs.declared.Log.{Log}
-use Rattle.link_log.specs.declared.Log.the-variants as log
-use Rattle.link_log.specs.Logs.{settingsOf, firstBad, logOf, trailerOver}
+use Rattle.log_whole.specs.declared.Settings.{Settings}
+use Rattle.log_whole.specs.declared.Log.{Log}
+use Rattle.log_whole.specs.declared.Log.the-variants as log
+use Rattle.log_whole.specs.Logs.{settingsOf, firstBad, logOf, trailerOver}
 
 -- ---- what is kept
 

@@ -10,7 +10,7 @@ use lib.ListN.{length}
 use Rattle.decimal.specs.Writing.{over, Stands}
 use Rattle.decimal.proofs.Places.{over-none}
 use Rattle.report.specs.Report.{reportRoom}
-use Rattle.link_log.specs.declared.Log.{Log}
+use Rattle.log_whole.specs.declared.Log.{Log}
 use Rattle.log_print.specs.Printed.{refusalLine, Said, said, lineIn, refusedIn}
 
 pub stands-said : {m r : ℕ} {line before after : List ℕ} → Stands m line before 0 after r → said r after ≡ lineIn line before

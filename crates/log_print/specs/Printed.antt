@@ -7,12 +7,12 @@ use lib.ListN.{length, take}
 use Rattle.decimal.specs.Decimal.{decimal}
 use Rattle.decimal.specs.Writing.{over}
 use Rattle.template.specs.Text.{bytes}
-use Rattle.report.specs.declared.Answer.{Answer}
-use Rattle.report.specs.declared.Answer.the-variants.{Written, Refused}
+use Rattle.report.specs.declared.ReportAnswer.{ReportAnswer}
+use Rattle.report.specs.declared.ReportAnswer.the-variants.{Written, Refused}
 use Rattle.report.specs.Report.{reportRoom}
-use Rattle.link_log.specs.declared.Log.{Log}
-use Rattle.link_log.specs.declared.Log.the-variants as log'
-use Rattle.link_log.specs.Logs.{logOf}
+use Rattle.log_whole.specs.declared.Log.{Log}
+use Rattle.log_whole.specs.declared.Log.the-variants as log'
+use Rattle.log_whole.specs.Logs.{logOf}
 
 -- the line of a log that is refused; of a good one there is none
 abbrev pub refusalLine : Log → List ℕ
@@ -43,6 +43,6 @@ unfoldable pub refusedIn : Log → List ℕ → Said
 refusedIn checked text = cond (eqb (length text) reportRoom) (lineIn (refusalLine checked) text) (said 0 text)
 
 -- of a report that was written, its bytes as they stand; of a log that was refused, why
-unfoldable pub printedIn : List ℕ → Answer → List ℕ → Said
+unfoldable pub printedIn : List ℕ → ReportAnswer → List ℕ → Said
 printedIn log (Written n) text = said n text
 printedIn log (Refused n) text = refusedIn (logOf log) text

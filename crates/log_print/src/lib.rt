@@ -8,9 +8,9 @@ ghost use Rattle.decimal.specs.Decimal.{decimal};
 ghost use Rattle.decimal.specs.Writing.{Stands};
 ghost use Rattle.template.specs.Text.{bytes};
 ghost use Rattle.log_print.specs.Printed.{said, refusedIn, printedIn};
-use link_log::Log;
-use report::Answer;
+use log_whole::Log;
 use report::REPORT_ROOM;
+use report::ReportAnswer;
 use report::words::put_figure;
 use report::words::put_text;
 
@@ -38,12 +38,12 @@ fn put_refused(text: &mut [u8], checked: Log) -> usize
 }
 
 // How many bytes at the start of the buffer are to be printed: those of the report that stands there, or of why the log is refused, put there.
-pub fn printed(log: &[u8], text: &mut [u8], answer: Answer) -> usize
+pub fn printed(log: &[u8], text: &mut [u8], answer: ReportAnswer) -> usize
     ensures { λ r. ⌜ said r (now (text .exit)) ≡ printedIn (now (log .entry)) answer (now (text .entry)) ⌝ }
 {
     match answer {
-        Answer::Written(end) => end,
-        Answer::Refused(_) => put_refused(text, link_log::check(log)),
+        ReportAnswer::Written(end) => end,
+        ReportAnswer::Refused(_) => put_refused(text, log_whole::check(log)),
     }
 }
 

@@ -16,10 +16,10 @@ use Rattle.big_endian.proofs.Laws.{In, first, later, field-back, written-length
 use Rattle.estimate.specs.Make.{formatOf}
 use Rattle.record_parts.specs.declared.Entry.{Entry}
 use Rattle.record_parts.specs.declared.Entry.the-variants as entry
-use Rattle.calls.specs.declared.Reply.{Reply}
-use Rattle.calls.specs.declared.ReplyObservation.{ReplyObservation}
-use Rattle.calls.specs.declared.SentProbe.{SentProbe}
-use Rattle.calls.specs.declared.Time.{Time}
+use Rattle.call_types.specs.declared.Reply.{Reply}
+use Rattle.call_types.specs.declared.ReplyObservation.{ReplyObservation}
+use Rattle.call_types.specs.declared.SentProbe.{SentProbe}
+use Rattle.call_types.specs.declared.Time.{Time}
 use Rattle.record_parts.specs.Parts.{flag, followTime, observeFlags, pendingBy, timeBy, ordinalBy, countersBy, followBy, estimatesBy}
 use Rattle.record_parts.specs.Fits.{U64, SentFits, ReplyFits, ObservationFits, ConvertedFits, EntryFits}
 use Rattle.record_parts.proofs.Back.{pending-back, time-back, ordinal-back, counters-back, follow-back, converted-back, estimates-back, format-back}

@@ -4,12 +4,12 @@ use mir.Syntax.{w32, w64}
 use mir.Val.{ofZ}
 use Rattle.big_endian.specs.Fields.{Field, bytes2, bytes4, bytes8}
 use Rattle.estimate.specs.declared.Estimates.{Estimates}
-use Rattle.calls.specs.declared.Counters.{Counters}
-use Rattle.calls.specs.declared.FollowUp.{FollowUp}
-use Rattle.calls.specs.declared.Ordinal.{Ordinal}
-use Rattle.calls.specs.declared.Pending.{Pending}
-use Rattle.calls.specs.declared.ReplyObservation.{ReplyObservation}
-use Rattle.calls.specs.declared.Time.{Time}
+use Rattle.call_types.specs.declared.Counters.{Counters}
+use Rattle.call_types.specs.declared.FollowUp.{FollowUp}
+use Rattle.call_types.specs.declared.Ordinal.{Ordinal}
+use Rattle.call_types.specs.declared.Pending.{Pending}
+use Rattle.call_types.specs.declared.ReplyObservation.{ReplyObservation}
+use Rattle.call_types.specs.declared.Time.{Time}
 use Rattle.record_parts.specs.Parts.{pendingTime, pendingTag, timeWord, ordinalNumber, senderCount, receivedCount, transmittedCount}
 use Rattle.record_parts.specs.Parts.{followSequence, followTimestamp, followTime, senderWire, reflectorWire}
 

@@ -8,19 +8,19 @@ use lib.Dec.{eqb}
 use lib.ListN.{length, replicate}
 use mir.Syntax.{w32, w64}
 use mir.Val.{ofZ, toZ}
-use Rattle.scope.specs.Refusals.{wrongRoom, outOfRange}
+use Rattle.limits.specs.Refusals.{wrongRoom, outOfRange}
 use Rattle.big_endian.specs.Numbers.{numberAt}
 use Rattle.big_endian.specs.Fields.{Field, byte, bytes2, bytes4, bytes8, written}
 use Rattle.estimate.specs.declared.Estimates.{Estimates}
 use Rattle.estimate.specs.Make.{formatOf}
 use Rattle.ranges.specs.Ranges.{estimatesFit}
-use Rattle.calls.specs.declared.Counters.{Counters}
-use Rattle.calls.specs.declared.FollowUp.{FollowUp}
-use Rattle.calls.specs.declared.Reply.{Reply}
-use Rattle.calls.specs.declared.ReplyKey.{ReplyKey}
-use Rattle.calls.specs.declared.ReplyObservation.{ReplyObservation}
-use Rattle.calls.specs.declared.SentProbe.{SentProbe}
-use Rattle.calls.specs.declared.Time.{Time}
+use Rattle.call_types.specs.declared.Counters.{Counters}
+use Rattle.call_types.specs.declared.FollowUp.{FollowUp}
+use Rattle.call_types.specs.declared.Reply.{Reply}
+use Rattle.call_types.specs.declared.ReplyKey.{ReplyKey}
+use Rattle.call_types.specs.declared.ReplyObservation.{ReplyObservation}
+use Rattle.call_types.specs.declared.SentProbe.{SentProbe}
+use Rattle.call_types.specs.declared.Time.{Time}
 use Rattle.record_parts.specs.declared.Entry.{Entry}
 use Rattle.record_parts.specs.declared.Entry.the-variants as entry
 use Rattle.record_parts.specs.Parts.{flag, observeFlags, pendingFlag, pendingTime, pendingTag, timeWord, ordinalNumber}

@@ -57,7 +57,7 @@ pub fn read(bytes: &[u8]) -> Record
     ensures { λ r. ⌜ r ≡ readOf (now (bytes .entry)) ⌝ }
 {
     if bytes.len() != 96 {
-        return Record::Refused(scope::WRONG_ROOM);
+        return Record::Refused(limits::WRONG_ROOM);
     }
     let said = reading::said(bytes);
     if is_record(bytes, said) {
@@ -86,10 +86,10 @@ pub fn write(bytes: &mut [u8], said: Entry) -> u8
     ensures { λ r. ⌜ wrote r (now (bytes .exit)) ≡ writtenTo (now (bytes .entry)) said ⌝ }
 {
     if bytes.len() != 96 {
-        return scope::WRONG_ROOM;
+        return limits::WRONG_ROOM;
     }
     if !scales_fit(said) {
-        return scope::OUT_OF_RANGE;
+        return limits::OUT_OF_RANGE;
     }
     clear(bytes);
     putting::put_entry(bytes, said);

@@ -11,15 +11,15 @@ use big_endian::put_u8;
 use big_endian::put_u16;
 use big_endian::put_u32;
 use big_endian::put_u64;
-use calls::Counters;
-use calls::FollowUp;
-use calls::Ordinal;
-use calls::Pending;
-use calls::Reply;
-use calls::ReplyKey;
-use calls::ReplyObservation;
-use calls::SentProbe;
-use calls::Time;
+use call_types::Counters;
+use call_types::FollowUp;
+use call_types::Ordinal;
+use call_types::Pending;
+use call_types::Reply;
+use call_types::ReplyKey;
+use call_types::ReplyObservation;
+use call_types::SentProbe;
+use call_types::Time;
 use estimate::Estimates;
 use record_parts::Entry;
 
@@ -66,13 +66,13 @@ fn put_pending(bytes: &mut [u8], pending: Pending)
 fn reference_word(o: ReplyObservation) -> u64
     ensures { λ r. ⌜ r ≡ ofZ w64 (o .reference) ⌝ }
 {
-    words::word64(o.reference)
+    signed_words::word64(o.reference)
 }
 
 fn offset_word(o: ReplyObservation) -> u32
     ensures { λ r. ⌜ r ≡ ofZ w32 (o .offset) ⌝ }
 {
-    words::word32(o.offset)
+    signed_words::word32(o.offset)
 }
 
 fn put_times(bytes: &mut [u8], o: ReplyObservation)

@@ -11,15 +11,15 @@ use big_endian::u8_at;
 use big_endian::u16_at;
 use big_endian::u32_at;
 use big_endian::u64_at;
-use calls::Counters;
-use calls::FollowUp;
-use calls::Ordinal;
-use calls::PendingPacket;
-use calls::Reply;
-use calls::ReplyKey;
-use calls::ReplyObservation;
-use calls::SentProbe;
-use calls::Time;
+use call_types::Counters;
+use call_types::FollowUp;
+use call_types::Ordinal;
+use call_types::PendingPacket;
+use call_types::Reply;
+use call_types::ReplyKey;
+use call_types::ReplyObservation;
+use call_types::SentProbe;
+use call_types::Time;
 use estimate::Estimates;
 use record_parts::Entry;
 use record_parts::flag_set;
@@ -73,14 +73,14 @@ fn reference(bytes: &[u8]) -> i64
     requires { ⌜ length (now bytes) ≡ 96 ⌝ }
     ensures { λ r. ⌜ r ≡ toZ w64 (numberAt 3 (now (bytes .entry)) 36) ⌝ }
 {
-    words::signed64(u64_at(bytes, 36))
+    signed_words::signed64(u64_at(bytes, 36))
 }
 
 fn offset(bytes: &[u8]) -> i32
     requires { ⌜ length (now bytes) ≡ 96 ⌝ }
     ensures { λ r. ⌜ r ≡ toZ w32 (numberAt 2 (now (bytes .entry)) 44) ⌝ }
 {
-    words::signed32(u32_at(bytes, 44))
+    signed_words::signed32(u32_at(bytes, 44))
 }
 
 fn ordinal(bytes: &[u8], there: bool) -> Ordinal

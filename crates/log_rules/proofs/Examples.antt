@@ -6,11 +6,11 @@ use lib.IntN.{pos, negsuc}
 use Rattle.estimate.specs.declared.ClockFormat.the-variants.{NTP, PTP}
 use Rattle.estimate.specs.declared.Estimates.the-variants as estimates
 use Rattle.estimate.specs.Wire.{estimateOf}
-use Rattle.calls.specs.declared.Time.the-variants as time
-use Rattle.calls.specs.declared.Pending.the-variants as pending
-use Rattle.calls.specs.declared.Ordinal.the-variants as ordinal
-use Rattle.calls.specs.declared.Counters.the-variants as counters
-use Rattle.calls.specs.declared.FollowUp.the-variants as follow
+use Rattle.call_types.specs.declared.Time.the-variants as time
+use Rattle.call_types.specs.declared.Pending.the-variants as pending
+use Rattle.call_types.specs.declared.Ordinal.the-variants as ordinal
+use Rattle.call_types.specs.declared.Counters.the-variants as counters
+use Rattle.call_types.specs.declared.FollowUp.the-variants as follow
 use Rattle.record_parts.specs.declared.Entry.{Entry}
 use Rattle.record_parts.specs.declared.Entry.the-variants as entry
 use Rattle.record_parts.specs.Parts.{observeFlags}

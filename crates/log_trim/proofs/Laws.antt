@@ -11,10 +11,10 @@ use lib.ListN.{length, getD, set, take, drop, replicate, length-take, length-dro
 use lib.Seq.{paste, paste-suc, take-all, take-at, drop-at, drop-drop, length-take-le}
 use borrow.Author.Tests.{lt-ltb, le-ltb}
 use borrow.Rule.Slice.PartMut.{putMid}
-use Rattle.link_log.specs.declared.Log.{Log}
-use Rattle.link_log.specs.Logs.{mostBytes, countOf, firstBad, logOf, Wrote, wrote, trailerOver, trailerTo}
-use Rattle.link_log.proofs.Laws.{write-done}
-use Rattle.link_log.proofs.Whole.{trailer-whole}
+use Rattle.log_whole.specs.declared.Log.{Log}
+use Rattle.log_whole.specs.Logs.{mostBytes, countOf, firstBad, logOf, Wrote, wrote, trailerOver, trailerTo}
+use Rattle.log_whole.proofs.Laws.{write-done}
+use Rattle.log_whole.proofs.Whole.{trailer-whole}
 use Rattle.log_cut.specs.Cut.{keptOf, stopOf, wholeBy, whole, droppedOf, trailerOf, outputOf}
 use Rattle.log_cut.proofs.Kept.{keeps, Whole, whole-is, whole-keeps}
 use Rattle.log_cut.proofs.Fresh.{trailer-length}

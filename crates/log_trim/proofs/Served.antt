@@ -9,8 +9,8 @@ use lib.ListN.{length, take, drop}
 use lib.Seq.{take-at}
 use borrow.Author.Tests.{ltb-false}
 use Rattle.record_parts.specs.Fits.{U16, U64}
-use Rattle.link_log.specs.declared.Log.the-variants as log
-use Rattle.link_log.specs.Logs.{mostBytes, logOf}
+use Rattle.log_whole.specs.declared.Log.the-variants as log
+use Rattle.log_whole.specs.Logs.{mostBytes, logOf}
 use Rattle.log_cut.specs.Cut.{stopOf, outputOf, settingsFor}
 use Rattle.log_cut.proofs.Output.{output-length, output-accepted}
 use Rattle.log_trim.specs.declared.Cut.{Cut}

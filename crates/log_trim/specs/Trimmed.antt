@@ -4,8 +4,8 @@ use mathlib.Core.List.{List, _++_}
 use Prim.Native.Nat.{ℕ, zero, suc, _+_}
 use lib.Dec.{ltb}
 use lib.ListN.{length, drop}
-use Rattle.scope_requests.specs.Refusals.{shortRoom}
-use Rattle.link_log.specs.Logs.{mostBytes, tooLong}
+use Rattle.request_limits.specs.Refusals.{shortRoom}
+use Rattle.log_whole.specs.Logs.{mostBytes, tooLong}
 use Rattle.log_cut.specs.Cut.{keptOf, stopOf, droppedOf, outputOf}
 use Rattle.log_trim.specs.declared.Cut.{Cut}
 use Rattle.log_trim.specs.declared.Trimmed.{Trimmed}

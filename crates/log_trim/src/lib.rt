@@ -5,11 +5,11 @@ ghost use mathlib.Core.List.{_++_};
 ghost use Prim.Native.Nat.{_+_, _*_, _≤_};
 ghost use lib.ListN.{length, take, drop};
 ghost use Rattle.log_record.specs.Records.{good, readOf};
-ghost use Rattle.link_log.specs.Logs.{firstBad};
+ghost use Rattle.log_whole.specs.Logs.{firstBad};
 ghost use Rattle.log_cut.specs.Cut.{keptOf, whole, trailerOf};
 ghost use Rattle.log_trim.specs.Trimmed.{left, trimTo};
-use link_log::Log;
 use log_record::Record;
+use log_whole::Log;
 
 // What was kept of a log: how many records, the byte behind the last of them, and how many bytes were dropped from there on. The log that is written has
 // `stop` + 24 bytes.
@@ -64,7 +64,7 @@ fn good_records(log: &[u8], count: u32) -> u32
 fn is_whole(log: &[u8]) -> bool
     ensures { λ r. ⌜ r ≡ whole (now (log .entry)) ⌝ }
 {
-    match link_log::check(log) {
+    match log_whole::check(log) {
         Log::Good(settings) => settings.start == 0,
         Log::TooLong => false,
         Log::BadTrailer => false,
@@ -104,7 +104,7 @@ fn put_log(log: &[u8], count: u32, copies: u16, threshold: u16, timeout: u64, ro
     let stop = 96 * (count as usize);
     let end = stop + 24;
     copy(log, stop, room);
-    link_log::trailer::write(&mut room[stop..end], count, copies, threshold, timeout);
+    log_whole::trailer::write(&mut room[stop..end], count, copies, threshold, timeout);
 }
 
 // Refused with 9 for a log above 65,536 bytes; then with 12 for a room shorter than the log that is to be written. Else that log stands at the start of the
@@ -112,14 +112,14 @@ fn put_log(log: &[u8], count: u32, copies: u16, threshold: u16, timeout: u64, ro
 pub fn trim(log: &[u8], copies: u16, threshold: u16, timeout: u64, room: &mut [u8]) -> Trimmed
     ensures { λ r. ⌜ left r (now (room .exit)) ≡ trimTo (now (log .entry)) copies threshold timeout (now (room .entry)) ⌝ }
 {
-    if link_log::MOST_BYTES < log.len() {
-        return Trimmed::Refused(link_log::trailer::TOO_LONG);
+    if log_whole::MOST_BYTES < log.len() {
+        return Trimmed::Refused(log_whole::trailer::TOO_LONG);
     }
     let all = is_whole(log);
     let kept = kept_records(log, all);
     let stop = 96 * (kept as usize);
     if room.len() < stop + 24 {
-        return Trimmed::Refused(scope_requests::SHORT_ROOM);
+        return Trimmed::Refused(request_limits::SHORT_ROOM);
     }
     if all {
         copy(log, log.len(), room);

@@ -6,8 +6,8 @@ use Prim.Native.Nat.{ℕ, _<_}
 use native.Mathlib.Omega.{arith}
 use lib.Dec.{eqb, leb, ltb}
 use borrow.Author.Tests.{ltb-false, leb-false, eqb-true, not-false, lt-ltb}
-use Rattle.scope.specs.Limits.{capacity, countBound}
-use Rattle.scope.specs.Refusals.{wrongRoom, deadlinePasses, countsFull, queueFull}
+use Rattle.limits.specs.Limits.{capacity, countBound}
+use Rattle.limits.specs.Refusals.{wrongRoom, deadlinePasses, countsFull, queueFull}
 use Rattle.probe_queue.specs.Queue.{choose, Held}
 use Rattle.monitor.specs.declared.Monitor.{Monitor}
 use Rattle.monitor.specs.declared.Summary.{Summary}

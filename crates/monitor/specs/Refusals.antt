@@ -2,8 +2,8 @@
 use mathlib.Core.Bool.{Bool, true, false, not, _||_, _&&_}
 use Prim.Native.Nat.{ℕ, _+_, _^_}
 use lib.Dec.{eqb, leb, ltb}
-use Rattle.scope.specs.Limits.{capacity, countBound}
-use Rattle.scope.specs.Refusals.{wrongRoom, deadlinePasses, countsFull, queueFull}
+use Rattle.limits.specs.Limits.{capacity, countBound}
+use Rattle.limits.specs.Refusals.{wrongRoom, deadlinePasses, countsFull, queueFull}
 use Rattle.probe_queue.specs.Queue.{choose}
 use Rattle.monitor.specs.declared.Monitor.{Monitor}
 use Rattle.monitor.specs.declared.Summary.{Summary}

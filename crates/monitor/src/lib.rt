@@ -9,8 +9,8 @@ ghost use Rattle.monitor.specs.Answers.{Ends, sentTo, replyTo, advanceTo
 mod notifying;
 mod steps;
 
-use probe_queue::Probe;
-use probe_queue::Ring;
+use probe_queue::QueueRing;
+use probe_queue::QueuedProbe;
 use probe_queue::Rule;
 
 pub enum State {
@@ -34,13 +34,13 @@ pub struct Monitor {
     pub summary: Summary,
     pub timeout: u64,
     pub transmitting: bool,
-    pub ring: Ring,
+    pub ring: QueueRing,
     pub run: usize,
     pub latest: u32,
 }
 
 // The next monitor, or document 01's number of the refusal.
-pub enum Answer {
+pub enum MonitorAnswer {
     Served(Monitor),
     Refused(u8),
 }
@@ -69,7 +69,7 @@ impl Monitor {
             },
             timeout: timeout,
             transmitting: false,
-            ring: Ring { head: 0, len: 0 },
+            ring: QueueRing { head: 0, len: 0 },
             run: 0,
             latest: 0,
         }
@@ -88,10 +88,10 @@ impl Monitor {
     {
         let summary = self.summary;
         if self.out_of_place(room) {
-            return scope::WRONG_ROOM;
+            return limits::WRONG_ROOM;
         }
         if summary.full() {
-            return scope::COUNTS_FULL;
+            return limits::COUNTS_FULL;
         }
         0
     }
@@ -103,17 +103,17 @@ impl Monitor {
         let summary = self.summary;
         let ring = self.ring;
         if self.out_of_place(room) {
-            return scope::WRONG_ROOM;
+            return limits::WRONG_ROOM;
         }
         if time > 18446744073709551615 - self.timeout {
-            return scope::DEADLINE_PASSES;
+            return limits::DEADLINE_PASSES;
         }
         if summary.full() {
-            return scope::COUNTS_FULL;
+            return limits::COUNTS_FULL;
         }
         if self.timeout > 0 {
-            if ring.len >= scope::CAPACITY {
-                return scope::QUEUE_FULL;
+            if ring.len >= limits::CAPACITY {
+                return limits::QUEUE_FULL;
             }
         }
         0
@@ -122,7 +122,7 @@ impl Monitor {
 
 // The public operations.
 impl Monitor {
-    pub fn sent(self, queue: &mut [Probe], sequence: u32, time: u64) -> Answer
+    pub fn sent(self, queue: &mut [QueuedProbe], sequence: u32, time: u64) -> MonitorAnswer
         ensures { λ r. ⌜ Ends (sentTo self (now (queue .entry)) sequence time) r (now (queue .exit)) ⌝ }
     {
         let room = queue.len();
@@ -131,7 +131,7 @@ impl Monitor {
         steps::answer(refused, next)
     }
 
-    pub fn reply(self, queue: &mut [Probe], sequence: u32) -> Answer
+    pub fn reply(self, queue: &mut [QueuedProbe], sequence: u32) -> MonitorAnswer
         ensures { λ r. ⌜ Ends (replyTo self (now (queue .entry)) sequence) r (now (queue .exit)) ⌝ }
     {
         let room = queue.len();
@@ -140,7 +140,7 @@ impl Monitor {
         steps::answer(refused, next)
     }
 
-    pub fn advance(self, queue: &mut [Probe], time: u64) -> Answer
+    pub fn advance(self, queue: &mut [QueuedProbe], time: u64) -> MonitorAnswer
         ensures { λ r. ⌜ Ends (advanceTo self (now (queue .entry)) time) r (now (queue .exit)) ⌝ }
     {
         let room = queue.len();
@@ -150,21 +150,21 @@ impl Monitor {
     }
 
     // Nothing of the room changes: none of its records is queued any more.
-    pub fn idle(self) -> Answer
+    pub fn idle(self) -> MonitorAnswer
         ensures { λ r. ⌜ r ≡ idleTo self ⌝ }
     {
-        let refused = self.refusal(scope::CAPACITY);
+        let refused = self.refusal(limits::CAPACITY);
         if refused != 0 {
-            return Answer::Refused(refused);
+            return MonitorAnswer::Refused(refused);
         }
         let ring = self.ring;
         let before = self.summary;
         let summary = before.stopped(self.transmitting);
-        Answer::Served(Monitor {
+        MonitorAnswer::Served(Monitor {
             summary: summary,
             timeout: self.timeout,
             transmitting: false,
-            ring: Ring {
+            ring: QueueRing {
                 head: ring.head,
                 len: 0,
             },
@@ -174,7 +174,7 @@ impl Monitor {
     }
 
     // The front probe's deadline.
-    pub fn deadline(self, queue: &[Probe]) -> Deadline
+    pub fn deadline(self, queue: &[QueuedProbe]) -> Deadline
         ensures { λ r. ⌜ r ≡ deadlineOf self (now (queue .entry)) ⌝ }
     {
         let room = queue.len();
@@ -186,7 +186,7 @@ impl Monitor {
 
 // The same where whoever calls may not want it to go on, as when another part of one call is refused: then nothing changes.
 impl Monitor {
-    pub fn sent_if(self, go: bool, queue: &mut [Probe], sequence: u32, time: u64) -> Monitor
+    pub fn sent_if(self, go: bool, queue: &mut [QueuedProbe], sequence: u32, time: u64) -> Monitor
         ensures { λ r. ⌜ Leaves (sentIf go self (now (queue .entry)) sequence time) r (now (queue .exit)) ⌝ }
     {
         let room = queue.len();
@@ -197,7 +197,7 @@ impl Monitor {
     }
 
     // `near` is the ring where sequences ascend: there the search ends at the first that is not below the reply's.
-    pub fn reply_if(self, go: bool, queue: &mut [Probe], sequence: u32) -> Monitor
+    pub fn reply_if(self, go: bool, queue: &mut [QueuedProbe], sequence: u32) -> Monitor
         ensures { λ r. ⌜ Leaves (replyIf go self (now (queue .entry)) sequence) r (now (queue .exit)) ⌝ }
     {
         let room = queue.len();
@@ -215,7 +215,7 @@ impl Monitor {
         self.replied(go, room, rest)
     }
 
-    pub fn advance_if(self, go: bool, queue: &mut [Probe], time: u64) -> Monitor
+    pub fn advance_if(self, go: bool, queue: &mut [QueuedProbe], time: u64) -> Monitor
         ensures { λ r. ⌜ Leaves (advanceIf go self (now (queue .entry)) time) r (now (queue .exit)) ⌝ }
     {
         let room = queue.len();

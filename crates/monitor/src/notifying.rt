@@ -47,13 +47,13 @@ impl Summary {
     pub fn full(self) -> bool
         ensures { λ r. ⌜ r ≡ counted self ⌝ }
     {
-        if self.active_notifications >= scope::COUNT_BOUND {
+        if self.active_notifications >= limits::COUNT_BOUND {
             return true;
         }
-        if self.failed_notifications >= scope::COUNT_BOUND {
+        if self.failed_notifications >= limits::COUNT_BOUND {
             return true;
         }
-        self.idle_notifications >= scope::COUNT_BOUND
+        self.idle_notifications >= limits::COUNT_BOUND
     }
 
     // A state is entered, which notifies.

@@ -5,30 +5,30 @@ ghost use Rattle.monitor.specs.Refusals.{misplaced, refusalOf, refusalOf
 ghost use Rattle.monitor.specs.States.{loses, hears};
 ghost use Rattle.monitor.specs.Operations.{ascending, repeated, runs, standing};
 ghost use Rattle.monitor.specs.Answers.{answered};
-ghost use Rattle.monitor.specs.Parts.{ringIf, nearIf, searchIn, takenOf, hearing, backOf, probeOf, queuedBy, settled, deadlineAt};
+ghost use Rattle.monitor.specs.Parts.{ringIf, nearIf, searchIn, takenOf, hearing, backOf, queuedProbeOf, queuedBy, settled, deadlineAt};
 ghost use Rattle.probe_queue.specs.Queue.{choose};
 ghost use Prim.Native.Nat.{_<_, _≤_};
-ghost use Rattle.scope.specs.Limits.{capacity};
-use crate::Answer;
+ghost use Rattle.limits.specs.Limits.{capacity};
 use crate::Deadline;
 use crate::Monitor;
+use crate::MonitorAnswer;
 use crate::Summary;
-use probe_queue::Probe;
-use probe_queue::Ring;
+use probe_queue::QueueRing;
+use probe_queue::QueuedProbe;
 
 // The answer to the host.
-pub fn answer(refused: u8, next: Monitor) -> Answer
+pub fn answer(refused: u8, next: Monitor) -> MonitorAnswer
     ensures { λ r. ⌜ r ≡ answered refused next ⌝ }
 {
     if refused == 0 {
-        Answer::Served(next)
+        MonitorAnswer::Served(next)
     } else {
-        Answer::Refused(refused)
+        MonitorAnswer::Refused(refused)
     }
 }
 
 // How many probes a search pops, from where the first of the sequence and a marked one were found.
-pub fn taken(search: Ring, first: usize, marked: usize) -> usize
+pub fn taken(search: QueueRing, first: usize, marked: usize) -> usize
     requires { ⌜ first ≤ capacity ⌝ }
     ensures { λ r. ⌜ r ≡ takenOf search first marked ⌝ }
 {
@@ -41,13 +41,13 @@ impl Monitor {
         ensures { λ r. ⌜ r ≡ misplaced self room ⌝ }
     {
         let ring = self.ring;
-        if room != scope::CAPACITY {
+        if room != limits::CAPACITY {
             return true;
         }
-        if ring.head >= scope::CAPACITY {
+        if ring.head >= limits::CAPACITY {
             return true;
         }
-        ring.len > scope::CAPACITY
+        ring.len > limits::CAPACITY
     }
 
     pub fn serves(self, go: bool, room: usize) -> bool
@@ -76,13 +76,13 @@ impl Monitor {
         }
     }
 
-    pub fn ring_if(self, serves: bool) -> Ring
+    pub fn ring_if(self, serves: bool) -> QueueRing
         ensures { λ r. ⌜ r ≡ ringIf serves self ⌝ }
     {
         if serves {
             self.ring
         } else {
-            Ring { head: 0, len: 0 }
+            QueueRing { head: 0, len: 0 }
         }
     }
 
@@ -100,26 +100,26 @@ impl Monitor {
         if self.ascends() { 0 } else { count }
     }
 
-    pub fn near(self, ring: Ring) -> Ring
+    pub fn near(self, ring: QueueRing) -> QueueRing
         ensures { λ r. ⌜ r ≡ nearIf self ring ⌝ }
     {
         if self.ascends() {
             ring
         } else {
-            Ring {
+            QueueRing {
                 head: ring.head,
                 len: 0,
             }
         }
     }
 
-    pub fn search(self, ring: Ring, below: usize) -> Ring
+    pub fn search(self, ring: QueueRing, below: usize) -> QueueRing
         requires { ⌜ below ≤ capacity ⌝ }
         ensures { λ r. ⌜ r ≡ searchIn self ring below ⌝ }
     {
         if self.ascends() {
             if below < ring.len {
-                return Ring {
+                return QueueRing {
                     head: ring.head,
                     len: below + 1,
                 };
@@ -141,17 +141,17 @@ impl Monitor {
         room
     }
 
-    pub fn probe(self, sequence: u32, time: u64) -> Probe
-        ensures { λ r. ⌜ r ≡ probeOf self sequence time ⌝ }
+    pub fn probe(self, sequence: u32, time: u64) -> QueuedProbe
+        ensures { λ r. ⌜ r ≡ queuedProbeOf self sequence time ⌝ }
     {
         if time > 18446744073709551615 - self.timeout {
-            return Probe {
+            return QueuedProbe {
                 sequence: sequence,
                 deadline: 0,
                 mark: 1,
             };
         }
-        Probe {
+        QueuedProbe {
             sequence: sequence,
             deadline: time + self.timeout,
             mark: 1,
@@ -201,7 +201,7 @@ impl Monitor {
             summary: summary,
             timeout: self.timeout,
             transmitting: true,
-            ring: Ring {
+            ring: QueueRing {
                 head: ring.head,
                 len: ring.len + 1,
             },
@@ -211,7 +211,7 @@ impl Monitor {
     }
 
     // The monitor with another summary and ring.
-    pub fn stand(self, summary: Summary, ring: Ring) -> Monitor
+    pub fn stand(self, summary: Summary, ring: QueueRing) -> Monitor
         ensures { λ r. ⌜ r ≡ standing self summary ring ⌝ }
     {
         Monitor {
@@ -225,7 +225,7 @@ impl Monitor {
     }
 
     // The monitor after `reply`.
-    pub fn replied(self, go: bool, room: usize, rest: Ring) -> Monitor
+    pub fn replied(self, go: bool, room: usize, rest: QueueRing) -> Monitor
         ensures { λ r. ⌜ r ≡ settled (hearing go self room) self (hears (self .summary)) rest ⌝ }
     {
         if !self.hears(go, room) {
@@ -236,7 +236,7 @@ impl Monitor {
     }
 
     // The monitor after `advance`. Without transmitting, what is due is popped and not counted.
-    pub fn advanced(self, go: bool, room: usize, count: usize, rest: Ring) -> Monitor
+    pub fn advanced(self, go: bool, room: usize, count: usize, rest: QueueRing) -> Monitor
         ensures { λ r. ⌜ r ≡ settled (served go (refusalOf self room)) self (choose (self .transmitting) (loses count (self .summary)) (self .summary)) rest ⌝ }
     {
         if !self.serves(go, room) {
@@ -256,12 +256,12 @@ impl Monitor {
         ring.head
     }
 
-    pub fn deadline_of(self, room: usize, probe: Probe) -> Deadline
+    pub fn deadline_of(self, room: usize, probe: QueuedProbe) -> Deadline
         ensures { λ r. ⌜ r ≡ deadlineAt self room probe ⌝ }
     {
         let ring = self.ring;
         if self.out_of_place(room) {
-            return Deadline::Refused(scope::WRONG_ROOM);
+            return Deadline::Refused(limits::WRONG_ROOM);
         }
         if ring.len == 0 {
             return Deadline::Absent;

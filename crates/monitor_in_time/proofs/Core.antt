@@ -9,8 +9,8 @@ use native.Mathlib.Omega.{arith}
 use lib.Dec.{eqb}
 use lib.ListN.{length}
 use borrow.Author.Tests.{ne-eqb}
-use Rattle.scope.specs.Limits.{capacity}
-use Rattle.probe_queue.specs.declared.Probe.{Probe}
+use Rattle.limits.specs.Limits.{capacity}
+use Rattle.probe_queue.specs.declared.QueuedProbe.{QueuedProbe}
 use Rattle.probe_queue.specs.Queue.{choose}
 use Rattle.monitor.specs.declared.State.the-variants.{Failed}
 use Rattle.monitor.specs.Operations.{Stand}
@@ -74,14 +74,14 @@ core-models = record {
 }
 
 -- THE THEOREM
-pub core-in-time : (threshold timeout : ℕ) (room : List Probe) → threshold < 2 ^ 16 → length room ≡ capacity → InTime core AnyCall (counting threshold) (freshStand threshold timeout room)
+pub core-in-time : (threshold timeout : ℕ) (room : List QueuedProbe) → threshold < 2 ^ 16 → length room ≡ capacity → InTime core AnyCall (counting threshold) (freshStand threshold timeout room)
 core-in-time threshold timeout room h long =
     holds core AnyCall Next core-models (counting threshold) (counting-positive threshold) (counting-few threshold h)
     (freshStand threshold timeout room) (new threshold timeout) (λ s. false, (refl, begins threshold timeout room long)) (new-keeps threshold timeout)
 
 -- ---- the two parts of it, with names of their own
 
-module _ (threshold timeout : ℕ) (room : List Probe) (h : threshold < 2 ^ 16) (long : length room ≡ capacity) (past : List Call) where
+module _ (threshold timeout : ℕ) (room : List QueuedProbe) (h : threshold < 2 ^ 16) (long : length room ≡ capacity) (past : List Call) where
   -- a monitor reached from fresh
   abbrev reached : Stand
   reached = played core (freshStand threshold timeout room) past

@@ -5,7 +5,7 @@ use mathlib.Core.Bool.{Bool, true, false}
 use mathlib.Core.List.{List, [], _∷_, _++_}
 use Prim.Native.Nat.{ℕ, _^_}
 use lib.ListN.{length}
-use Rattle.scope.specs.Refusals.{countsFull}
+use Rattle.limits.specs.Refusals.{countsFull}
 use Rattle.monitor.specs.declared.State.{State}
 use Rattle.monitor.specs.declared.State.the-variants.{Idle, Active, Failed}
 use Rattle.monitor.specs.States.{same, enters}

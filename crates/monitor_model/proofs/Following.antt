@@ -9,23 +9,23 @@ use native.Mathlib.Omega.{arith}
 use lib.ListN.{length, getD}
 use lib.Dec.{eqb, leb, ltb}
 use borrow.Author.Tests.{eq-eqb, ne-eqb, lt-leb, le-ltb, eqb-true, ltb-true}
-use Rattle.scope.specs.Limits.{capacity}
-use Rattle.scope.specs.Refusals.{wrongRoom, deadlinePasses, countsFull, queueFull}
-use Rattle.probe_queue.specs.declared.Probe.{Probe}
+use Rattle.limits.specs.Limits.{capacity}
+use Rattle.limits.specs.Refusals.{wrongRoom, deadlinePasses, countsFull, queueFull}
+use Rattle.probe_queue.specs.declared.QueuedProbe.{QueuedProbe}
 use Rattle.probe_queue.specs.declared.Rule.the-variants.{Due, Until}
 use Rattle.probe_queue.specs.Queue.{choose, nil, at, tabulate, queued, leading, passes}
 use Rattle.monitor.specs.declared.State.the-variants.{Idle, Active}
 use Rattle.monitor.specs.declared.Monitor.{Monitor}
 use Rattle.monitor.specs.declared.Summary.{Summary}
 use Rattle.monitor.specs.declared.Deadline.the-variants.{Absent, At, Refused as Denied}
-use Rattle.monitor.specs.declared.Answer.the-variants.{Served, Refused}
+use Rattle.monitor.specs.declared.MonitorAnswer.the-variants.{Served, Refused}
 use Rattle.monitor.specs.Refusals.{misplaced, counted, passing, refusalOf, refusalOfSent, served}
 use Rattle.monitor.specs.States.{mostLosses, same, losing, enters, loses, hears, stops}
 use Rattle.monitor.specs.Operations.{Stand, pops, due, queues, starts, sentOn, replyOn, advanceOn, idleOn, unchanged, sentIf, replyIf, advanceIf}
 use Rattle.monitor.specs.Answers.{outcome, answered, sentTo, replyTo, advanceTo, idleTo, deadlineOf}
 use Rattle.monitor.proofs.Served.{serves-sent-none, roomy}
 use Rattle.monitor_model.specs.Plain.{Marks, Plain, Left, Advanced, popTo, hear, reply, sent, start, queue, advance, advanceBy, idle, deadline, refusal, sentRefusal}
-use Rattle.monitor_model.specs.Playing.{Call, sending, replying, advancing, idling, PlainStep, RingStep, serve, playPlain, take, playRing, probeOf}
+use Rattle.monitor_model.specs.Playing.{Call, sending, replying, advancing, idling, PlainStep, RingStep, serve, playPlain, take, playRing, plainProbeOf}
 use Rattle.monitor_model.proofs.Lists.{tabulate-length, leading-le}
 use Rattle.monitor_model.proofs.Rising.{rises-drop}
 use Rattle.monitor_model.proofs.Losses.{losesOne, counts, still-few}
@@ -55,7 +55,7 @@ module _ (x : Stand) (marks : Marks) (kept : Kept x marks) where
   abbrev m : Monitor
   m = x .monitor
 
-  abbrev xs : List Probe
+  abbrev xs : List QueuedProbe
   xs = queued (x .room) (m .ring)
 
   abbrev p : Plain
@@ -72,7 +72,7 @@ module _ (x : Stand) (marks : Marks) (kept : Kept x marks) where
   unfolding refusalOf
   same-refusal = ap (λ (t : Bool). choose t wrongRoom (choose (counted (m .summary)) countsFull 0)) in-place
 
-  probes-length : (ys : List Probe) → length (map probeOf ys) ≡ length ys
+  probes-length : (ys : List QueuedProbe) → length (map plainProbeOf ys) ≡ length ys
   probes-length [] = refl
   probes-length (y ∷ ys) = ap suc (probes-length ys)
 
@@ -84,7 +84,7 @@ module _ (x : Stand) (marks : Marks) (kept : Kept x marks) where
       (sym (probes-length xs ∙ tabulate-length (m .ring .len) (at (x .room) (m .ring))))
 
   -- ---- `deadline`
-  front-by : (len : ℕ) → choose (eqb len 0) Absent (At (getD (x .room) (m .ring .head) nil .deadline)) ≡ deadline (map probeOf (tabulate len (at (x .room) (m .ring))))
+  front-by : (len : ℕ) → choose (eqb len 0) Absent (At (getD (x .room) (m .ring .head) nil .deadline)) ≡ deadline (map plainProbeOf (tabulate len (at (x .room) (m .ring))))
   front-by zero = refl
   front-by (suc n) = ap (λ (t : Bool). choose t Absent (At (getD (x .room) (m .ring .head) nil .deadline))) (ne-eqb (suc n) 0 (λ e. omega (arith, e))) ∙ ap (λ (k : ℕ). At (getD (x .room) k nil .deadline)) (sym (ap (λ (k : ℕ). k % capacity) (add-zero (m .ring .head)) ∙ mod-eq-of-lt (kept .held .0)))
 
@@ -125,19 +125,19 @@ module _ (x : Stand) (marks : Marks) (kept : Kept x marks) where
   abbrev counting : ℕ → ℕ
   counting s = choose (marks s) (suc (leading (passes (Until s)) xs)) 0
 
-  left-by : (s : ℕ) (t : Bool) → marks s ≡ t → choose t (popTo s (map probeOf xs) marks) (record { probes = map probeOf xs; received = marks }) ≡ leaves (choose t (suc (leading (passes (Until s)) xs)) 0) xs marks
+  left-by : (s : ℕ) (t : Bool) → marks s ≡ t → choose t (popTo s (map plainProbeOf xs) marks) (record { probes = map plainProbeOf xs; received = marks }) ≡ leaves (choose t (suc (leading (passes (Until s)) xs)) 0) xs marks
   left-by s true e = pops-to s xs marks (first-there x marks kept s e)
   left-by s false e = refl
 
-  heard-next : (s : ℕ) → Next (replyOn m (x .room) s) (hear p (choose (marks s) (popTo s (map probeOf xs) marks) (record { probes = map probeOf xs; received = marks })))
+  heard-next : (s : ℕ) → Next (replyOn m (x .room) s) (hear p (choose (marks s) (popTo s (map plainProbeOf xs) marks) (record { probes = map plainProbeOf xs; received = marks })))
   unfolding replyOn
   heard-next s =
-      subst (λ (n : ℕ). Next (pops m (x .room) n (hears (m .summary))) (hear p (choose (marks s) (popTo s (map probeOf xs) marks) (record { probes = map probeOf xs; received = marks })))) (sym (takes x marks kept s))
+      subst (λ (n : ℕ). Next (pops m (x .room) n (hears (m .summary))) (hear p (choose (marks s) (popTo s (map plainProbeOf xs) marks) (record { probes = map plainProbeOf xs; received = marks })))) (sym (takes x marks kept s))
       (subst (λ (l : Left). Next (pops m (x .room) (counting s) (hears (m .summary))) (hear p l)) (sym (left-by s (marks s) refl))
       (popped-next x marks kept (counting s) (within x marks kept s) (hears (m .summary)) hears-few))
 
   reply-by : (s : ℕ) (b : Bool)
-      → Next (choose b (replyOn m (x .room) s) (unchanged m (x .room))) (choose b (hear p (choose (marks s) (popTo s (map probeOf xs) marks) (record { probes = map probeOf xs; received = marks }))) p)
+      → Next (choose b (replyOn m (x .room) s) (unchanged m (x .room))) (choose b (hear p (choose (marks s) (popTo s (map plainProbeOf xs) marks) (record { probes = map plainProbeOf xs; received = marks }))) p)
   reply-by s true = heard-next s
   reply-by s false = stays
 

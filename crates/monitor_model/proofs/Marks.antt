@@ -8,7 +8,7 @@ use native.Mathlib.Omega.{arith}
 use lib.ListN.{length, take}
 use lib.Dec.{T, eqb, ltb, leb·suc-suc}
 use borrow.Author.Tests.{eqb-true, ne-eqb, ltb-false, lt-ltb}
-use Rattle.probe_queue.specs.declared.Probe.{Probe}
+use Rattle.probe_queue.specs.declared.QueuedProbe.{QueuedProbe}
 use Rattle.probe_queue.specs.declared.Rule.the-variants.{Below, Until, Unmarked}
 use Rattle.probe_queue.specs.Queue.{choose, leading, isMarked, passes, unmark}
 use Rattle.monitor_model.specs.Plain.{Marks, insert, remove}
@@ -16,16 +16,16 @@ use Rattle.monitor_model.specs.Playing.{marked}
 use Rattle.monitor_model.proofs.Rings.{unmarksAll, unmark-sequence}
 use Rattle.monitor_model.proofs.Rising.{Above, Rises, above-append}
 
-abbrev pub seqs : List Probe → List ℕ
-seqs xs = map (λ (p : Probe). p .sequence) xs
+abbrev pub seqs : List QueuedProbe → List ℕ
+seqs xs = map (λ (p : QueuedProbe). p .sequence) xs
 
 -- whether a sequence is one of a list's
-abbrev pub among : ℕ → List Probe → Bool
+abbrev pub among : ℕ → List QueuedProbe → Bool
 among s [] = false
 among s (p ∷ ps) = choose (eqb (p .sequence) s) true (among s ps)
 
 -- each pop removes its sequence
-abbrev pub removes : List Probe → Marks → Marks
+abbrev pub removes : List QueuedProbe → Marks → Marks
 removes [] marks = marks
 removes (p ∷ ps) marks = removes ps (remove (p .sequence) marks)
 
@@ -34,20 +34,20 @@ twice true true v = refl
 twice true false v = refl
 twice false b v = refl
 
-removes-is : (ps : List Probe) (marks : Marks) (s : ℕ) → removes ps marks s ≡ choose (among s ps) false (marks s)
+removes-is : (ps : List QueuedProbe) (marks : Marks) (s : ℕ) → removes ps marks s ≡ choose (among s ps) false (marks s)
 unfolding remove
 removes-is [] marks s = refl
 removes-is (p ∷ ps) marks s = removes-is ps (remove (p .sequence) marks) s ∙ twice (eqb (p .sequence) s) (among s ps) (marks s)
 
 -- one record and one unmarked sequence: `a` its being of that sequence, `b` that sequence's being s, `c` its being of s
-one-unmarked : (a b c k m : Bool) (x : Probe) → (a ≡ true → c ≡ b) → (b ≡ true → c ≡ a)
+one-unmarked : (a b c k m : Bool) (x : QueuedProbe) → (a ≡ true → c ≡ b) → (b ≡ true → c ≡ a)
     → choose c (choose (isMarked (choose a (record { sequence = x .sequence; deadline = x .deadline; mark = 0 }) x)) true (choose b false m)) (choose b false m) ≡ choose b false (choose c (choose (isMarked x) true m) m)
 one-unmarked true true c k m x i j = subst (λ (t : Bool). choose t (choose false true false) false ≡ false) (sym (i refl)) refl
 one-unmarked true false c k m x i j = subst (λ (t : Bool). choose t (choose false true m) m ≡ choose t (choose (isMarked x) true m) m) (sym (i refl)) refl
 one-unmarked false true c k m x i j = subst (λ (t : Bool). choose t (choose (isMarked x) true false) false ≡ false) (sym (j refl)) refl
 one-unmarked false false c k m x i j = refl
 
-marked-unmark : (q s : ℕ) (xs : List Probe) → marked s (map (unmark q) xs) ≡ choose (eqb q s) false (marked s xs)
+marked-unmark : (q s : ℕ) (xs : List QueuedProbe) → marked s (map (unmark q) xs) ≡ choose (eqb q s) false (marked s xs)
 unfolding unmark
 marked-unmark q s [] = none (eqb q s)
   where
@@ -60,7 +60,7 @@ marked-unmark q s (x ∷ xs) =
     ∙ one-unmarked (eqb (x .sequence) q) (eqb q s) (eqb (x .sequence) s) true (marked s xs) x
     (λ e. ap (λ (n : ℕ). eqb n s) (eqb-true (x .sequence) q e)) (λ e. ap (eqb (x .sequence)) (sym (eqb-true q s e)))
 
-marked-unmarks : (ps xs : List Probe) (s : ℕ) → marked s (unmarksAll ps xs) ≡ choose (among s ps) false (marked s xs)
+marked-unmarks : (ps xs : List QueuedProbe) (s : ℕ) → marked s (unmarksAll ps xs) ≡ choose (among s ps) false (marked s xs)
 marked-unmarks [] xs s = refl
 marked-unmarks (p ∷ ps) xs s =
     marked-unmarks ps (map (unmark (p .sequence)) xs) s ∙ ap (λ (m : Bool). choose (among s ps) false m) (marked-unmark (p .sequence) s xs) ∙ twice (eqb (p .sequence) s) (among s ps) (marked s xs)
@@ -73,17 +73,17 @@ append-one true a k m n e i = let z : true ≡ false = e in absurd (impossible z
 append-one false a k m n e i = i e
 
 -- of a sequence that is not among the first records, the marks are those of the others
-pub marked-append : (ps xs : List Probe) (s : ℕ) → among s ps ≡ false → marked s (ps ++ xs) ≡ marked s xs
+pub marked-append : (ps xs : List QueuedProbe) (s : ℕ) → among s ps ≡ false → marked s (ps ++ xs) ≡ marked s xs
 marked-append [] xs s e = refl
 marked-append (p ∷ ps) xs s e = append-one (eqb (p .sequence) s) (among s ps) (isMarked p) (marked s (ps ++ xs)) (marked s xs) e (λ h. marked-append ps xs s h)
 
 -- above a sequence no record of it is marked
-pub above-unmarked : (n s : ℕ) (xs : List Probe) → Above n (seqs xs) → s ≤ n → marked s xs ≡ false
+pub above-unmarked : (n s : ℕ) (xs : List QueuedProbe) → Above n (seqs xs) → s ≤ n → marked s xs ≡ false
 above-unmarked n s [] a l = refl
 above-unmarked n s (x ∷ xs) a l =
     ap (λ (t : Bool). choose t (choose (isMarked x) true (marked s xs)) (marked s xs)) (ne-eqb (x .sequence) s (λ e. omega (arith, e, l, a .0))) ∙ above-unmarked n s xs (a .1) l
 
-seqs-append : (ps xs : List Probe) → seqs (ps ++ xs) ≡ seqs ps ++ seqs xs
+seqs-append : (ps xs : List QueuedProbe) → seqs (ps ++ xs) ≡ seqs ps ++ seqs xs
 seqs-append [] xs = refl
 seqs-append (p ∷ ps) xs = ap (λ (ns : List ℕ). p .sequence ∷ ns) (seqs-append ps xs)
 
@@ -92,7 +92,7 @@ absent-one true a m e i j = i refl
 absent-one false a m e i j = j e
 
 -- where sequences ascend, one among the first records is not marked among the others
-pub absent : (ps xs : List Probe) (s : ℕ) → Rises (seqs (ps ++ xs)) → among s ps ≡ true → marked s xs ≡ false
+pub absent : (ps xs : List QueuedProbe) (s : ℕ) → Rises (seqs (ps ++ xs)) → among s ps ≡ true → marked s xs ≡ false
 absent [] xs s r e = absurd (impossible e)
   where
     impossible : false ≡ true → ⊥
@@ -103,7 +103,7 @@ absent (p ∷ ps) xs s r e =
     (λ h. absent ps xs s (r .1) h)
 
 -- ---- what n pops leave of the marks
-module _ (ps xs : List Probe) (marks : Marks) (same : (s : ℕ) → marked s (ps ++ xs) ≡ marks s) where
+module _ (ps xs : List QueuedProbe) (marks : Marks) (same : (s : ℕ) → marked s (ps ++ xs) ≡ marks s) where
   slow-by : (s : ℕ) (a : Bool) → among s ps ≡ a → choose a false (marked s xs) ≡ choose a false (marks s)
   slow-by s true e = refl
   slow-by s false e = sym (marked-append ps xs s e) ∙ same s
@@ -125,12 +125,12 @@ snoc-one true true m false = refl
 snoc-one true false m v = refl
 snoc-one false k m v = refl
 
-marked-snoc : (xs : List Probe) (v : Probe) (s : ℕ) → isMarked v ≡ true → marked s (xs ++ v ∷ []) ≡ choose (eqb (v .sequence) s) true (marked s xs)
+marked-snoc : (xs : List QueuedProbe) (v : QueuedProbe) (s : ℕ) → isMarked v ≡ true → marked s (xs ++ v ∷ []) ≡ choose (eqb (v .sequence) s) true (marked s xs)
 marked-snoc [] v s e = ap (λ (k : Bool). choose (eqb (v .sequence) s) (choose k true false) false) e
 marked-snoc (x ∷ xs) v s e =
     ap (λ (m : Bool). choose (eqb (x .sequence) s) (choose (isMarked x) true m) m) (marked-snoc xs v s e) ∙ snoc-one (eqb (x .sequence) s) (isMarked x) (marked s xs) (eqb (v .sequence) s)
 
-pub inserts : (xs : List Probe) (v : Probe) (marks : Marks) → isMarked v ≡ true → ((s : ℕ) → marked s xs ≡ marks s) → (s : ℕ) → marked s (xs ++ v ∷ []) ≡ insert (v .sequence) marks s
+pub inserts : (xs : List QueuedProbe) (v : QueuedProbe) (marks : Marks) → isMarked v ≡ true → ((s : ℕ) → marked s xs ≡ marks s) → (s : ℕ) → marked s (xs ++ v ∷ []) ≡ insert (v .sequence) marks s
 unfolding insert
 inserts xs v marks e same s = marked-snoc xs v s e ∙ ap (λ (m : Bool). choose (eqb (v .sequence) s) true m) (same s)
 
@@ -141,7 +141,7 @@ found-one true false m n len e = leb·suc-suc (suc n) len ∙ e
 found-one false k m n len e = leb·suc-suc (suc n) len ∙ e
 
 -- a marked record is found exactly if there is one
-pub finds : (s : ℕ) (xs : List Probe) → ltb (leading (passes (Unmarked s)) xs) (length xs) ≡ marked s xs
+pub finds : (s : ℕ) (xs : List QueuedProbe) → ltb (leading (passes (Unmarked s)) xs) (length xs) ≡ marked s xs
 unfolding passes
 finds s [] = refl
 finds s (x ∷ xs) = found-one (eqb (x .sequence) s) (isMarked x) (marked s xs) (leading (passes (Unmarked s)) xs) (length xs) (finds s xs)
@@ -151,7 +151,7 @@ first-one true k m n len e i = suc-le-suc zero-le
 first-one false k m n len e i = suc-le-suc (i e)
 
 -- then there is a first record of the sequence
-pub first-within : (s : ℕ) (xs : List Probe) → marked s xs ≡ true → leading (passes (Until s)) xs < length xs
+pub first-within : (s : ℕ) (xs : List QueuedProbe) → marked s xs ≡ true → leading (passes (Until s)) xs < length xs
 unfolding passes
 first-within s [] e = absurd (impossible e)
   where
@@ -159,12 +159,12 @@ first-within s [] e = absurd (impossible e)
     impossible z = subst (λ (t : Bool). T (not t)) z tt
 first-within s (x ∷ xs) e = first-one (eqb (x .sequence) s) (isMarked x) (marked s xs) (leading (passes (Until s)) xs) (length xs) e (λ h. first-within s xs h)
 
-early-one : (b : Bool) (x : Probe) (s j : ℕ) (xs : List Probe) → (b ≡ false → marked s xs ≡ false) → marked s (take (suc j) xs) ≡ marked s xs → marked s (take (suc (choose b (suc j) 0)) (x ∷ xs)) ≡ marked s (x ∷ xs)
+early-one : (b : Bool) (x : QueuedProbe) (s j : ℕ) (xs : List QueuedProbe) → (b ≡ false → marked s xs ≡ false) → marked s (take (suc j) xs) ≡ marked s xs → marked s (take (suc (choose b (suc j) 0)) (x ∷ xs)) ≡ marked s (x ∷ xs)
 early-one true x s j xs i e = ap (λ (m : Bool). choose (eqb (x .sequence) s) (choose (isMarked x) true m) m) e
 early-one false x s j xs i e = ap (λ (m : Bool). choose (eqb (x .sequence) s) (choose (isMarked x) true m) m) (sym (i refl))
 
 -- where sequences ascend, the search may stop after the first that is not below
-pub stops-early : (s : ℕ) (xs : List Probe) → Rises (seqs xs) → marked s (take (suc (leading (passes (Below s)) xs)) xs) ≡ marked s xs
+pub stops-early : (s : ℕ) (xs : List QueuedProbe) → Rises (seqs xs) → marked s (take (suc (leading (passes (Below s)) xs)) xs) ≡ marked s xs
 unfolding passes
 stops-early s [] r = refl
 stops-early s (x ∷ xs) r =

@@ -7,8 +7,8 @@ use mathlib.Core.List.{List, [], _∷_}
 use Prim.Native.Nat.{ℕ, zero-le, _-_}
 use native.Mathlib.Omega.{arith}
 use lib.ListN.{length}
-use Rattle.scope.specs.Limits.{capacity}
-use Rattle.probe_queue.specs.declared.Probe.{Probe}
+use Rattle.limits.specs.Limits.{capacity}
+use Rattle.probe_queue.specs.declared.QueuedProbe.{QueuedProbe}
 use Rattle.monitor.specs.Operations.{Stand, fresh}
 use Rattle.monitor.specs.Answers.{deadlineOf}
 use Rattle.monitor_model.specs.Plain.{Marks, Plain, new, deadline}
@@ -18,7 +18,7 @@ use Rattle.monitor_model.proofs.Standing.{seen, Kept, Next}
 use Rattle.monitor_model.proofs.Following.{same-deadline, agrees}
 
 -- a fresh monitor with any room of its size
-pub begins : (threshold timeout : ℕ) (room : List Probe) → length room ≡ capacity → Kept (record { monitor = fresh threshold timeout; room = room }) (λ s. false)
+pub begins : (threshold timeout : ℕ) (room : List QueuedProbe) → length room ≡ capacity → Kept (record { monitor = fresh threshold timeout; room = room }) (λ s. false)
 begins threshold timeout room long = record { held = (omega arith, zero-le); long = long; few = omega arith; received = λ s. refl; rising = rises-drop (0 - 0) [] tt; last = tt }
 
 abbrev Follows : List Call → Stand → Plain → Type 0
@@ -48,14 +48,14 @@ shows-next x p n =
 deadline-next : (x : Stand) (p : Plain) → Next x p → deadlineOf (x .monitor) (x .room) ≡ deadline (p .probes)
 deadline-next x p n = same-deadline x (n .0) (n .1 .1) ∙ ap (λ (r : Plain). deadline (r .probes)) (sym (n .1 .0))
 
-pub deadline-follows : (threshold timeout : ℕ) (room : List Probe) (calls : List Call) → length room ≡ capacity
+pub deadline-follows : (threshold timeout : ℕ) (room : List QueuedProbe) (calls : List Call) → length room ≡ capacity
     → deadlineOf (ringAfter calls (record { monitor = fresh threshold timeout; room = room }) .monitor) (ringAfter calls (record { monitor = fresh threshold timeout; room = room }) .room) ≡ deadline (plainAfter calls (new threshold timeout) .probes)
 deadline-follows threshold timeout room calls long =
     let x : Stand = record { monitor = fresh threshold timeout; room = room } in
     deadline-next (ringAfter calls x) (plainAfter calls (new threshold timeout)) (follows-kept calls x (λ s. false) (begins threshold timeout room long) .1)
 
 -- THE THEOREM
-pub follows : (threshold timeout : ℕ) (room : List Probe) (calls : List Call) → length room ≡ capacity
+pub follows : (threshold timeout : ℕ) (room : List QueuedProbe) (calls : List Call) → length room ≡ capacity
     → (ringNumbers calls (record { monitor = fresh threshold timeout; room = room }) ≡ plainNumbers calls (new threshold timeout))
     × Shows (ringAfter calls (record { monitor = fresh threshold timeout; room = room })) (plainAfter calls (new threshold timeout))
 follows threshold timeout room calls long =

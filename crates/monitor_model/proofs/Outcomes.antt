@@ -22,12 +22,12 @@ use Rattle.determined.proofs.Facts.{both-say}
 use lib.ListN.{length}
 use lib.Dec.{eqb}
 use borrow.Author.Tests.{eqb-true, ne-eqb}
-use Rattle.scope.specs.Limits.{capacity}
-use Rattle.probe_queue.specs.declared.Probe.{Probe}
+use Rattle.limits.specs.Limits.{capacity}
+use Rattle.probe_queue.specs.declared.QueuedProbe.{QueuedProbe}
 use Rattle.probe_queue.specs.Queue.{choose}
 use Rattle.monitor.specs.declared.Monitor.{Monitor}
-use Rattle.monitor.specs.declared.Answer.{Answer}
-use Rattle.monitor.specs.declared.Answer.the-variants.{Served, Refused}
+use Rattle.monitor.specs.declared.MonitorAnswer.{MonitorAnswer}
+use Rattle.monitor.specs.declared.MonitorAnswer.the-variants.{Served, Refused}
 use Rattle.monitor.specs.Refusals.{refusalOf, refusalOfSent, served}
 use Rattle.monitor.specs.Operations.{Stand, sentOn, replyOn, advanceOn, idleOn, unchanged, sentIf, replyIf, advanceIf}
 use Rattle.monitor.specs.Answers.{Outcome, Ends, outcome, number, answered, sentTo, replyTo, advanceTo, idleTo}
@@ -42,7 +42,7 @@ use Rattle.monitor.proofs.Monitor.deadline as deadline
 -- ---- one outcome. Of a call that is lent the queue, over its clauses; of the others, over their plain reading
 
 -- what a contract says of an exit, said of two, makes them equal
-same-ends : (o : Outcome) (r₁ r₂ : Answer) (room₁ room₂ : List Probe) → Ends o r₁ room₁ → Ends o r₂ room₂ → (r₁ ≡ r₂) × (room₁ ≡ room₂)
+same-ends : (o : Outcome) (r₁ r₂ : MonitorAnswer) (room₁ room₂ : List QueuedProbe) → Ends o r₁ room₁ → Ends o r₂ room₂ → (r₁ ≡ r₂) × (room₁ ≡ room₂)
 same-ends o r₁ r₂ room₁ room₂ a b = (a .0 ∙ sym (b .0), a .1 ∙ sym (b .1))
 
 pub sent-unique :
@@ -81,15 +81,15 @@ number-answered : (n : ℕ) (m : Monitor) → number (answered n m) ≡ n
 unfolding answered
 number-answered n m = number-by n m (eqb n 0) refl
 
-pub sent-number : (m : Monitor) (room : List Probe) (s t : ℕ) → number (sentTo m room s t .answer) ≡ refusalOfSent m (length room) t
+pub sent-number : (m : Monitor) (room : List QueuedProbe) (s t : ℕ) → number (sentTo m room s t .answer) ≡ refusalOfSent m (length room) t
 unfolding sentTo
 sent-number m room s t = number-answered (refusalOfSent m (length room) t) (sentIf true m room s t .monitor)
 
-pub reply-number : (m : Monitor) (room : List Probe) (s : ℕ) → number (replyTo m room s .answer) ≡ refusalOf m (length room)
+pub reply-number : (m : Monitor) (room : List QueuedProbe) (s : ℕ) → number (replyTo m room s .answer) ≡ refusalOf m (length room)
 unfolding replyTo
 reply-number m room s = number-answered (refusalOf m (length room)) (replyIf true m room s .monitor)
 
-pub advance-number : (m : Monitor) (room : List Probe) (t : ℕ) → number (advanceTo m room t .answer) ≡ refusalOf m (length room)
+pub advance-number : (m : Monitor) (room : List QueuedProbe) (t : ℕ) → number (advanceTo m room t .answer) ≡ refusalOf m (length room)
 unfolding advanceTo
 advance-number m room t = number-answered (refusalOf m (length room)) (advanceIf true m room t .monitor)
 
@@ -98,7 +98,7 @@ unfolding idleTo
 idle-number m = number-by (refusalOf m capacity) (idleOn m) (eqb (refusalOf m capacity) 0) refl
 
 -- ---- a refusal hands back its number only, and the room as it was
-abbrev Untouched : ℕ → List Probe → Outcome → Type 0
+abbrev Untouched : ℕ → List QueuedProbe → Outcome → Type 0
 Untouched n room o = (o .answer ≡ Refused n) × (o .room ≡ room)
 
 answered-by : (n : ℕ) (m : Monitor) → eqb n 0 ≡ false → answered n m ≡ Refused n
@@ -108,7 +108,7 @@ answered-by n m e = ap (λ (b : Bool). choose b (Served m) (Refused n)) e
 refuses : (n : ℕ) (on off : Stand) → eqb n 0 ≡ false → Untouched n (off .room) (outcome n (choose (served true n) on off))
 refuses n on off e = (answered-by n (choose (served true n) on off .monitor) e, ap (λ (b : Bool). choose b on off .room) e)
 
-pub sent-refused : (m : Monitor) (room : List Probe) (s t : ℕ) → (refusalOfSent m (length room) t ≡ 0 → ⊥) → Untouched (refusalOfSent m (length room) t) room (sentTo m room s t)
+pub sent-refused : (m : Monitor) (room : List QueuedProbe) (s t : ℕ) → (refusalOfSent m (length room) t ≡ 0 → ⊥) → Untouched (refusalOfSent m (length room) t) room (sentTo m room s t)
 unfolding sentTo sentIf
 sent-refused m room s t no-zero = refuses (refusalOfSent m (length room) t) (sentOn m room s t) (unchanged m room) (ne-eqb _ _ no-zero)
 
@@ -116,14 +116,14 @@ both : (a b : Bool) (on off : Stand) → choose (a && b) on off ≡ choose a (ch
 both true b on off = refl
 both false b on off = refl
 
-pub reply-refused : (m : Monitor) (room : List Probe) (s : ℕ) → (refusalOf m (length room) ≡ 0 → ⊥) → Untouched (refusalOf m (length room)) room (replyTo m room s)
+pub reply-refused : (m : Monitor) (room : List QueuedProbe) (s : ℕ) → (refusalOf m (length room) ≡ 0 → ⊥) → Untouched (refusalOf m (length room)) room (replyTo m room s)
 unfolding replyTo replyIf
 reply-refused m room s no-zero =
     let n = refusalOf m (length room) in
     let e : eqb n 0 ≡ false = ne-eqb n 0 no-zero in
     (answered-by n _ e, ap (λ (y : Stand). y .room) (both (served true n) (m .transmitting) (replyOn m room s) (unchanged m room)) ∙ ap (λ (b : Bool). choose b (choose (m .transmitting) (replyOn m room s) (unchanged m room)) (unchanged m room) .room) e)
 
-pub advance-refused : (m : Monitor) (room : List Probe) (t : ℕ) → (refusalOf m (length room) ≡ 0 → ⊥) → Untouched (refusalOf m (length room)) room (advanceTo m room t)
+pub advance-refused : (m : Monitor) (room : List QueuedProbe) (t : ℕ) → (refusalOf m (length room) ≡ 0 → ⊥) → Untouched (refusalOf m (length room)) room (advanceTo m room t)
 unfolding advanceTo advanceIf
 advance-refused m room t no-zero = refuses (refusalOf m (length room)) (advanceOn m room t) (unchanged m room) (ne-eqb _ _ no-zero)
 
@@ -132,14 +132,14 @@ unfolding idleTo
 idle-refused m no-zero = ap (λ (b : Bool). choose b (Served (idleOn m)) (Refused (refusalOf m capacity))) (ne-eqb (refusalOf m capacity) 0 no-zero)
 
 -- a call that whoever makes it does not want to go on changes nothing
-pub sent-held : (m : Monitor) (room : List Probe) (s t : ℕ) → sentIf false m room s t ≡ unchanged m room
+pub sent-held : (m : Monitor) (room : List QueuedProbe) (s t : ℕ) → sentIf false m room s t ≡ unchanged m room
 unfolding sentIf
 sent-held m room s t = refl
 
-pub reply-held : (m : Monitor) (room : List Probe) (s : ℕ) → replyIf false m room s ≡ unchanged m room
+pub reply-held : (m : Monitor) (room : List QueuedProbe) (s : ℕ) → replyIf false m room s ≡ unchanged m room
 unfolding replyIf
 reply-held m room s = refl
 
-pub advance-held : (m : Monitor) (room : List Probe) (t : ℕ) → advanceIf false m room t ≡ unchanged m room
+pub advance-held : (m : Monitor) (room : List QueuedProbe) (t : ℕ) → advanceIf false m room t ≡ unchanged m room
 unfolding advanceIf
 advance-held m room t = refl

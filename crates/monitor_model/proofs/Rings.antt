@@ -11,9 +11,9 @@ use lib.ListN.{length, getD, set, drop, length-set}
 use lib.Seq.{getD-set-same, getD-set-other}
 use lib.Dec.{eqb, ltb}
 use borrow.Author.Tests.{ltb-true, ltb-false, eqb-true, eqb-false}
-use Rattle.scope.specs.Limits.{capacity}
-use Rattle.probe_queue.specs.declared.Probe.{Probe}
-use Rattle.probe_queue.specs.declared.Ring.{Ring}
+use Rattle.limits.specs.Limits.{capacity}
+use Rattle.probe_queue.specs.declared.QueuedProbe.{QueuedProbe}
+use Rattle.probe_queue.specs.declared.QueueRing.{QueueRing}
 use Rattle.probe_queue.specs.Queue.{choose, nil, place, at, tabulate, queued, unmark, unmarked, after, popped}
 use Rattle.monitor_model.proofs.Lists.{tabulate-cong, tabulate-snoc, drop-tabulate, map-tabulate}
 
@@ -28,12 +28,12 @@ apart-by h i j false true lh lij lj k es et e = omega (arith, e, ltb-false (h + 
 apart-by h i j false false lh lij lj k es et e = omega (arith, e, ltb-false (h + i) capacity es, ltb-false (h + j) capacity et)
 
 -- two queued records lie at two places
-apart-lt : (ring : Ring) (i j : ℕ) → ring .head < capacity → i < j → j < capacity → place ring i ≡ place ring j → ⊥
+apart-lt : (ring : QueueRing) (i j : ℕ) → ring .head < capacity → i < j → j < capacity → place ring i ≡ place ring j → ⊥
 apart-lt ring i j lh lij lj e =
     apart-by (ring .head) i j (ltb (ring .head + i) capacity) (ltb (ring .head + j) capacity) lh lij (omega arith) (omega arith) refl refl
     (sym (folds (ring .head + i) (ltb (ring .head + i) capacity) refl (omega arith)) ∙ e ∙ folds (ring .head + j) (ltb (ring .head + j) capacity) refl (omega arith))
 
-pub apart : (ring : Ring) (i j : ℕ) → ring .head < capacity → i < capacity → j < capacity → (i ≡ j → ⊥) → place ring i ≡ place ring j → ⊥
+pub apart : (ring : QueueRing) (i j : ℕ) → ring .head < capacity → i < capacity → j < capacity → (i ≡ j → ⊥) → place ring i ≡ place ring j → ⊥
 apart ring i j lh li lj ne e = first (ltb i j) refl
   where
     second : (t : Bool) → ltb j i ≡ t → j ≤ i → ⊥
@@ -45,31 +45,31 @@ apart ring i j lh li lj ne e = first (ltb i j) refl
     first false h = second (ltb j i) refl (ltb-false i j h)
 
 -- ---- one record is stored
-module _ (room : List Probe) (ring : Ring) (long : length room ≡ capacity) (lh : ring .head < capacity) where
+module _ (room : List QueuedProbe) (ring : QueueRing) (long : length room ≡ capacity) (lh : ring .head < capacity) where
   inside : (i : ℕ) → place ring i < length room
   inside i = subst (λ (n : ℕ). place ring i < n) (sym long) (mod-lt (ring .head + i) {m = capacity} (omega arith))
 
-  pub at-same : (i : ℕ) (v : Probe) → at (set room (place ring i) v) ring i ≡ v
+  pub at-same : (i : ℕ) (v : QueuedProbe) → at (set room (place ring i) v) ring i ≡ v
   at-same i v = getD-set-same room (place ring i) v nil (inside i)
 
-  pub at-other : (i j : ℕ) (v : Probe) → i < capacity → j < capacity → (j ≡ i → ⊥) → at (set room (place ring i) v) ring j ≡ at room ring j
+  pub at-other : (i j : ℕ) (v : QueuedProbe) → i < capacity → j < capacity → (j ≡ i → ⊥) → at (set room (place ring i) v) ring j ≡ at room ring j
   at-other i j v li lj ne = getD-set-other room (place ring i) (place ring j) v nil (apart ring j i lh lj li ne)
 
 -- a probe is queued behind the others
-pub pushes : (room : List Probe) (ring : Ring) (v : Probe) → length room ≡ capacity → ring .head < capacity → ring .len < capacity
+pub pushes : (room : List QueuedProbe) (ring : QueueRing) (v : QueuedProbe) → length room ≡ capacity → ring .head < capacity → ring .len < capacity
     → queued (set room (place ring (ring .len)) v) (record { head = ring .head; len = ring .len + 1 }) ≡ queued room ring ++ v ∷ []
 pushes room ring v long lh ll =
     ap (λ (n : ℕ). tabulate n (at (set room (place ring (ring .len)) v) ring)) (add-one (ring .len))
     ∙ tabulate-snoc (ring .len) (at (set room (place ring (ring .len)) v) ring)
-    ∙ ap (λ (xs : List Probe). xs ++ at (set room (place ring (ring .len)) v) ring (ring .len) ∷ [])
+    ∙ ap (λ (xs : List QueuedProbe). xs ++ at (set room (place ring (ring .len)) v) ring (ring .len) ∷ [])
     (tabulate-cong (ring .len) (at (set room (place ring (ring .len)) v) ring) (at room ring) (λ i l. at-other room ring long lh (ring .len) i v ll (omega (arith, l, ll)) (λ e. irrefl i (ring .len) l e)))
-    ∙ ap (λ (x : Probe). queued room ring ++ x ∷ []) (at-same room ring long lh (ring .len) v)
+    ∙ ap (λ (x : QueuedProbe). queued room ring ++ x ∷ []) (at-same room ring long lh (ring .len) v)
   where
     irrefl : (i n : ℕ) → i < n → i ≡ n → ⊥
     irrefl i n l e = omega (arith, l, e)
 
 -- ---- a sequence is unmarked
-pub unmark-sequence : (s : ℕ) (p : Probe) → unmark s p .sequence ≡ p .sequence
+pub unmark-sequence : (s : ℕ) (p : QueuedProbe) → unmark s p .sequence ≡ p .sequence
 unfolding unmark
 unmark-sequence s p = by (eqb (p .sequence) s)
   where
@@ -77,7 +77,7 @@ unmark-sequence s p = by (eqb (p .sequence) s)
     by true = refl
     by false = refl
 
-pub unmark-deadline : (s : ℕ) (p : Probe) → unmark s p .deadline ≡ p .deadline
+pub unmark-deadline : (s : ℕ) (p : QueuedProbe) → unmark s p .deadline ≡ p .deadline
 unfolding unmark
 unmark-deadline s p = by (eqb (p .sequence) s)
   where
@@ -86,31 +86,31 @@ unmark-deadline s p = by (eqb (p .sequence) s)
     by false = refl
 
 -- the room keeps its sequences
-sequence-kept : (room : List Probe) (s j k : ℕ) → getD (set room j (unmark s (getD room j nil))) k nil .sequence ≡ getD room k nil .sequence
+sequence-kept : (room : List QueuedProbe) (s j k : ℕ) → getD (set room j (unmark s (getD room j nil))) k nil .sequence ≡ getD room k nil .sequence
 sequence-kept [] s j k = refl
 sequence-kept (x ∷ room) s zero zero = unmark-sequence s x
 sequence-kept (x ∷ room) s zero (suc k) = refl
 sequence-kept (x ∷ room) s (suc j) zero = refl
 sequence-kept (x ∷ room) s (suc j) (suc k) = sequence-kept room s j k
 
-unmarked-sequence : (room : List Probe) (ring : Ring) (s n k : ℕ) → getD (unmarked room ring s n) k nil .sequence ≡ getD room k nil .sequence
+unmarked-sequence : (room : List QueuedProbe) (ring : QueueRing) (s n k : ℕ) → getD (unmarked room ring s n) k nil .sequence ≡ getD room k nil .sequence
 unmarked-sequence room ring s zero k = refl
 unmarked-sequence room ring s (suc n) k = sequence-kept (unmarked room ring s n) s (place ring n) k ∙ unmarked-sequence room ring s n k
 
-popped-sequence : (room : List Probe) (ring rest : Ring) (n k : ℕ) → getD (popped room ring rest n) k nil .sequence ≡ getD room k nil .sequence
+popped-sequence : (room : List QueuedProbe) (ring rest : QueueRing) (n k : ℕ) → getD (popped room ring rest n) k nil .sequence ≡ getD room k nil .sequence
 popped-sequence room ring rest zero k = refl
 popped-sequence room ring rest (suc n) k = unmarked-sequence (popped room ring rest n) rest _ (rest .len) k ∙ popped-sequence room ring rest n k
 
-pub unmarked-long : (room : List Probe) (ring : Ring) (s n : ℕ) → length (unmarked room ring s n) ≡ length room
+pub unmarked-long : (room : List QueuedProbe) (ring : QueueRing) (s n : ℕ) → length (unmarked room ring s n) ≡ length room
 unmarked-long room ring s zero = refl
 unmarked-long room ring s (suc n) = length-set (unmarked room ring s n) (place ring n) _ ∙ unmarked-long room ring s n
 
-pub popped-long : (room : List Probe) (ring rest : Ring) (n : ℕ) → length (popped room ring rest n) ≡ length room
+pub popped-long : (room : List QueuedProbe) (ring rest : QueueRing) (n : ℕ) → length (popped room ring rest n) ≡ length room
 popped-long room ring rest zero = refl
 popped-long room ring rest (suc n) = unmarked-long (popped room ring rest n) rest _ (rest .len) ∙ popped-long room ring rest n
 
 -- the records before n are unmarked, and the others are as they were
-module _ (room : List Probe) (ring : Ring) (s : ℕ) (long : length room ≡ capacity) (lh : ring .head < capacity) where
+module _ (room : List QueuedProbe) (ring : QueueRing) (s : ℕ) (long : length room ≡ capacity) (lh : ring .head < capacity) where
   long-at : (n : ℕ) → length (unmarked room ring s n) ≡ capacity
   long-at n = unmarked-long room ring s n ∙ long
 
@@ -143,25 +143,25 @@ module _ (room : List Probe) (ring : Ring) (s : ℕ) (long : length room ≡ cap
       ∙ sym (map-tabulate (unmark s) (ring .len) (at room ring))
 
 -- every sequence of a list is unmarked
-abbrev pub unmarksAll : List Probe → List Probe → List Probe
+abbrev pub unmarksAll : List QueuedProbe → List QueuedProbe → List QueuedProbe
 unmarksAll [] xs = xs
 unmarksAll (p ∷ ps) xs = unmarksAll ps (map (unmark (p .sequence)) xs)
 
-unmarks-snoc : (ps : List Probe) (p : Probe) (xs : List Probe) → unmarksAll (ps ++ p ∷ []) xs ≡ map (unmark (p .sequence)) (unmarksAll ps xs)
+unmarks-snoc : (ps : List QueuedProbe) (p : QueuedProbe) (xs : List QueuedProbe) → unmarksAll (ps ++ p ∷ []) xs ≡ map (unmark (p .sequence)) (unmarksAll ps xs)
 unmarks-snoc [] p xs = refl
 unmarks-snoc (x ∷ ps) p xs = unmarks-snoc ps p (map (unmark (x .sequence)) xs)
 
 -- pops unmark the popped sequences in what stays queued
-pub pops-unmark : (room : List Probe) (ring rest : Ring) (n : ℕ) → length room ≡ capacity → rest .head < capacity → rest .len ≤ capacity → queued (popped room ring rest n) rest ≡ unmarksAll (tabulate n (at room ring)) (queued room rest)
+pub pops-unmark : (room : List QueuedProbe) (ring rest : QueueRing) (n : ℕ) → length room ≡ capacity → rest .head < capacity → rest .len ≤ capacity → queued (popped room ring rest n) rest ≡ unmarksAll (tabulate n (at room ring)) (queued room rest)
 pops-unmark room ring rest zero long lh ll = refl
 pops-unmark room ring rest (suc n) long lh ll =
     unmarks (popped room ring rest n) rest _ (popped-long room ring rest n ∙ long) lh ll
     ∙ ap (λ (s : ℕ). map (unmark s) (queued (popped room ring rest n) rest)) (popped-sequence room ring rest n (place ring n))
     ∙ ap (map (unmark (at room ring n .sequence))) (pops-unmark room ring rest n long lh ll)
-    ∙ sym (ap (λ (ps : List Probe). unmarksAll ps (queued room rest)) (tabulate-snoc n (at room ring)) ∙ unmarks-snoc (tabulate n (at room ring)) (at room ring n) (queued room rest))
+    ∙ sym (ap (λ (ps : List QueuedProbe). unmarksAll ps (queued room rest)) (tabulate-snoc n (at room ring)) ∙ unmarks-snoc (tabulate n (at room ring)) (at room ring n) (queued room rest))
 
 -- what stays queued after n pops
-pub drops : (room : List Probe) (ring : Ring) (n : ℕ) → n ≤ ring .len → queued room (after ring n) ≡ drop n (queued room ring)
+pub drops : (room : List QueuedProbe) (ring : QueueRing) (n : ℕ) → n ≤ ring .len → queued room (after ring n) ≡ drop n (queued room ring)
 drops room ring n l =
     tabulate-cong (ring .len - n) (at room (after ring n)) (λ i. at room ring (n + i)) (λ i h. ap (λ (k : ℕ). getD room k nil) (mod-add-mod (ring .head + n) capacity i ∙ ap (λ (k : ℕ). k % capacity) (add-assoc (ring .head) n i)))
     ∙ sym (drop-tabulate n (ring .len - n) (at room ring))

@@ -11,8 +11,8 @@ use lib.ListN.{length, take, drop, take-append-drop}
 use lib.Seq.{take-all}
 use lib.Dec.{leb, ltb}
 use borrow.Author.Tests.{leb-true, leb-false}
-use Rattle.probe_queue.specs.declared.Probe.{Probe}
-use Rattle.probe_queue.specs.declared.Ring.{Ring}
+use Rattle.probe_queue.specs.declared.QueuedProbe.{QueuedProbe}
+use Rattle.probe_queue.specs.declared.QueueRing.{QueueRing}
 use Rattle.probe_queue.specs.declared.Rule.the-variants.{Below, Until, Unmarked}
 use Rattle.probe_queue.specs.Queue.{choose, at, queued, leading, passes}
 use Rattle.monitor.specs.declared.Monitor.{Monitor}
@@ -29,7 +29,7 @@ least-le a b true e = leb-true a b e
 least-le a b false e = le-refl b
 
 -- taking no more than there is
-take-least : (xs : List Probe) (n : ℕ) (t : Bool) → leb (n + 1) (length xs) ≡ t → take (choose t (n + 1) (length xs)) xs ≡ take (suc n) xs
+take-least : (xs : List QueuedProbe) (n : ℕ) (t : Bool) → leb (n + 1) (length xs) ≡ t → take (choose t (n + 1) (length xs)) xs ≡ take (suc n) xs
 take-least xs n true e = ap (λ (k : ℕ). take k xs) (add-one n)
 take-least xs n false e = take-all (length xs) xs (le-refl (length xs)) ∙ sym (take-all (suc n) xs (omega (arith, leb-false (n + 1) (length xs) e)))
 
@@ -37,13 +37,13 @@ module _ (x : Stand) (marks : Marks) (kept : Kept x marks) (s : ℕ) where
   abbrev m : Monitor
   m = x .monitor
 
-  abbrev xs : List Probe
+  abbrev xs : List QueuedProbe
   xs = queued (x .room) (m .ring)
 
-  abbrev search : Ring
+  abbrev search : QueueRing
   search = searched m (x .room) s
 
-  abbrev near : List Probe
+  abbrev near : List QueuedProbe
   near = queued (x .room) search
 
   long : length xs ≡ m .ring .len
@@ -81,7 +81,7 @@ module _ (x : Stand) (marks : Marks) (kept : Kept x marks) (s : ℕ) where
   same-first : marked s near ≡ true → leading (passes (Until s)) near ≡ leading (passes (Until s)) xs
   same-first e =
       sym (leading-append (passes (Until s)) near (drop (search .len) xs) (first-within s near e))
-      ∙ ap (leading (passes (Until s))) (ap (λ (ys : List Probe). ys ++ drop (search .len) xs) near-is ∙ take-append-drop (search .len) xs)
+      ∙ ap (leading (passes (Until s))) (ap (λ (ys : List QueuedProbe). ys ++ drop (search .len) xs) near-is ∙ take-append-drop (search .len) xs)
 
   by : (t : Bool) → marks s ≡ t → choose t (leading (passes (Until s)) near + 1) 0 ≡ choose t (suc (leading (passes (Until s)) xs)) 0
   by true e = add-one (leading (passes (Until s)) near) ∙ ap suc (same-first (near-marked ∙ e))

@@ -10,15 +10,15 @@ use lib.ListN.{length, take, drop, set, take-append-drop, length-set}
 use lib.Seq.{drop-append-le, drop-append-seam}
 use lib.Dec.{eqb, leb, ltb}
 use borrow.Author.Tests.{leb-true, leb-false, ltb-true}
-use Rattle.scope.specs.Limits.{capacity}
-use Rattle.probe_queue.specs.declared.Probe.{Probe}
+use Rattle.limits.specs.Limits.{capacity}
+use Rattle.probe_queue.specs.declared.QueuedProbe.{QueuedProbe}
 use Rattle.probe_queue.specs.Queue.{choose, Held, place, at, queued, unmark, after, popped}
 use Rattle.monitor.specs.declared.Monitor.{Monitor}
 use Rattle.monitor.specs.declared.Summary.{Summary}
 use Rattle.monitor.specs.States.{mostLosses}
 use Rattle.monitor.specs.Operations.{Stand, ascending, repeated, pops, least, runs, queues}
 use Rattle.monitor_model.specs.Plain.{Sent, Marks, Plain, insert, queue}
-use Rattle.monitor_model.specs.Playing.{probeOf, marked}
+use Rattle.monitor_model.specs.Playing.{plainProbeOf, marked}
 use Rattle.monitor_model.proofs.Lists.{tabulate-length, take-tabulate}
 use Rattle.monitor_model.proofs.Rings.{pushes, unmarksAll, unmark-sequence, popped-long, pops-unmark, drops}
 use Rattle.monitor_model.proofs.Rising.{Rises, Last, rises-later, last-drop, last-snoc, rises-snoc}
@@ -27,7 +27,7 @@ use Rattle.monitor_model.proofs.Marks.{seqs, removes, pops-slow, pops-f
 -- the plain state that a monitor with its room shows, with a set of marks
 abbrev pub seen : Stand → Marks → Plain
 seen x marks =
-    record { summary = x .monitor .summary; timeout = x .monitor .timeout; transmitting = x .monitor .transmitting; probes = map probeOf (queued (x .room) (x .monitor .ring)); received = marks }
+    record { summary = x .monitor .summary; timeout = x .monitor .timeout; transmitting = x .monitor .transmitting; probes = map plainProbeOf (queued (x .room) (x .monitor .ring)); received = marks }
 
 -- what holds after any calls from fresh
 pub record Kept (x : Stand) (marks : Marks) : Type 0 where
@@ -43,44 +43,44 @@ abbrev pub Next : Stand → Plain → Type 0
 Next x p = (marks : Marks) × ((p ≡ seen x marks) × Kept x marks)
 
 -- ---- unmarking shows in the marks alone
-unmark-probe : (q : ℕ) (p : Probe) → probeOf (unmark q p) ≡ probeOf p
+unmark-probe : (q : ℕ) (p : QueuedProbe) → plainProbeOf (unmark q p) ≡ plainProbeOf p
 unfolding unmark
 unmark-probe q p = by (eqb (p .sequence) q)
   where
-    by : (t : Bool) → probeOf (choose t (record { sequence = p .sequence; deadline = p .deadline; mark = 0 }) p) ≡ probeOf p
+    by : (t : Bool) → plainProbeOf (choose t (record { sequence = p .sequence; deadline = p .deadline; mark = 0 }) p) ≡ plainProbeOf p
     by true = refl
     by false = refl
 
-unmark-probes : (q : ℕ) (xs : List Probe) → map probeOf (map (unmark q) xs) ≡ map probeOf xs
+unmark-probes : (q : ℕ) (xs : List QueuedProbe) → map plainProbeOf (map (unmark q) xs) ≡ map plainProbeOf xs
 unmark-probes q [] = refl
-unmark-probes q (x ∷ xs) = ap (λ (y : Sent). y ∷ map probeOf (map (unmark q) xs)) (unmark-probe q x) ∙ ap (λ (ys : List Sent). probeOf x ∷ ys) (unmark-probes q xs)
+unmark-probes q (x ∷ xs) = ap (λ (y : Sent). y ∷ map plainProbeOf (map (unmark q) xs)) (unmark-probe q x) ∙ ap (λ (ys : List Sent). plainProbeOf x ∷ ys) (unmark-probes q xs)
 
-all-probes : (ps xs : List Probe) → map probeOf (unmarksAll ps xs) ≡ map probeOf xs
+all-probes : (ps xs : List QueuedProbe) → map plainProbeOf (unmarksAll ps xs) ≡ map plainProbeOf xs
 all-probes [] xs = refl
 all-probes (p ∷ ps) xs = all-probes ps (map (unmark (p .sequence)) xs) ∙ unmark-probes (p .sequence) xs
 
-unmark-seqs : (q : ℕ) (xs : List Probe) → seqs (map (unmark q) xs) ≡ seqs xs
+unmark-seqs : (q : ℕ) (xs : List QueuedProbe) → seqs (map (unmark q) xs) ≡ seqs xs
 unmark-seqs q [] = refl
 unmark-seqs q (x ∷ xs) = ap (λ (n : ℕ). n ∷ seqs (map (unmark q) xs)) (unmark-sequence q x) ∙ ap (λ (ns : List ℕ). x .sequence ∷ ns) (unmark-seqs q xs)
 
-all-seqs : (ps xs : List Probe) → seqs (unmarksAll ps xs) ≡ seqs xs
+all-seqs : (ps xs : List QueuedProbe) → seqs (unmarksAll ps xs) ≡ seqs xs
 all-seqs [] xs = refl
 all-seqs (p ∷ ps) xs = all-seqs ps (map (unmark (p .sequence)) xs) ∙ unmark-seqs (p .sequence) xs
 
-seqs-drop : (n : ℕ) (xs : List Probe) → seqs (drop n xs) ≡ drop n (seqs xs)
+seqs-drop : (n : ℕ) (xs : List QueuedProbe) → seqs (drop n xs) ≡ drop n (seqs xs)
 seqs-drop zero xs = refl
 seqs-drop (suc n) [] = refl
 seqs-drop (suc n) (x ∷ xs) = seqs-drop n xs
 
-seqs-snoc : (xs : List Probe) (v : Probe) → seqs (xs ++ v ∷ []) ≡ seqs xs ++ v .sequence ∷ []
+seqs-snoc : (xs : List QueuedProbe) (v : QueuedProbe) → seqs (xs ++ v ∷ []) ≡ seqs xs ++ v .sequence ∷ []
 seqs-snoc [] v = refl
 seqs-snoc (x ∷ xs) v = ap (λ (ns : List ℕ). x .sequence ∷ ns) (seqs-snoc xs v)
 
-probes-snoc : (xs : List Probe) (v : Probe) → map probeOf (xs ++ v ∷ []) ≡ map probeOf xs ++ probeOf v ∷ []
+probes-snoc : (xs : List QueuedProbe) (v : QueuedProbe) → map plainProbeOf (xs ++ v ∷ []) ≡ map plainProbeOf xs ++ plainProbeOf v ∷ []
 probes-snoc [] v = refl
-probes-snoc (x ∷ xs) v = ap (λ (ns : List Sent). probeOf x ∷ ns) (probes-snoc xs v)
+probes-snoc (x ∷ xs) v = ap (λ (ns : List Sent). plainProbeOf x ∷ ns) (probes-snoc xs v)
 
-seqs-length : (xs : List Probe) → length (seqs xs) ≡ length xs
+seqs-length : (xs : List QueuedProbe) → length (seqs xs) ≡ length xs
 seqs-length [] = refl
 seqs-length (x ∷ xs) = ap suc (seqs-length xs)
 
@@ -89,13 +89,13 @@ module _ (x : Stand) (marks : Marks) (kept : Kept x marks) (n : ℕ) (l : n ≤ 
   abbrev m : Monitor
   m = x .monitor
 
-  abbrev xs : List Probe
+  abbrev xs : List QueuedProbe
   xs = queued (x .room) (m .ring)
 
-  abbrev left : List Probe
+  abbrev left : List QueuedProbe
   left = queued (popped (x .room) (m .ring) (after (m .ring) n) (repeated m n)) (after (m .ring) n)
 
-  abbrev shaped : Bool → List Probe
+  abbrev shaped : Bool → List QueuedProbe
   shaped a = choose a (drop n xs) (unmarksAll (take n xs) (drop n xs))
 
   shape : (a : Bool) → ascending m ≡ a → left ≡ shaped a
@@ -103,10 +103,10 @@ module _ (x : Stand) (marks : Marks) (kept : Kept x marks) (n : ℕ) (l : n ≤ 
   shape false e =
       ap (λ (t : Bool). queued (popped (x .room) (m .ring) (after (m .ring) n) (choose t 0 n)) (after (m .ring) n)) e
       ∙ pops-unmark (x .room) (m .ring) (after (m .ring) n) n (kept .long) (mod-lt (m .ring .head + n) {m = capacity} (omega arith)) (omega (arith, kept .held .1))
-      ∙ ap (λ (ps : List Probe). unmarksAll ps (queued (x .room) (after (m .ring) n))) (sym (take-tabulate n (m .ring .len) (at (x .room) (m .ring)) l))
+      ∙ ap (λ (ps : List QueuedProbe). unmarksAll ps (queued (x .room) (after (m .ring) n))) (sym (take-tabulate n (m .ring .len) (at (x .room) (m .ring)) l))
       ∙ ap (unmarksAll (take n xs)) (drops (x .room) (m .ring) n l)
 
-  shaped-probes : (a : Bool) → map probeOf (shaped a) ≡ map probeOf (drop n xs)
+  shaped-probes : (a : Bool) → map plainProbeOf (shaped a) ≡ map plainProbeOf (drop n xs)
   shaped-probes true = refl
   shaped-probes false = all-probes (take n xs) (drop n xs)
 
@@ -116,7 +116,7 @@ module _ (x : Stand) (marks : Marks) (kept : Kept x marks) (n : ℕ) (l : n ≤ 
 
   whole : ascending m ≡ true → Rises (seqs (take n xs ++ drop n xs))
   whole e =
-      subst (λ (ys : List Probe). Rises (seqs ys)) (sym (take-append-drop n xs))
+      subst (λ (ys : List QueuedProbe). Rises (seqs ys)) (sym (take-append-drop n xs))
       (subst (λ (k : ℕ). Rises (drop k (seqs xs))) (none (m .ring .len) (m .run) (leb-true (m .ring .len) (m .run) e)) (kept .rising))
     where
       none : (a b : ℕ) → a ≤ b → a - b ≡ 0
@@ -132,11 +132,11 @@ module _ (x : Stand) (marks : Marks) (kept : Kept x marks) (n : ℕ) (l : n ≤ 
   left-seqs : seqs left ≡ drop n (seqs xs)
   left-seqs = ap seqs (shape (ascending m) refl) ∙ shaped-seqs (ascending m)
 
-  pub popped-next : Next (pops m (x .room) n s) (record { summary = s; timeout = m .timeout; transmitting = m .transmitting; probes = map probeOf (drop n xs); received = removes (take n xs) marks })
+  pub popped-next : Next (pops m (x .room) n s) (record { summary = s; timeout = m .timeout; transmitting = m .transmitting; probes = map plainProbeOf (drop n xs); received = removes (take n xs) marks })
   popped-next = (
     removes (take n xs) marks,
     (
-      ap (λ (ps : List Sent). record { summary = s; timeout = m .timeout; transmitting = m .transmitting; probes = ps; received = removes (take n xs) marks }) (sym (ap (map probeOf) (shape (ascending m) refl) ∙ shaped-probes (ascending m))),
+      ap (λ (ps : List Sent). record { summary = s; timeout = m .timeout; transmitting = m .transmitting; probes = ps; received = removes (take n xs) marks }) (sym (ap (map plainProbeOf) (shape (ascending m) refl) ∙ shaped-probes (ascending m))),
       record {
         held = (mod-lt (m .ring .head + n) {m = capacity} (omega arith), omega (arith, kept .held .1));
         long = popped-long (x .room) (m .ring) (after (m .ring) n) (repeated m n) ∙ kept .long;
@@ -177,13 +177,13 @@ module _ (x : Stand) (marks : Marks) (kept : Kept x marks) (s t : ℕ) (ll : x .
   abbrev mon : Monitor
   mon = x .monitor
 
-  abbrev old : List Probe
+  abbrev old : List QueuedProbe
   old = queued (x .room) (mon .ring)
 
-  abbrev probe : Probe
+  abbrev probe : QueuedProbe
   probe = record { sequence = s; deadline = t + mon .timeout; mark = 1 }
 
-  abbrev new : List Probe
+  abbrev new : List QueuedProbe
   new = queued (set (x .room) (place (mon .ring) (mon .ring .len)) probe) (record { head = mon .ring .head; len = mon .ring .len + 1 })
 
   longer : new ≡ old ++ probe ∷ []
@@ -196,7 +196,7 @@ module _ (x : Stand) (marks : Marks) (kept : Kept x marks) (s t : ℕ) (ll : x .
   pushed-next = (
     insert s marks,
     (
-      ap (λ (ps : List Sent). record { summary = mon .summary; timeout = mon .timeout; transmitting = true; probes = ps; received = insert s marks }) (sym (ap (map probeOf) longer ∙ probes-snoc old probe)),
+      ap (λ (ps : List Sent). record { summary = mon .summary; timeout = mon .timeout; transmitting = true; probes = ps; received = insert s marks }) (sym (ap (map plainProbeOf) longer ∙ probes-snoc old probe)),
       record {
         held = (kept .held .0, omega (arith, ll));
         long = length-set (x .room) (place (mon .ring) (mon .ring .len)) probe ∙ kept .long;

@@ -4,8 +4,8 @@ use mathlib.Core.List.{List, [], _∷_, _++_}
 use Prim.Native.Nat.{ℕ, _+_, _^_}
 use lib.ListN.{length}
 use lib.Dec.{eqb, leb, ltb}
-use Rattle.scope.specs.Limits.{capacity}
-use Rattle.scope.specs.Refusals.{deadlinePasses, countsFull, queueFull}
+use Rattle.limits.specs.Limits.{capacity}
+use Rattle.limits.specs.Refusals.{deadlinePasses, countsFull, queueFull}
 use Rattle.probe_queue.specs.Queue.{choose}
 use Rattle.monitor.specs.declared.State.the-variants.{Idle, Active, Failed}
 use Rattle.monitor.specs.declared.Deadline.{Deadline}

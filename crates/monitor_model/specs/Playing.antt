@@ -4,10 +4,10 @@ use mathlib.Core.Bool.{Bool, true, false}
 use mathlib.Core.List.{List, [], _∷_, map}
 use Prim.Native.Nat.{ℕ}
 use lib.Dec.{eqb}
-use Rattle.probe_queue.specs.declared.Probe.{Probe}
+use Rattle.probe_queue.specs.declared.QueuedProbe.{QueuedProbe}
 use Rattle.probe_queue.specs.Queue.{choose, queued, isMarked}
-use Rattle.monitor.specs.declared.Answer.{Answer}
-use Rattle.monitor.specs.declared.Answer.the-variants.{Served, Refused}
+use Rattle.monitor.specs.declared.MonitorAnswer.{MonitorAnswer}
+use Rattle.monitor.specs.declared.MonitorAnswer.the-variants.{Served, Refused}
 use Rattle.monitor.specs.declared.Summary.{Summary}
 use Rattle.monitor.specs.Operations.{Stand}
 use Rattle.monitor.specs.Answers.{Outcome, number, sentTo, replyTo, advanceTo, idleTo}
@@ -42,7 +42,7 @@ pub record RingStep : Type 0 where
   pub stand : Stand
 
 -- what the host then holds: the monitor that is handed back, or its own where refused; the room as it was left
-abbrev pub keep : Stand → Answer → List Probe → Stand
+abbrev pub keep : Stand → MonitorAnswer → List QueuedProbe → Stand
 keep x (Served m) room = record { monitor = m; room = room }
 keep x (Refused n) room = record { monitor = x .monitor; room = room }
 
@@ -78,11 +78,11 @@ ringAfter [] x = x
 ringAfter (c ∷ cs) x = ringAfter cs (playRing c x .stand)
 
 -- a record's probe, and whether any record of a sequence is marked
-abbrev pub probeOf : Probe → Sent
-probeOf p = record { sequence = p .sequence; deadline = p .deadline }
+abbrev pub plainProbeOf : QueuedProbe → Sent
+plainProbeOf p = record { sequence = p .sequence; deadline = p .deadline }
 
 -- whether any of these records has the sequence s and the mark
-abbrev pub marked : ℕ → List Probe → Bool
+abbrev pub marked : ℕ → List QueuedProbe → Bool
 marked s [] = false
 marked s (p ∷ ps) = choose (eqb (p .sequence) s) (choose (isMarked p) true (marked s ps)) (marked s ps)
 
@@ -91,5 +91,5 @@ pub record Shows (x : Stand) (p : Plain) : Type 0 where
   pub summary : x .monitor .summary ≡ p .summary
   pub timeout : x .monitor .timeout ≡ p .timeout
   pub transmitting : x .monitor .transmitting ≡ p .transmitting
-  pub probes : map probeOf (queued (x .room) (x .monitor .ring)) ≡ p .probes
+  pub probes : map plainProbeOf (queued (x .room) (x .monitor .ring)) ≡ p .probes
   pub received : (s : ℕ) → marked s (queued (x .room) (x .monitor .ring)) ≡ p .received s

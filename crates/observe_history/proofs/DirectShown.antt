@@ -9,8 +9,8 @@ use native.Mathlib.Omega.{arith}
 use lib.Dec.{eqb, leb, eqb·zero-suc}
 use lib.ListN.{length, length-map}
 use borrow.Author.Tests.{leb-true, leb-false}
-use Rattle.calls.specs.declared.CounterPoint.{CounterPoint}
-use Rattle.calls.specs.declared.Call.{Call}
+use Rattle.call_types.specs.declared.CounterPoint.{CounterPoint}
+use Rattle.call_types.specs.declared.Call.{Call}
 use Rattle.chains.proofs.Tests.{lt-true, lt-false, eq-true, true-not-false}
 use Rattle.direct.specs.declared.Direct.{Direct}
 use Rattle.direct.specs.declared.summary.Packets.the-variants.{Number}

@@ -7,8 +7,8 @@ use Prim.Native.Nat.{ℕ, zero, suc, _-_, _<_}
 use native.Mathlib.Omega.{arith}
 use lib.Dec.{eqb, ltb}
 use lib.ListN.{take, getD, getElem?}
-use Rattle.calls.specs.declared.PendingPacket.{PendingPacket}
-use Rattle.calls.specs.declared.ReplyKey.{ReplyKey}
+use Rattle.call_types.specs.declared.PendingPacket.{PendingPacket}
+use Rattle.call_types.specs.declared.ReplyKey.{ReplyKey}
 use Rattle.correlation.specs.declared.Slot.{Slot}
 use Rattle.correlation.specs.Words.{slotOf}
 use Rattle.correlation.proofs.Back.{RecordFits}

@@ -7,9 +7,9 @@ use Prim.Native.Nat.{ℕ, suc}
 use native.Mathlib.Numerals.{add-one}
 use lib.Dec.{eqb}
 use lib.IntN.{ℤ}
-use Rattle.calls.specs.declared.Time.{Time}
-use Rattle.calls.specs.declared.Time.the-variants as time
-use Rattle.calls.specs.declared.FollowUpTelemetry.{FollowUpTelemetry}
+use Rattle.call_types.specs.declared.Time.{Time}
+use Rattle.call_types.specs.declared.Time.the-variants as time
+use Rattle.call_types.specs.declared.FollowUpTelemetry.{FollowUpTelemetry}
 use Rattle.correlation.specs.declared.Slot.{Slot}
 use Rattle.correlation.specs.declared.ReplyRecord.{ReplyRecord}
 use Rattle.correlation.specs.declared.Unique.{Unique}

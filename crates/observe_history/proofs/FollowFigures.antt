@@ -5,10 +5,10 @@ use mathlib.Core.List.{List, _∷_}
 use mathlib.Core.Option.{Option, none, some}
 use Prim.Native.Nat.{ℕ}
 use lib.IntN.{ℤ}
-use Rattle.calls.specs.declared.FollowUpTelemetry.{FollowUpTelemetry}
-use Rattle.calls.specs.declared.ReplyObservation.{ReplyObservation}
-use Rattle.calls.specs.declared.Call.{Call}
-use Rattle.calls.specs.declared.Call.the-variants.{Observe}
+use Rattle.call_types.specs.declared.FollowUpTelemetry.{FollowUpTelemetry}
+use Rattle.call_types.specs.declared.ReplyObservation.{ReplyObservation}
+use Rattle.call_types.specs.declared.Call.{Call}
+use Rattle.call_types.specs.declared.Call.the-variants.{Observe}
 use Rattle.clock_quality.specs.Quality as quality
 use Rattle.correlation.specs.declared.Slot.{Slot}
 use Rattle.correlation.specs.declared.Wires.{Wires}

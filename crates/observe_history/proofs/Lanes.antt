@@ -9,14 +9,14 @@ use native.Mathlib.Omega.{arith}
 use lib.Dec.{eqb, ltb}
 use lib.ListN.{length, getD, set, length-set, length-map}
 use lib.Seq.{getD-set-other}
-use Rattle.calls.specs.declared.ReplyKey.{ReplyKey}
-use Rattle.calls.specs.declared.Pending.{Pending}
-use Rattle.calls.specs.declared.Ordinal.the-variants as ordinal
+use Rattle.call_types.specs.declared.ReplyKey.{ReplyKey}
+use Rattle.call_types.specs.declared.Pending.{Pending}
+use Rattle.call_types.specs.declared.Ordinal.the-variants as ordinal
 use Rattle.chains.specs.Rings.{wrap, pushSlot}
 use Rattle.chains.specs.Links.{wordOf, setWord, newest, older, linked, ended, Rows}
 use Rattle.chains.specs.Walk.{placeOf}
 use Rattle.chains.specs.Whole.{Indexed}
-use Rattle.probe_ring.specs.declared.Probe.{Probe}
+use Rattle.probe_ring.specs.declared.HeldProbe.{HeldProbe}
 use Rattle.probe_ring.specs.Row.{unanswered, packetAfter}
 use Rattle.probe_ring.specs.Rooms as probes
 use Rattle.probe_ring.specs.Rooms.{Rooms, moved, moveLink, mendedLink, mendRow, mendNewest, closedUp, takenOut, pushed, rememberedAt, remembered}
@@ -137,11 +137,11 @@ module _ (lane : ℕ) where
         (r .ring .len - 1 - placeOf N (r .ring .head) slot)
 
     module _ (N : ℕ) (hash : ℕ → ℕ) where
-      pub pushed-elsewhere : (r : Rooms) (p : Probe) → Untouched lane (r .links) (pushed N hash r p .links)
+      pub pushed-elsewhere : (r : Rooms) (p : HeldProbe) → Untouched lane (r .links) (pushed N hash r p .links)
       unfolding pushed
       pushed-elsewhere r p = link-elsewhere 4 (r .links) (hash (p .sequence)) (pushSlot N (r .ring)) a b c
 
-      pub remembered-elsewhere : (r : Rooms) (p : Probe) → Untouched lane (r .links) (remembered N hash r p .links)
+      pub remembered-elsewhere : (r : Rooms) (p : HeldProbe) → Untouched lane (r .links) (remembered N hash r p .links)
       unfolding remembered rememberedAt
       remembered-elsewhere r p = go (ltb (probes.slotOf N hash r (p .sequence)) N)
         where

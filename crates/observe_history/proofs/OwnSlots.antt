@@ -8,11 +8,11 @@ use native.Mathlib.Omega.{arith}
 use lib.Dec.{eqb, ltb}
 use lib.IntN.{ℤ}
 use lib.ListN.{length, getD, set}
-use Rattle.calls.specs.declared.ReplyKey.{ReplyKey}
-use Rattle.calls.specs.declared.FollowUp.{FollowUp}
-use Rattle.calls.specs.declared.FollowUp.the-variants as follow
-use Rattle.calls.specs.declared.FollowUpTelemetry.{FollowUpTelemetry}
-use Rattle.calls.specs.declared.ReplyObservation.{ReplyObservation}
+use Rattle.call_types.specs.declared.ReplyKey.{ReplyKey}
+use Rattle.call_types.specs.declared.FollowUp.{FollowUp}
+use Rattle.call_types.specs.declared.FollowUp.the-variants as follow
+use Rattle.call_types.specs.declared.FollowUpTelemetry.{FollowUpTelemetry}
+use Rattle.call_types.specs.declared.ReplyObservation.{ReplyObservation}
 use Rattle.chains.proofs.Contents.{length-contents}
 use Rattle.chains.proofs.Tests.{Test, holds, fails, eq-test}
 use Rattle.ranges.specs.Ranges.{inRange}

@@ -12,9 +12,9 @@ use mir.Val.{SFits}
 use Rattle.estimate.specs.declared.ErrorEstimate.{ErrorEstimate}
 use Rattle.estimate.specs.declared.Estimates.{Estimates}
 use Rattle.estimate.specs.declared.Estimates.the-variants as estimates
-use Rattle.calls.specs.declared.Time.{Time}
-use Rattle.calls.specs.declared.Time.the-variants as time
-use Rattle.calls.specs.declared.ReplyObservation.{ReplyObservation}
+use Rattle.call_types.specs.declared.Time.{Time}
+use Rattle.call_types.specs.declared.Time.the-variants as time
+use Rattle.call_types.specs.declared.ReplyObservation.{ReplyObservation}
 use Rattle.chains.proofs.Tests.{true-not-false}
 use Rattle.ranges.specs.Ranges.{timeFits, referenceWithin, offsetWithin, scaleWithin, estimatesFit, inRange}
 use Rattle.correlation.specs.Slots.{withheld, recorded}

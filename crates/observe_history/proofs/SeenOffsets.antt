@@ -5,7 +5,7 @@ use Prim.Native.Nat.{ℕ, suc, _<_}
 use native.Mathlib.Omega.{arith}
 use native.Mathlib.Numerals.{add-one}
 use lib.ListN.{length}
-use Rattle.calls.specs.declared.CounterPoint.{CounterPoint}
+use Rattle.call_types.specs.declared.CounterPoint.{CounterPoint}
 use Rattle.chains.specs.Links.{linked}
 use Rattle.direct.specs.Outcomes.{seenIn}
 use Rattle.offset_set.specs.Offsets.{OffsetSet, offsetSet, seen, added, lane}

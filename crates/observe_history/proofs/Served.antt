@@ -3,8 +3,8 @@ use mathlib.Core.Path.{_≡_, refl}
 use mathlib.Core.Bool.{Bool, true, false, _&&_}
 use native.Mathlib.Omega.{arith}
 use lib.ListN.{length}
-use Rattle.scope.specs.Limits.{capacity}
-use Rattle.calls.specs.declared.ReplyObservation.{ReplyObservation}
+use Rattle.limits.specs.Limits.{capacity}
+use Rattle.call_types.specs.declared.ReplyObservation.{ReplyObservation}
 use Rattle.ranges.specs.Ranges.{inRange}
 use Rattle.ledger_state.specs.Refusal.{firstRefusal, sized, ringsFit, roomForCall}
 use Rattle.ledger_steps.specs.Rooms.{Stand}

@@ -7,8 +7,8 @@ use native.Mathlib.Omega.{arith}
 use lib.Dec.{eqb}
 use lib.IntN.{ℤ}
 use lib.ListN.{getD}
-use Rattle.calls.specs.declared.ReplyKey.{ReplyKey}
-use Rattle.calls.specs.declared.FollowUpTelemetry.{FollowUpTelemetry}
+use Rattle.call_types.specs.declared.ReplyKey.{ReplyKey}
+use Rattle.call_types.specs.declared.FollowUpTelemetry.{FollowUpTelemetry}
 use Rattle.chains.proofs.Tests.{Test, holds, fails, eq-test, true-not-false}
 use Rattle.correlation.specs.declared.Slot.{Slot}
 use Rattle.correlation.specs.declared.follow.Found.{Found}

@@ -7,7 +7,7 @@ use native.Mathlib.Omega.{arith}
 use native.Mathlib.Numerals.{add-one}
 use lib.Dec.{eqb, ltb}
 use lib.ListN.{length}
-use Rattle.calls.specs.declared.CounterPoint.{CounterPoint}
+use Rattle.call_types.specs.declared.CounterPoint.{CounterPoint}
 use Rattle.chains.proofs.Tests.{Test, holds, fails, eq-test, lt-test, eq-true, true-not-false}
 use Rattle.offset_set.specs.Offsets as offset_set
 use Rattle.direct.specs.Offsets as direct

@@ -5,10 +5,10 @@ use mathlib.Core.List.{List, [], _∷_}
 use mathlib.Core.Option.{Option, none, some}
 use Prim.Native.Nat.{ℕ}
 use lib.ListN.{length}
-use Rattle.calls.specs.declared.CounterPoint.{CounterPoint}
-use Rattle.calls.specs.declared.Counters.{Counters}
-use Rattle.calls.specs.declared.Counters.the-variants as counters
-use Rattle.calls.specs.declared.Call.{Call}
+use Rattle.call_types.specs.declared.CounterPoint.{CounterPoint}
+use Rattle.call_types.specs.declared.Counters.{Counters}
+use Rattle.call_types.specs.declared.Counters.the-variants as counters
+use Rattle.call_types.specs.declared.Call.{Call}
 use Rattle.direct.specs.declared.Counts.{Counts}
 use Rattle.direct.specs.declared.Epoch.{Epoch}
 use Rattle.direct.specs.declared.Window.{Window}

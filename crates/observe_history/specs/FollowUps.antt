@@ -10,7 +10,7 @@ use lib.ListN.{getD}
 use Rattle.estimate.specs.declared.Estimates.{Estimates}
 use Rattle.estimate.specs.declared.Estimates.the-variants as estimates
 use Rattle.estimate.specs.Wire.{estimateOf}
-use Rattle.calls.specs.declared.Call.{Call}
+use Rattle.call_types.specs.declared.Call.{Call}
 use Rattle.correlation.specs.declared.Slot.{Slot}
 use Rattle.correlation.specs.declared.Unique.{Unique}
 use Rattle.correlation.specs.declared.Unique.the-variants as recorded

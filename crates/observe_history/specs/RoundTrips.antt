@@ -5,7 +5,7 @@ use mathlib.Core.List.{List}
 use mathlib.Core.Option.{Option, none, some}
 use Prim.Native.Nat.{ℕ}
 use lib.IntN.{ℤ}
-use Rattle.calls.specs.declared.Call.{Call}
+use Rattle.call_types.specs.declared.Call.{Call}
 use Rattle.delays.specs.declared.Extreme.{Extreme}
 use Rattle.delays.specs.declared.Extreme.the-variants as extreme
 use Rattle.delays.specs.declared.Milliseconds.{Milliseconds}

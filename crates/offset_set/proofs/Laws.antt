@@ -10,7 +10,7 @@ use native.Mathlib.Omega.{arith}
 use lib.Dec.{eqb, ltb}
 use lib.ListN.{length, getD, set, length-set}
 use lib.Seq.{getD-set-same, getD-set-other, take-all}
-use Rattle.scope.specs.Limits.{capacity}
+use Rattle.limits.specs.Limits.{capacity}
 use Rattle.chains.specs.Rings.{contents, pushSlot, afterPush, RingFits}
 use Rattle.chains.specs.Links.{wordOf, newest, older, linked, Rows}
 use Rattle.chains.specs.Whole.{Indexed}

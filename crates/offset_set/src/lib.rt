@@ -4,14 +4,14 @@
 ghost use mathlib.Core.Path.{_≡_};
 ghost use Prim.Native.Nat.{_≤_};
 ghost use lib.ListN.{length};
-ghost use Rattle.scope.specs.Limits.{capacity};
+ghost use Rattle.limits.specs.Limits.{capacity};
 ghost use Rattle.chains.specs.Hash.{numberHash};
 ghost use Rattle.offset_set.specs.Offsets.{offsetSet, contains, added};
 use chains::first;
 use chains::link;
 use chains::next;
 use chains::number_hash;
-use scope::CAPACITY;
+use limits::CAPACITY;
 
 // The lane of `links` that is the offsets' own.
 pub const LANE: usize = 6;

@@ -5,8 +5,8 @@ use Prim.Native.Nat.{ℕ, _+_, _-_, _*_}
 use lib.Dec.{ltb, leb, eqb}
 use lib.Ieee.{Float}
 use lib.ListN.{length, getD, take, drop}
-use Rattle.scope.specs.Limits.{capacity}
-use Rattle.scope.specs.Refusals.{wrongRoom}
+use Rattle.limits.specs.Limits.{capacity}
+use Rattle.limits.specs.Refusals.{wrongRoom}
 use Rattle.rank.specs.Rank.{rankOf}
 use Rattle.exact_rank.specs.Rank.{atRank}
 use Rattle.buckets.specs.Buckets.{pick}

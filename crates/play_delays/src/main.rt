@@ -6,8 +6,8 @@ use delays::Milliseconds;
 use delays::Nanoseconds;
 use delays::Recorded;
 use delays::Sum;
-use script::Call;
-use script::Next;
+use play_script::Call;
+use play_script::Next;
 
 // What a call leaves, and its refusal or 0.
 struct Outcome {
@@ -41,7 +41,7 @@ fn extreme_of(count: u64, word: u64) -> Extreme {
     if count == 0 {
         return Extreme::Absent;
     }
-    Extreme::At(delays::from_i64(words::signed64(word)))
+    Extreme::At(delays::from_i64(signed_words::signed64(word)))
 }
 
 fn loaded(call: Call) -> Delays {
@@ -63,7 +63,7 @@ fn play(state: Delays, call: Call) -> Outcome {
     let operation = call.operation;
     match operation {
         1 => recorded(state, delays::from_u64(call.a)),
-        2 => recorded(state, delays::from_i64(words::signed64(call.a))),
+        2 => recorded(state, delays::from_i64(signed_words::signed64(call.a))),
         3 => Outcome {
             refusal: 0,
             state: loaded(call),
@@ -85,7 +85,7 @@ fn ms_words(ms: Milliseconds) -> Words {
     match ms {
         Milliseconds::Known(x) => Words {
             known: 1,
-            value: script::bits_of(x),
+            value: play_script::bits_of(x),
         },
         Milliseconds::Absent => Words { known: 0, value: 0 },
     }
@@ -117,7 +117,7 @@ fn write_state(refusal: u64, state: Delays) {
     let sum = state.sum;
     let least = state.min;
     let min = extreme_words(least);
-    script::write([
+    play_script::write([
         refusal,
         state.count,
         flag(sum.negative),
@@ -139,7 +139,7 @@ fn write_summary(state: Delays) {
     let low = ms_words(least);
     let average = ms_words(mean);
     let high = ms_words(greatest);
-    script::write([
+    play_script::write([
         max.negative,
         max.magnitude,
         low.known | (average.known << 1) | (high.known << 2),
@@ -153,7 +153,7 @@ fn write_summary(state: Delays) {
 
 // One call, if there is one.
 fn turn(state: Delays) -> After {
-    match script::read() {
+    match play_script::read() {
         Next::End => After::Stop,
         Next::Told(call) => {
             let outcome = play(state, call);

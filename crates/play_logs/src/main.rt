@@ -14,7 +14,7 @@ fn read_length() -> Next {
     if got < 8 {
         return Next::End;
     }
-    Next::Length(script::word(&bytes, 0))
+    Next::Length(play_script::word(&bytes, 0))
 }
 
 fn least(length: u64, most: usize) -> usize

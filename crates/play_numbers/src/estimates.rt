@@ -4,7 +4,7 @@ use estimate::ClockFormat;
 use estimate::ErrorEstimate;
 use estimate::Made;
 use estimate::Reading;
-use script::Call;
+use play_script::Call;
 
 pub fn flag(set: bool) -> u64 {
     if set { 1 } else { 0 }
@@ -61,7 +61,7 @@ pub fn error_words(error: Reading) -> ErrorWords {
     match error {
         Reading::Known(ms) => ErrorWords {
             known: 1,
-            bits: script::bits_of(ms),
+            bits: play_script::bits_of(ms),
             received: 0,
         },
         Reading::Invalid(wire) => ErrorWords {
@@ -75,7 +75,7 @@ pub fn error_words(error: Reading) -> ErrorWords {
 fn shown(e: ErrorEstimate) -> Answer {
     let ms = error_words(e.reading());
     let wire = e.to_wire() as u64;
-    let seconds = script::bits_of(e.error_seconds());
+    let seconds = play_script::bits_of(e.error_seconds());
     let format = number_of(e.clock_format());
     Answer {
         first: [

@@ -4,8 +4,8 @@ mod estimates;
 mod quality;
 
 use clock_quality::ClockQuality;
-use script::Call;
-use script::Next;
+use play_script::Call;
+use play_script::Next;
 
 // Eight words, and eight more.
 pub struct Answer {
@@ -54,15 +54,15 @@ fn play(state: State, call: Call) -> Outcome {
 
 // One call, if there is one.
 fn turn(state: State) -> After {
-    match script::read() {
+    match play_script::read() {
         Next::End => After::Stop,
         Next::Told(call) => {
             let outcome = play(state, call);
             let answer = outcome.answer;
             let first = answer.first;
             let second = answer.second;
-            script::write(first);
-            script::write(second);
+            play_script::write(first);
+            play_script::write(second);
             let next = outcome.state;
             After::Went(next)
         }

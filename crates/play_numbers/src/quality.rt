@@ -9,7 +9,7 @@ use clock_quality::LastEstimate;
 use clock_quality::Recorded;
 use estimate::ErrorEstimate;
 use estimate::Estimates;
-use script::Call;
+use play_script::Call;
 
 fn estimate_of(word: u64) -> ErrorEstimate {
     ErrorEstimate {
@@ -31,7 +31,7 @@ fn largest_of(present: u64, bits: u64) -> LargestError {
     if present == 0 {
         return LargestError::Absent;
     }
-    LargestError::Ms(script::float_of(bits))
+    LargestError::Ms(play_script::float_of(bits))
 }
 
 fn loaded(call: Call) -> ClockQuality {
@@ -109,7 +109,7 @@ fn largest_words(largest: LargestError) -> LastWords {
         },
         LargestError::Ms(ms) => LastWords {
             fields: 1,
-            bits: script::bits_of(ms),
+            bits: play_script::bits_of(ms),
             received: 0,
         },
     }

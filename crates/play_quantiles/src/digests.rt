@@ -1,6 +1,6 @@
 // The digests of a room: of the samples in their order, or of each bucket and each total that is not empty with its place.
+use play_script::Digest;
 use quantiles::Quantiles;
-use script::Digest;
 
 fn samples(room: &[u64], count: usize) -> Digest {
     let mut digest = Digest::empty();

@@ -5,11 +5,11 @@ ghost use Prim.Native.Nat.{_≤_};
 mod digests;
 
 use percentiles::Showing;
+use play_script::Call;
+use play_script::Digest;
+use play_script::Next;
 use quantiles::Quantiles;
 use quantiles::Recording;
-use script::Call;
-use script::Digest;
-use script::Next;
 
 // What a call answers: its refusal or 0, whether it recorded or shows a value, the value, and the state that it leaves.
 struct Outcome {
@@ -30,7 +30,7 @@ fn left(state: Quantiles) -> Outcome {
 
 fn refused(state: Quantiles) -> Outcome {
     Outcome {
-        refusal: scope::WRONG_ROOM as u64,
+        refusal: limits::WRONG_ROOM as u64,
         flag: 0,
         value: 0,
         state,
@@ -67,7 +67,7 @@ fn percentile(state: Quantiles, room: &[u64], bits: u64, short: u64) -> Outcome 
     if end > room.len() {
         return left(state);
     }
-    let ps = [script::float_of(bits)];
+    let ps = [play_script::float_of(bits)];
     let mut shown = [0u64; 1];
     match percentiles::percentiles(state, &room[..end], &ps, &mut shown) {
         Showing::Refused => refused(state),
@@ -169,7 +169,7 @@ fn play(state: Quantiles, room: &mut [u64], call: Call) -> Outcome {
 
 fn write(outcome: Outcome, digest: Digest) {
     let q = outcome.state;
-    script::write([
+    play_script::write([
         outcome.refusal,
         outcome.flag,
         outcome.value,
@@ -188,7 +188,7 @@ enum After {
 
 // One call, if there is one.
 fn turn(state: Quantiles, room: &mut [u64]) -> After {
-    match script::read() {
+    match play_script::read() {
         Next::End => After::Stop,
         Next::Told(call) => {
             let outcome = play(state, room, call);

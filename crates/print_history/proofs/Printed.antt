@@ -8,23 +8,23 @@ use Prim.Native.Nat.{ℕ, _+_}
 use borrow.Author.Tests.{eq-eqb}
 use lib.ListN.{length, take, drop}
 use lib.Seq.{take-append-seam}
-use Rattle.scope.specs.Limits.{capacity}
-use Rattle.probe_queue.specs.declared.Probe.{Probe}
+use Rattle.limits.specs.Limits.{capacity}
+use Rattle.probe_queue.specs.declared.QueuedProbe.{QueuedProbe}
 use Rattle.ledger_steps.specs.Rooms.{Rooms}
 use Rattle.reply_history.specs.Stands.{RoomsFit}
 use Rattle.decimal.specs.Writing.{over}
-use Rattle.report.specs.declared.Answer.{Answer}
-use Rattle.report.specs.declared.Answer.the-variants.{Written, Refused}
+use Rattle.report.specs.declared.ReportAnswer.{ReportAnswer}
+use Rattle.report.specs.declared.ReportAnswer.the-variants.{Written, Refused}
 use Rattle.report.specs.Lines.{textOf}
 use Rattle.report.specs.Report.{reportRoom, Outcome, outcome, written}
 use Rattle.log_record.specs.Records.{badRecord}
-use Rattle.link_log.specs.declared.Log.{Log}
-use Rattle.link_log.specs.declared.Log.the-variants as log'
-use Rattle.link_log.specs.Logs.{tooLong, badTrailer, logOf}
-use Rattle.link_settings.specs.declared.Checked.{Checked}
-use Rattle.link_settings.specs.declared.Checked.the-variants as checked
+use Rattle.log_whole.specs.declared.Log.{Log}
+use Rattle.log_whole.specs.declared.Log.the-variants as log'
+use Rattle.log_whole.specs.Logs.{tooLong, badTrailer, logOf}
+use Rattle.log_settings.specs.declared.Checked.{Checked}
+use Rattle.log_settings.specs.declared.Checked.the-variants as checked
 use Rattle.link_report.specs.LogReport.{endOf, refusedWith, reportBy, fits, reportOfLog}
-use Rattle.link_settings.specs.Checks.{checkedOf, checkedBy}
+use Rattle.log_settings.specs.Checks.{checkedOf, checkedBy}
 use Rattle.report_history.specs.Bytes.{BytesIn}
 use Rattle.report_history.specs.Figures.{reportFrom}
 use Rattle.report_history.proofs.Whole.{report-of-a-good-log}
@@ -32,7 +32,7 @@ use Rattle.log_print.specs.Printed.{refusalLine, said, bytesOf, lineIn, refused
 use Rattle.print_history.specs.Printed.{printedBy, printedOf}
 
 -- what an answer and a buffer print, where the answer tells that a text was written
-text-printed : (log text buffer after : List ℕ) (a : Answer) → outcome a after ≡ written text buffer → bytesOf (printedIn log a after) ≡ text
+text-printed : (log text buffer after : List ℕ) (a : ReportAnswer) → outcome a after ≡ written text buffer → bytesOf (printedIn log a after) ≡ text
 unfolding outcome printedIn
 text-printed log text buffer after (Written n) e =
     let same : n ≡ length text = cc (ap (λ (o : Outcome). o .values) e) in
@@ -40,7 +40,7 @@ text-printed log text buffer after (Written n) e =
 text-printed log text buffer after (Refused n) e = cc (ap (λ (o : Outcome). o .values) e)
 
 -- and where it tells a refusal
-line-printed : (log : List ℕ) (n : ℕ) (buffer after : List ℕ) (a : Answer) → length buffer ≡ reportRoom → outcome a after ≡ refusedWith n buffer → bytesOf (printedIn log a after) ≡ refusalLine (logOf log)
+line-printed : (log : List ℕ) (n : ℕ) (buffer after : List ℕ) (a : ReportAnswer) → length buffer ≡ reportRoom → outcome a after ≡ refusedWith n buffer → bytesOf (printedIn log a after) ≡ refusalLine (logOf log)
 unfolding outcome printedIn refusedIn lineIn over
 line-printed log n buffer after (Written m) h e = cc (ap (λ (o : Outcome). o .values) e)
 line-printed log n buffer after (Refused m) h e =
@@ -49,8 +49,8 @@ line-printed log n buffer after (Refused m) h e =
     ∙ take-append-seam line (drop (0 + length line) after)
 
 module _
-    (log : List ℕ) (typed : BytesIn log) (secret : List ℕ) (queue : List Probe) (long : length queue ≡ capacity) (rooms : Rooms) (sized : RoomsFit capacity rooms) (buffer : List ℕ) (h : length buffer ≡ reportRoom)
-    (a : Answer) (after : List ℕ)
+    (log : List ℕ) (typed : BytesIn log) (secret : List ℕ) (queue : List QueuedProbe) (long : length queue ≡ capacity) (rooms : Rooms) (sized : RoomsFit capacity rooms) (buffer : List ℕ) (h : length buffer ≡ reportRoom)
+    (a : ReportAnswer) (after : List ℕ)
   where
     all-fit : fits queue rooms buffer ≡ true
     all-fit =

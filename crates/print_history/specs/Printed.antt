@@ -2,9 +2,9 @@
 use mathlib.Core.List.{List}
 use Prim.Native.Nat.{ℕ}
 use Rattle.report.specs.Lines.{textOf}
-use Rattle.link_log.specs.declared.Log.{Log}
-use Rattle.link_log.specs.declared.Log.the-variants as log'
-use Rattle.link_log.specs.Logs.{logOf}
+use Rattle.log_whole.specs.declared.Log.{Log}
+use Rattle.log_whole.specs.declared.Log.the-variants as log'
+use Rattle.log_whole.specs.Logs.{logOf}
 use Rattle.report_history.specs.Figures.{reportFrom}
 use Rattle.log_print.specs.Printed.{refusalLine}
 

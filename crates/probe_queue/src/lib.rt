@@ -5,18 +5,18 @@ ghost use mathlib.Core.Path.{_≡_};
 ghost use Prim.Native.Nat.{_<_, _≤_};
 ghost use lib.ListN.{set, getD};
 ghost use Rattle.probe_queue.specs.Queue.{nil, Held, place, after, queued, leading, passes, unmark, placeIf, unmarked as unmarkedRoom, popped};
-ghost use Rattle.scope.specs.Limits.{capacity};
+ghost use Rattle.limits.specs.Limits.{capacity};
 
 // `Probe`, with its sequence's mark: 0 is no mark, anything else is one, so that whatever a host's memory holds is a record.
 #[repr(C)]
-pub struct Probe {
+pub struct QueuedProbe {
     pub sequence: u32,
     pub deadline: u64,
     pub mark: u32,
 }
 
 // Which records of a room are queued: `len` of them, from `head` on, past the end from 0 on.
-pub struct Ring {
+pub struct QueueRing {
     pub head: usize,
     pub len: usize,
 }
@@ -30,10 +30,10 @@ pub enum Rule {
 }
 
 // What is read past the end of a room.
-pub fn absent() -> Probe
+pub fn absent() -> QueuedProbe
     ensures { λ r. ⌜ r ≡ nil ⌝ }
 {
-    Probe {
+    QueuedProbe {
         sequence: 0,
         deadline: 0,
         mark: 0,
@@ -41,26 +41,26 @@ pub fn absent() -> Probe
 }
 
 // Where the i-th queued record lies.
-pub fn place_of(ring: Ring, i: usize) -> usize
+pub fn place_of(ring: QueueRing, i: usize) -> usize
     requires { ⌜ (ring .head < capacity) × (i ≤ capacity) ⌝ }
     ensures { λ r. ⌜ r ≡ place ring i ⌝ }
 {
-    (ring.head + i) % scope::CAPACITY
+    (ring.head + i) % limits::CAPACITY
 }
 
 // The ring after `count` pops.
-pub fn ring_after(ring: Ring, count: usize) -> Ring
+pub fn ring_after(ring: QueueRing, count: usize) -> QueueRing
     requires { ⌜ Held ring × (count ≤ ring .len) ⌝ }
     ensures { λ r. ⌜ r ≡ after ring count ⌝ }
 {
-    Ring {
-        head: (ring.head + count) % scope::CAPACITY,
+    QueueRing {
+        head: (ring.head + count) % limits::CAPACITY,
         len: ring.len - count,
     }
 }
 
 // Whether a look passes a record.
-pub fn goes_on(probe: Probe, rule: Rule) -> bool
+pub fn goes_on(probe: QueuedProbe, rule: Rule) -> bool
     ensures { λ r. ⌜ r ≡ passes rule probe ⌝ }
 {
     match rule {
@@ -76,11 +76,11 @@ pub fn goes_on(probe: Probe, rule: Rule) -> bool
 }
 
 // A record without its mark, where it is of the sequence.
-pub fn unmarked(probe: Probe, sequence: u32) -> Probe
+pub fn unmarked(probe: QueuedProbe, sequence: u32) -> QueuedProbe
     ensures { λ r. ⌜ r ≡ unmark sequence probe ⌝ }
 {
     if probe.sequence == sequence {
-        Probe {
+        QueuedProbe {
             sequence: probe.sequence,
             deadline: probe.deadline,
             mark: 0,
@@ -91,7 +91,7 @@ pub fn unmarked(probe: Probe, sequence: u32) -> Probe
 }
 
 // Where a record is stored once a sequence is unmarked: past the end of any room where the record is of another one, so that nothing is stored.
-pub fn place_if(probe: Probe, sequence: u32, at: usize) -> usize
+pub fn place_if(probe: QueuedProbe, sequence: u32, at: usize) -> usize
     ensures { λ r. ⌜ r ≡ placeIf sequence probe at ⌝ }
 {
     if probe.sequence == sequence {
@@ -102,7 +102,7 @@ pub fn place_if(probe: Probe, sequence: u32, at: usize) -> usize
 }
 
 // The record at a place, `absent` past the end.
-pub fn front(queue: &[Probe], at: usize) -> Probe
+pub fn front(queue: &[QueuedProbe], at: usize) -> QueuedProbe
     ensures { λ r. ⌜ r ≡ getD (now (queue .entry)) at nil ⌝ }
 {
     let mut probe = absent();
@@ -113,7 +113,7 @@ pub fn front(queue: &[Probe], at: usize) -> Probe
 }
 
 // Stores a record at a place; past the end it stores nothing.
-pub fn push(queue: &mut [Probe], at: usize, probe: Probe)
+pub fn push(queue: &mut [QueuedProbe], at: usize, probe: QueuedProbe)
     ensures { λ _. ⌜ now (queue .exit) ≡ set (now (queue .entry)) at probe ⌝ }
 {
     if at < queue.len() {
@@ -122,7 +122,7 @@ pub fn push(queue: &mut [Probe], at: usize, probe: Probe)
 }
 
 // How many front records the rule passes.
-pub fn look(queue: &[Probe], ring: Ring, rule: Rule) -> usize
+pub fn look(queue: &[QueuedProbe], ring: QueueRing, rule: Rule) -> usize
     requires { ⌜ Held ring ⌝ }
     ensures { λ r. ⌜ r ≡ leading (passes rule) (queued (now (queue .entry)) ring) ⌝ }
 {
@@ -140,7 +140,7 @@ pub fn look(queue: &[Probe], ring: Ring, rule: Rule) -> usize
 }
 
 // Unmarks a sequence in every queued record.
-pub fn unmark_queued(queue: &mut [Probe], ring: Ring, sequence: u32)
+pub fn unmark_queued(queue: &mut [QueuedProbe], ring: QueueRing, sequence: u32)
     requires { ⌜ Held ring ⌝ }
     ensures { λ _. ⌜ now (queue .exit) ≡ unmarkedRoom (now (queue .entry)) ring sequence (ring .len) ⌝ }
 {
@@ -157,7 +157,7 @@ pub fn unmark_queued(queue: &mut [Probe], ring: Ring, sequence: u32)
 }
 
 // What `count` pops unmark: each popped sequence, in what stays queued.
-pub fn pop(queue: &mut [Probe], ring: Ring, rest: Ring, count: usize)
+pub fn pop(queue: &mut [QueuedProbe], ring: QueueRing, rest: QueueRing, count: usize)
     requires { ⌜ Held ring × (Held rest × (count ≤ capacity)) ⌝ }
     ensures { λ _. ⌜ now (queue .exit) ≡ popped (now (queue .entry)) ring rest count ⌝ }
 {

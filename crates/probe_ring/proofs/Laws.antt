@@ -20,8 +20,8 @@ use Rattle.chains.proofs.Chains.{empty-indexed}
 use Rattle.chains.proofs.Walks.{walk-here, Walked, found, nothing, walked}
 use Rattle.chains.proofs.Scan.{walk-scans, scan-first}
 use Rattle.chains.proofs.Lanes.{linked-fits, linked-newest, linked-elsewhere, link-indexed}
-use Rattle.probe_ring.specs.declared.Probe.{Probe}
-use Rattle.probe_ring.specs.Row.{sequenceOf, wordsOf, probeOf, ProbeFits}
+use Rattle.probe_ring.specs.declared.HeldProbe.{HeldProbe}
+use Rattle.probe_ring.specs.Row.{sequenceOf, wordsOf, heldProbeOf, ProbeFits}
 use Rattle.probe_ring.specs.Held as list
 use Rattle.probe_ring.specs.Held.{Distinct}
 pub use Rattle.probe_ring.specs.Sound.{Sound}
@@ -36,7 +36,7 @@ eqb-is m n e = go (eq-test m n)
     go (holds p t) = p
     go (fails p t) = absurd (true-not-false e t)
 
-first-holds : (s : ℕ) (ps : List Probe) → firstOf (λ p. eqb s (p .sequence)) (λ p. true) false ps ≡ list.holds ps s
+first-holds : (s : ℕ) (ps : List HeldProbe) → firstOf (λ p. eqb s (p .sequence)) (λ p. true) false ps ≡ list.holds ps s
 unfolding firstOf list.holds
 first-holds s [] = refl
 first-holds s (p ∷ ps) = go (eqb s (p .sequence)) (first-holds s ps)
@@ -76,13 +76,13 @@ module _ (N : ℕ) (hash : ℕ → ℕ) where
 
   module _ (r : Rooms) (sound : Sound N hash r) where
     -- What is found is the held probe of the sequence: f of it, or d where none is held.
-    pub find-first : {B : Type 0} (f : Probe → B) (d : B) (s : ℕ)
-        → cond (ltb (slotOf N hash r s) N) (f (probeOf (getD (r .rows) (slotOf N hash r s) []))) d ≡ firstOf (λ p. eqb s (p .sequence)) f d (held N r)
-    unfolding slotOf held probeOf
+    pub find-first : {B : Type 0} (f : HeldProbe → B) (d : B) (s : ℕ)
+        → cond (ltb (slotOf N hash r s) N) (f (heldProbeOf (getD (r .rows) (slotOf N hash r s) []))) d ≡ firstOf (λ p. eqb s (p .sequence)) f d (held N r)
+    unfolding slotOf held heldProbeOf
     find-first f d s =
         rw (walk-scans N (λ slot. eqb s (sequenceOf (getD (r .rows) slot []))) (r .ring .head) (λ slot. hash (sequenceOf (getD (r .rows) slot []))) (newest lane (r .links)) (older lane (r .links))
         (hash s) (r .ring .len) (sound .ring-fits .head-in) (sound .ring-fits .len-in) (λ i e. ap hash (sym (eqb-is s _ e))) (sound .chained))
-        (scan-first N (λ slot. probeOf (getD (r .rows) slot [])) (λ p. eqb s (p .sequence)) f d (r .ring .head) (r .ring .len) (sound .ring-fits .head-in) (sound .ring-fits .len-in))
+        (scan-first N (λ slot. heldProbeOf (getD (r .rows) slot [])) (λ p. eqb s (p .sequence)) f d (r .ring .head) (r .ring .len) (sound .ring-fits .head-in) (sound .ring-fits .len-in))
 
     -- A sequence is found exactly if it is held.
     pub find-is : (s : ℕ) → ltb (slotOf N hash r s) N ≡ list.holds (held N r) s
@@ -94,7 +94,7 @@ module _ (N : ℕ) (hash : ℕ → ℕ) where
 
     -- ---- a push of a probe that is not held
 
-    module _ (p : Probe) (fits : ProbeFits p) where
+    module _ (p : HeldProbe) (fits : ProbeFits p) where
       there : (i : ℕ) → i ≢ pushSlot N (r .ring) → getD (set (r .rows) (pushSlot N (r .ring)) (wordsOf p)) i [] ≡ getD (r .rows) i []
       there i ne = getD-set-other (r .rows) (pushSlot N (r .ring)) i (wordsOf p) [] ne
 
@@ -104,8 +104,8 @@ module _ (N : ℕ) (hash : ℕ → ℕ) where
       pub pushed-held : held N (roomsAfter (pushed N hash r p)) ≡ take N (p ∷ held N r)
       unfolding held pushed
       pushed-held =
-          push-contents N (λ slot. probeOf (getD (r .rows) slot [])) (λ slot. probeOf (getD (set (r .rows) (pushSlot N (r .ring)) (wordsOf p)) slot [])) (r .ring) p (sound .ring-fits)
-          (ap probeOf here ∙ probe-back p fits) (λ i ne. ap probeOf (there i ne))
+          push-contents N (λ slot. heldProbeOf (getD (r .rows) slot [])) (λ slot. heldProbeOf (getD (set (r .rows) (pushSlot N (r .ring)) (wordsOf p)) slot [])) (r .ring) p (sound .ring-fits)
+          (ap heldProbeOf here ∙ probe-back p fits) (λ i ne. ap heldProbeOf (there i ne))
 
       pub pushed-sound : list.holds (held N r) (p .sequence) ≡ false → Sound N hash (roomsAfter (pushed N hash r p))
       unfolding pushed

@@ -14,12 +14,12 @@ use Rattle.chains.specs.Links.{older, linked}
 use Rattle.chains.proofs.Tests.{lt-true, lt-false}
 use Rattle.chains.proofs.Places.{place-of-slot}
 use Rattle.chains.proofs.Walks.{Walked, found, nothing, walked}
-use Rattle.probe_ring.specs.declared.Probe.{Probe}
+use Rattle.probe_ring.specs.declared.HeldProbe.{HeldProbe}
 use Rattle.probe_ring.specs.Row.{sequenceOf, repliesOf, wordsOf}
 use Rattle.probe_ring.specs.Rooms.{Rooms, rooms, lane, Outcome, outcome, slotOf, rememberedAt, remembered, moved, moveRow, moveLink, mendedLink, mendNewest, closedUp, takenOut, pushed}
 
 -- `push`: the slot, the hash, the ring after it, the two rooms, and the replies of the row that went
-pub pushed-as : (N : ℕ) (hash : ℕ → ℕ) (r : Rooms) (p : Probe) (slot h : ℕ) (next : Ring) (rows links : List (List ℕ))
+pub pushed-as : (N : ℕ) (hash : ℕ → ℕ) (r : Rooms) (p : HeldProbe) (slot h : ℕ) (next : Ring) (rows links : List (List ℕ))
     → slot ≡ pushSlot N (r .ring) → h ≡ hash (p .sequence) → next ≡ afterPush N (r .ring) → rows ≡ set (r .rows) slot (wordsOf p)
     → links ≡ linked lane (r .links) h slot
     → (before : ℕ) → before ≡ repliesOf (getD (r .rows) slot [])
@@ -49,7 +49,7 @@ module _ (N : ℕ) (hash : ℕ → ℕ) (r : Rooms) (fits : RingFits N (r .ring)
       go (found p m f t) l = rw (f, place-of-slot N (r .ring .head) p (fits .head-in) (omega (arith, fits .len-in))) m
       go (nothing f) l = absurd (omega arith)
 
-  module _ (p : Probe) (slot : ℕ) (slot-is : slot ≡ slotOf N hash r (p .sequence)) (after : Outcome) where
+  module _ (p : HeldProbe) (slot : ℕ) (slot-is : slot ≡ slotOf N hash r (p .sequence)) (after : Outcome) where
     pub remembered-held : (rest : Rooms) → slot < N → rest ≡ takenOut N r slot → after ≡ pushed N hash rest p → after ≡ remembered N hash r p
     unfolding remembered rememberedAt
     remembered-held rest l e f = f ∙ rw (e, ← slot-is, lt-true slot N l)

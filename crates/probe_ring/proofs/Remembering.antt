@@ -10,7 +10,7 @@ use native.Mathlib.Omega.{arith}
 use borrow.Author.Tests.{lt-leb}
 use lib.Dec.{eqb, ltb, leb}
 use lib.ListN.{length, getD, take}
-use Rattle.scope.specs.Limits.{capacity}
+use Rattle.limits.specs.Limits.{capacity}
 use Rattle.chains.specs.Rings.{wrap, contents, pushSlot}
 use Rattle.chains.specs.Links.{wordOf, older, Rows}
 use Rattle.chains.specs.Hash.{numberHash}
@@ -19,8 +19,8 @@ use Rattle.chains.proofs.Walks.{Walked, found, nothing, walked}
 use Rattle.chains.proofs.Places.{wrap-low, slot-full}
 use Rattle.chains.proofs.Contents.{length-contents}
 use Rattle.chains.proofs.Hashes.{number-hash-below}
-use Rattle.probe_ring.specs.declared.Probe.{Probe}
-use Rattle.probe_ring.specs.Row.{sequenceOf, repliesOf, probeOf, ProbeFits}
+use Rattle.probe_ring.specs.declared.HeldProbe.{HeldProbe}
+use Rattle.probe_ring.specs.Row.{sequenceOf, repliesOf, heldProbeOf, ProbeFits}
 use Rattle.probe_ring.specs.Held as list
 use Rattle.probe_ring.specs.Held.{others, remembering, rememberingAll, once, evicts, oldest, loses}
 use Rattle.probe_ring.specs.Rooms.{Rooms, rooms, lane, Outcome, roomsAfter, takenOut, closedUp, slotOf, pushed, rememberedAt, remembered, held}
@@ -32,17 +32,17 @@ taken-len : (N : ℕ) (r : Rooms) (slot : ℕ) → takenOut N r slot .ring .len 
 unfolding takenOut closedUp
 taken-len N r slot = refl
 
-pushed-evicts : (N : ℕ) (hash : ℕ → ℕ) (r : Rooms) (p : Probe) → pushed N hash r p .answer .evicted ≡ leb N (r .ring .len)
+pushed-evicts : (N : ℕ) (hash : ℕ → ℕ) (r : Rooms) (p : HeldProbe) → pushed N hash r p .answer .evicted ≡ leb N (r .ring .len)
 unfolding pushed
 pushed-evicts N hash r p = refl
 
-pushed-loses : (N : ℕ) (hash : ℕ → ℕ) (r : Rooms) (p : Probe)
+pushed-loses : (N : ℕ) (hash : ℕ → ℕ) (r : Rooms) (p : HeldProbe)
     → pushed N hash r p .answer .lost ≡ (leb N (r .ring .len) && eqb (repliesOf (getD (r .rows) (pushSlot N (r .ring)) [])) 0)
 unfolding pushed
 pushed-loses N hash r p = refl
 
 -- the oldest entry stands at the head
-oldest-contents : (N : ℕ) (at : ℕ → Probe) (head n : ℕ) (p : Probe) → oldest p (contents N at head (suc n)) ≡ at (wrap N (head + 0))
+oldest-contents : (N : ℕ) (at : ℕ → HeldProbe) (head n : ℕ) (p : HeldProbe) → oldest p (contents N at head (suc n)) ≡ at (wrap N (head + 0))
 unfolding oldest contents
 oldest-contents N at head zero p = refl
 oldest-contents N at head (suc n) p = oldest-contents N at head n (at (wrap N (head + suc n)))
@@ -66,20 +66,20 @@ module _ (N : ℕ) (hash : ℕ → ℕ) (r : Rooms) (sound : Sound N hash r) whe
 
   held-length : length (held N r) ≡ r .ring .len
   unfolding held
-  held-length = length-contents N (λ slot. probeOf (getD (r .rows) slot [])) (r .ring .head) (r .ring .len)
+  held-length = length-contents N (λ slot. heldProbeOf (getD (r .rows) slot [])) (r .ring .head) (r .ring .len)
 
   -- where N are held, the push goes over the oldest
-  oldest-is : (p : Probe) → N ≤ r .ring .len → repliesOf (getD (r .rows) (pushSlot N (r .ring)) []) ≡ oldest p (held N r) .replies
-  unfolding held probeOf
+  oldest-is : (p : HeldProbe) → N ≤ r .ring .len → repliesOf (getD (r .rows) (pushSlot N (r .ring)) []) ≡ oldest p (held N r) .replies
+  unfolding held heldProbeOf
   oldest-is p l = go (r .ring .len) (omega (arith, sound .ring-fits .head-in, l))
     where
-      go : (n : ℕ) → 0 < n → repliesOf (getD (r .rows) (pushSlot N (r .ring)) []) ≡ oldest p (contents N (λ slot. probeOf (getD (r .rows) slot [])) (r .ring .head) n) .replies
+      go : (n : ℕ) → 0 < n → repliesOf (getD (r .rows) (pushSlot N (r .ring)) []) ≡ oldest p (contents N (λ slot. heldProbeOf (getD (r .rows) slot [])) (r .ring .head) n) .replies
       go zero m = absurd (omega (arith, m))
       go (suc n) m =
           let at-head : wrap N (r .ring .head + 0) ≡ r .ring .head = rw (add-zero (r .ring .head)) (wrap-low N (r .ring .head) (sound .ring-fits .head-in)) in
-          rw (oldest-contents N (λ slot. probeOf (getD (r .rows) slot [])) (r .ring .head) n p, at-head, ← slot-full N (r .ring) l)
+          rw (oldest-contents N (λ slot. heldProbeOf (getD (r .rows) slot [])) (r .ring .head) n p, at-head, ← slot-full N (r .ring) l)
 
-  lost-is : (p : Probe) → (leb N (r .ring .len) && eqb (repliesOf (getD (r .rows) (pushSlot N (r .ring)) [])) 0) ≡ (leb N (r .ring .len) && eqb (oldest p (held N r) .replies) 0)
+  lost-is : (p : HeldProbe) → (leb N (r .ring .len) && eqb (repliesOf (getD (r .rows) (pushSlot N (r .ring)) [])) 0) ≡ (leb N (r .ring .len) && eqb (oldest p (held N r) .replies) 0)
   lost-is p = go (lt-test (r .ring .len) N)
     where
       go : Test (r .ring .len < N) (ltb (r .ring .len) N)
@@ -109,7 +109,7 @@ module _ (N : ℕ) (hash : ℕ → ℕ) (r : Rooms) (sound : Sound N hash r) whe
           })
 
   -- WHAT REMEMBERING LEAVES.
-  pub record Remembers (p : Probe) (o : Outcome) : Type 0 where
+  pub record Remembers (p : HeldProbe) (o : Outcome) : Type 0 where
     pub after-sound : Sound N hash (roomsAfter o)
     pub after-held : held N (roomsAfter o) ≡ remembering N p (held N r)
     pub after-found : slotOf N hash (roomsAfter o) (p .sequence) ≡ o .answer .slot
@@ -117,7 +117,7 @@ module _ (N : ℕ) (hash : ℕ → ℕ) (r : Rooms) (sound : Sound N hash r) whe
     pub after-lost : o .answer .lost ≡ loses N p (held N r)
     pub after-elsewhere : (i j : ℕ) → j ≢ lane → j ≢ lane + 1 → wordOf (o .links) i j ≡ wordOf (r .links) i j
 
-  module _ (p : Probe) (fits : ProbeFits p) where
+  module _ (p : HeldProbe) (fits : ProbeFits p) where
     -- one that is not held
     pub remembers-new : list.holds (held N r) (p .sequence) ≡ false → Remembers p (pushed N hash r p)
     unfolding evicts loses
@@ -159,16 +159,16 @@ module _ (N : ℕ) (hash : ℕ → ℕ) (r : Rooms) (sound : Sound N hash r) whe
 -- ---- from an empty ring on, whatever its rooms held
 
 -- all of these remembered, the last of the list first
-unfoldable pub rememberedAll : (N : ℕ) → (ℕ → ℕ) → Rooms → List Probe → Rooms
+unfoldable pub rememberedAll : (N : ℕ) → (ℕ → ℕ) → Rooms → List HeldProbe → Rooms
 rememberedAll N hash r [] = r
 rememberedAll N hash r (p ∷ ps) = roomsAfter (remembered N hash (rememberedAll N hash r ps) p)
 
 -- every one of them fits its words
-unfoldable pub AllFit : List Probe → Type 0
+unfoldable pub AllFit : List HeldProbe → Type 0
 AllFit [] = Unit
 AllFit (p ∷ ps) = ProbeFits p × AllFit ps
 
-all-remembered : (N : ℕ) (hash : ℕ → ℕ) (r : Rooms) (ps : List Probe) → Sound N hash r → held N r ≡ [] → AllFit ps
+all-remembered : (N : ℕ) (hash : ℕ → ℕ) (r : Rooms) (ps : List HeldProbe) → Sound N hash r → held N r ≡ [] → AllFit ps
     → Sound N hash (rememberedAll N hash r ps) × (held N (rememberedAll N hash r ps) ≡ rememberingAll N ps)
 unfolding rememberedAll rememberingAll AllFit
 all-remembered N hash r [] sound none f = (sound, none)
@@ -179,7 +179,7 @@ all-remembered N hash r (p ∷ ps) sound none f =
 
 -- Whatever the two rooms held: after these probes were remembered in the empty ring, the held ones are the 4,096 most recently remembered
 -- distinct sequences, and a sequence is found exactly if it is one of those.
-module _ (rows links : List (List ℕ)) (head : ℕ) (secret : List ℕ) (ps : List Probe) (rows-fit : length rows ≡ capacity) (links-fit : Rows capacity 8 links)
+module _ (rows links : List (List ℕ)) (head : ℕ) (secret : List ℕ) (ps : List HeldProbe) (rows-fit : length rows ≡ capacity) (links-fit : Rows capacity 8 links)
     (head-in : head < capacity) (all-fit : AllFit ps) where
   abbrev after : Rooms
   after = rememberedAll capacity (numberHash secret) (rooms rows links (record { head = head; len = 0 })) ps
@@ -194,4 +194,4 @@ module _ (rows links : List (List ℕ)) (head : ℕ) (secret : List ℕ) (ps : L
   held-exactly = all .1 ∙ held-are capacity ps
 
   pub found-exactly : (s : ℕ) → ltb (slotOf capacity (numberHash secret) after s) capacity ≡ list.holds (take capacity (once ps)) s
-  found-exactly s = find-is capacity (numberHash secret) after (all .0) s ∙ ap (λ (l : List Probe). list.holds l s) held-exactly
+  found-exactly s = find-is capacity (numberHash secret) after (all .0) s ∙ ap (λ (l : List HeldProbe). list.holds l s) held-exactly

@@ -14,8 +14,8 @@ use Rattle.chains.specs.Links.{newest, older}
 use Rattle.chains.specs.Whole.{Indexed}
 use Rattle.chains.proofs.Tests.{Test, holds, fails, eq-test, lt-test, eq-true, eq-false, true-not-false}
 use Rattle.chains.proofs.Places.{slot-once}
-use Rattle.probe_ring.specs.declared.Probe.{Probe}
-use Rattle.probe_ring.specs.Row.{sequenceOf, wordsOf, probeOf, ProbeFits}
+use Rattle.probe_ring.specs.declared.HeldProbe.{HeldProbe}
+use Rattle.probe_ring.specs.Row.{sequenceOf, wordsOf, heldProbeOf, ProbeFits}
 use Rattle.probe_ring.specs.Held as list
 use Rattle.probe_ring.specs.Held.{replacing, Distinct}
 use Rattle.probe_ring.specs.Rooms.{Rooms, rooms, lane, slotOf, held}
@@ -29,7 +29,7 @@ or-true : (b : Bool) → (b || true) ≡ true
 or-true true = refl
 or-true false = refl
 
-holds-place : (N : ℕ) (at : ℕ → Probe) (head n i : ℕ) → i < n → list.holds (contents N at head n) (at (wrap N (head + i)) .sequence) ≡ true
+holds-place : (N : ℕ) (at : ℕ → HeldProbe) (head n i : ℕ) → i < n → list.holds (contents N at head n) (at (wrap N (head + i)) .sequence) ≡ true
 unfolding contents list.holds
 holds-place N at head zero i h = absurd (omega arith)
 holds-place N at head (suc n) i h = go (eq-test i n) (holds-place N at head n i)
@@ -40,7 +40,7 @@ holds-place N at head (suc n) i h = go (eq-test i n) (holds-place N at head n i)
     go (fails q t) ih = rw (ih (omega arith), or-true (eqb (at (wrap N (head + i)) .sequence) (at (wrap N (head + n)) .sequence)))
 
 -- two places hold two sequences
-places-two : (N : ℕ) (at : ℕ → Probe) (head n i j : ℕ) → Distinct (contents N at head n) → i < j → j < n → at (wrap N (head + i)) .sequence ≢ at (wrap N (head + j)) .sequence
+places-two : (N : ℕ) (at : ℕ → HeldProbe) (head n i j : ℕ) → Distinct (contents N at head n) → i < j → j < n → at (wrap N (head + i)) .sequence ≢ at (wrap N (head + j)) .sequence
 unfolding contents Distinct
 places-two N at head zero i j d l m = absurd (omega arith)
 places-two N at head (suc n) i j d l m = go (eq-test j n) (places-two N at head n i j (d .1) l)
@@ -51,14 +51,14 @@ places-two N at head (suc n) i j d l m = go (eq-test j n) (places-two N at head 
         true-not-false (sym (ap (list.holds (contents N at head n)) last) ∙ holds-place N at head n i (omega arith)) (d .0)
     go (fails q t) ih e = ih (omega arith) e
 
-replacing-all : (N : ℕ) (at at′ : ℕ → Probe) (head : ℕ) (p : Probe) (n : ℕ)
+replacing-all : (N : ℕ) (at at′ : ℕ → HeldProbe) (head : ℕ) (p : HeldProbe) (n : ℕ)
     → ((i : ℕ) → i < n → at′ (wrap N (head + i)) ≡ cond (eqb (p .sequence) (at (wrap N (head + i)) .sequence)) p (at (wrap N (head + i))))
     → contents N at′ head n ≡ replacing p (contents N at head n)
 unfolding contents replacing
 replacing-all N at at′ head p zero e = refl
-replacing-all N at at′ head p (suc n) e = ap₂ (λ (q : Probe) (qs : List Probe). q ∷ qs) (e n (omega arith)) (replacing-all N at at′ head p n (λ i l. e i (omega arith)))
+replacing-all N at at′ head p (suc n) e = ap₂ (λ (q : HeldProbe) (qs : List HeldProbe). q ∷ qs) (e n (omega arith)) (replacing-all N at at′ head p n (λ i l. e i (omega arith)))
 
-holds-replacing : (p : Probe) (ps : List Probe) (s : ℕ) → list.holds (replacing p ps) s ≡ list.holds ps s
+holds-replacing : (p : HeldProbe) (ps : List HeldProbe) (s : ℕ) → list.holds (replacing p ps) s ≡ list.holds ps s
 unfolding replacing list.holds
 holds-replacing p [] s = refl
 holds-replacing p (q ∷ qs) s = ap₂ (λ (a b : Bool). a || b) (go (eq-test (p .sequence) (q .sequence))) (holds-replacing p qs s)
@@ -67,7 +67,7 @@ holds-replacing p (q ∷ qs) s = ap₂ (λ (a b : Bool). a || b) (go (eq-test (p
     go (holds e t) = rw (t, e)
     go (fails e t) = rw t
 
-replacing-distinct : (p : Probe) (ps : List Probe) → Distinct ps → Distinct (replacing p ps)
+replacing-distinct : (p : HeldProbe) (ps : List HeldProbe) → Distinct ps → Distinct (replacing p ps)
 unfolding replacing Distinct
 replacing-distinct p [] d = tt
 replacing-distinct p (q ∷ qs) d = (head-new (eq-test (p .sequence) (q .sequence)), replacing-distinct p qs (d .1))
@@ -78,7 +78,7 @@ replacing-distinct p (q ∷ qs) d = (head-new (eq-test (p .sequence) (q .sequenc
 
 -- ---- another row for a held probe
 
-module _ (N : ℕ) (hash : ℕ → ℕ) (r : Rooms) (sound : Sound N hash r) (p : Probe) (fits : ProbeFits p) (slot : ℕ) (slot-is : slot ≡ slotOf N hash r (p .sequence)) (slot-in : slot < N) where
+module _ (N : ℕ) (hash : ℕ → ℕ) (r : Rooms) (sound : Sound N hash r) (p : HeldProbe) (fits : ProbeFits p) (slot : ℕ) (slot-is : slot ≡ slotOf N hash r (p .sequence)) (slot-in : slot < N) where
   abbrev rows′ : List (List ℕ)
   rows′ = set (r .rows) slot (wordsOf p)
 
@@ -102,9 +102,9 @@ module _ (N : ℕ) (hash : ℕ → ℕ) (r : Rooms) (sound : Sound N hash r) (p 
       go (fails e t) = ap sequenceOf (there i e)
 
   each : (i : ℕ) → i < r .ring .len
-      → probeOf (getD rows′ (wrap N (r .ring .head + i)) [])
-      ≡ cond (eqb (p .sequence) (probeOf (getD (r .rows) (wrap N (r .ring .head + i)) []) .sequence)) p (probeOf (getD (r .rows) (wrap N (r .ring .head + i)) []))
-  unfolding probeOf held
+      → heldProbeOf (getD rows′ (wrap N (r .ring .head + i)) [])
+      ≡ cond (eqb (p .sequence) (heldProbeOf (getD (r .rows) (wrap N (r .ring .head + i)) []) .sequence)) p (heldProbeOf (getD (r .rows) (wrap N (r .ring .head + i)) []))
+  unfolding heldProbeOf held
   each i l = go (eq-test i (place .p))
     where
       at : slot ≡ wrap N (r .ring .head + place .p)
@@ -114,26 +114,26 @@ module _ (N : ℕ) (hash : ℕ → ℕ) (r : Rooms) (sound : Sound N hash r) (p 
       same-sequence = sym its ∙ ap (λ (x : ℕ). sequenceOf (getD (r .rows) x [])) at
 
       differ : (i ≡ place .p → ⊥) → Test (i < place .p) (ltb i (place .p)) → p .sequence ≢ sequenceOf (getD (r .rows) (wrap N (r .ring .head + i)) [])
-      differ ne (holds m t) e = places-two N (λ slot. probeOf (getD (r .rows) slot [])) (r .ring .head) (r .ring .len) i (place .p) (sound .distinct) m (omega (arith, place .len-is)) (sym e ∙ same-sequence)
-      differ ne (fails m t) e = places-two N (λ slot. probeOf (getD (r .rows) slot [])) (r .ring .head) (r .ring .len) (place .p) i (sound .distinct) (above (eq-test i (place .p))) l (sym same-sequence ∙ e)
+      differ ne (holds m t) e = places-two N (λ slot. heldProbeOf (getD (r .rows) slot [])) (r .ring .head) (r .ring .len) i (place .p) (sound .distinct) m (omega (arith, place .len-is)) (sym e ∙ same-sequence)
+      differ ne (fails m t) e = places-two N (λ slot. heldProbeOf (getD (r .rows) slot [])) (r .ring .head) (r .ring .len) (place .p) i (sound .distinct) (above (eq-test i (place .p))) l (sym same-sequence ∙ e)
         where
           above : Test (i ≡ place .p) (eqb i (place .p)) → place .p < i
           above (holds q t) = absurd (ne q)
           above (fails q t) = omega arith
 
       go : Test (i ≡ place .p) (eqb i (place .p))
-          → probeOf (getD rows′ (wrap N (r .ring .head + i)) [])
-          ≡ cond (eqb (p .sequence) (sequenceOf (getD (r .rows) (wrap N (r .ring .head + i)) []))) p (probeOf (getD (r .rows) (wrap N (r .ring .head + i)) []))
-      go (holds e t) = rw (e, eq-true _ _ same-sequence) (ap (λ (x : ℕ). probeOf (getD rows′ x [])) (sym at) ∙ ap probeOf here ∙ probe-back p fits)
+          → heldProbeOf (getD rows′ (wrap N (r .ring .head + i)) [])
+          ≡ cond (eqb (p .sequence) (sequenceOf (getD (r .rows) (wrap N (r .ring .head + i)) []))) p (heldProbeOf (getD (r .rows) (wrap N (r .ring .head + i)) []))
+      go (holds e t) = rw (e, eq-true _ _ same-sequence) (ap (λ (x : ℕ). heldProbeOf (getD rows′ x [])) (sym at) ∙ ap heldProbeOf here ∙ probe-back p fits)
       go (fails e t) =
           rw (eq-false _ _ (differ e (lt-test i (place .p))))
-          (ap probeOf (there (wrap N (r .ring .head + i))
+          (ap heldProbeOf (there (wrap N (r .ring .head + i))
           (λ f. e (slot-once N (r .ring .head) i (place .p) (sound .ring-fits .head-in) (omega (arith, sound .ring-fits .len-in)) (omega (arith, place .len-is, sound .ring-fits .len-in)) (f ∙ at)))))
 
   -- THE ROW OF ITS SEQUENCE IS THE NEW ONE, AND EVERY OTHER STAYS.
   pub put-held : held N (rooms rows′ (r .links) (r .ring)) ≡ replacing p (held N r)
   unfolding held
-  put-held = replacing-all N (λ slot. probeOf (getD (r .rows) slot [])) (λ slot. probeOf (getD rows′ slot [])) (r .ring .head) p (r .ring .len) each
+  put-held = replacing-all N (λ slot. heldProbeOf (getD (r .rows) slot [])) (λ slot. heldProbeOf (getD rows′ slot [])) (r .ring .head) p (r .ring .len) each
 
   pub put-sound : Sound N hash (rooms rows′ (r .links) (r .ring))
   put-sound = record {

@@ -5,10 +5,10 @@ use Prim.Native.Nat.{ℕ, _+_, _*_, _/_, _%_, _^_, _<_}
 use native.Mathlib.Omega.{arith}
 use native.Mathlib.Nat.{mod-eq-of-lt, add-mul-mod-self-right, add-mul-div-right, div-eq-of-lt, zero-add}
 use lib.ListN.{getD}
-use Rattle.calls.specs.declared.Ordinal.{Ordinal}
-use Rattle.calls.specs.declared.Ordinal.the-variants.{Absent, Number}
-use Rattle.probe_ring.specs.declared.Probe.{Probe}
-use Rattle.probe_ring.specs.Row.{knownOf, numberOf, ordinalOf, wordsOf, sequenceOf, repliesOf, probeOf, OrdinalFits, ProbeFits}
+use Rattle.call_types.specs.declared.Ordinal.{Ordinal}
+use Rattle.call_types.specs.declared.Ordinal.the-variants.{Absent, Number}
+use Rattle.probe_ring.specs.declared.HeldProbe.{HeldProbe}
+use Rattle.probe_ring.specs.Row.{knownOf, numberOf, ordinalOf, wordsOf, sequenceOf, repliesOf, heldProbeOf, OrdinalFits, ProbeFits}
 
 ordinal-back : (o : Ordinal) → ordinalOf (knownOf o) (numberOf o) ≡ o
 unfolding ordinalOf
@@ -26,7 +26,7 @@ lower-part a b z l = add-mul-mod-self-right a b z ∙ mod-eq-of-lt l
 upper-part : (a b z : ℕ) → a < z → (a + b * z) / z ≡ b
 upper-part a b z l = rw (add-mul-div-right a b {z = z} (omega (arith, l)), div-eq-of-lt l, zero-add b)
 
-module _ (p : Probe) (f : ProbeFits p) where
+module _ (p : HeldProbe) (f : ProbeFits p) where
   pub sequence-back : sequenceOf (wordsOf p) ≡ p .sequence
   unfolding wordsOf
   sequence-back = lower-part (p .sequence) (p .replies + knownOf (p .ordinal) * 65536) 4294967296 (f .sequence-in)
@@ -53,6 +53,6 @@ module _ (p : Probe) (f : ProbeFits p) where
   its-ordinal = rw (known-back, number-back) (ordinal-back (p .ordinal))
 
   -- EVERY PROBE SURVIVES ITS ROW.
-  pub probe-back : probeOf (wordsOf p) ≡ p
-  unfolding probeOf wordsOf
+  pub probe-back : heldProbeOf (wordsOf p) ≡ p
+  unfolding heldProbeOf wordsOf
   probe-back = λ i. record { sequence = sequence-back i; replies = replies-back i; ordinal = its-ordinal i; train = train-back i; packet = p .packet }

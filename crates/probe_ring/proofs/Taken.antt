@@ -18,8 +18,8 @@ use Rattle.chains.proofs.Tests.{Test, holds, fails, eq-test, eq-true, true-not-
 use Rattle.chains.proofs.Places.{place-of-slot, wrap-below}
 use Rattle.chains.proofs.Contents.{contents-same}
 use Rattle.chains.proofs.Lanes.{set-word, word-same, word-other, word-other-row}
-use Rattle.probe_ring.specs.declared.Probe.{Probe}
-use Rattle.probe_ring.specs.Row.{sequenceOf, probeOf}
+use Rattle.probe_ring.specs.declared.HeldProbe.{HeldProbe}
+use Rattle.probe_ring.specs.Row.{sequenceOf, heldProbeOf}
 use Rattle.probe_ring.specs.Held as list
 use Rattle.probe_ring.specs.Held.{others, Distinct}
 use Rattle.probe_ring.specs.Rooms.{Rooms, rooms, lane, moved, moveRow, moveLink, mendedLink, mendRow, mendNewest, closedUp, takenOut, held}
@@ -52,7 +52,7 @@ unfolding contents
 elem-contents N at head zero p = rw (zero-add p)
 elem-contents N at head (suc d) p = rw (suc-add d p) (elem-contents N at head d p)
 
-holds-at : (ps : List Probe) (i s : ℕ) (q : Probe) → getElem? ps i ≡ some q → q .sequence ≡ s → list.holds ps s ≡ true
+holds-at : (ps : List HeldProbe) (i s : ℕ) (q : HeldProbe) → getElem? ps i ≡ some q → q .sequence ≡ s → list.holds ps s ≡ true
 unfolding list.holds
 holds-at [] i s q e f = absurd (never e)
   where
@@ -66,18 +66,18 @@ holds-at (x ∷ ps) (suc i) s q e f = rw (holds-at ps i s q e f) (or-true (eqb s
     or-true false = refl
 
 -- where no sequence stands twice, taking one out is cutting its place
-others-cut : (ps : List Probe) (i s : ℕ) (q : Probe) → Distinct ps → getElem? ps i ≡ some q → q .sequence ≡ s → others s ps ≡ cut i ps
+others-cut : (ps : List HeldProbe) (i s : ℕ) (q : HeldProbe) → Distinct ps → getElem? ps i ≡ some q → q .sequence ≡ s → others s ps ≡ cut i ps
 unfolding Distinct others
 others-cut [] i s q d e f = refl
 others-cut (x ∷ ps) zero s q d e f =
     let same : x ≡ q = cc in
-    let here : x .sequence ≡ s = ap (λ (y : Probe). y .sequence) same ∙ f in
+    let here : x .sequence ≡ s = ap (λ (y : HeldProbe). y .sequence) same ∙ f in
     rw (here, eq-true s s refl) (others-absent s ps (rw here at (d .0)))
 others-cut (x ∷ ps) (suc i) s q d e f = go (eq-test s (x .sequence)) (others-cut ps i s q (d .1) e f)
   where
     go : Test (s ≡ x .sequence) (eqb s (x .sequence)) → others s ps ≡ cut i ps → cond (eqb s (x .sequence)) (others s ps) (x ∷ others s ps) ≡ x ∷ cut i ps
     go (holds g t) ih = absurd (true-not-false (holds-at ps i s q e f) (rw (← g) at (d .0)))
-    go (fails g t) ih = rw t (ap (λ (l : List Probe). x ∷ l) ih)
+    go (fails g t) ih = rw t (ap (λ (l : List HeldProbe). x ∷ l) ih)
 
 -- ---- the links to the newest, mended
 
@@ -197,12 +197,12 @@ module _ (N : ℕ) (hash : ℕ → ℕ) (r : Rooms) (sound : Sound N hash r) (p 
       N (λ i. sound .hashes (sequenceOf (getD rows′ i [])))
       (λ h l. link-elsewhere h lane (λ e. omega (arith, e)) ∙ mend-newest N mend (r .links) (sound .links-fit) h l) link-low link-high
 
-  held-others : contents N (λ slot. probeOf (getD rows′ slot [])) (r .ring .head) (d + p) ≡ others (sequenceOf (getD (r .rows) slot [])) (held N r)
-  unfolding held probeOf
+  held-others : contents N (λ slot. heldProbeOf (getD rows′ slot [])) (r .ring .head) (d + p) ≡ others (sequenceOf (getD (r .rows) slot [])) (held N r)
+  unfolding held heldProbeOf
   held-others =
-      contents-cut N (λ slot. probeOf (getD (r .rows) slot [])) (λ slot. probeOf (getD rows′ slot [])) (r .ring .head) p d (λ i l. ap probeOf (row-low i l)) (λ i l m. ap probeOf (row-high i l m))
-      ∙ sym (rw len-is (others-cut (contents N (λ slot. probeOf (getD (r .rows) slot [])) (r .ring .head) (suc (d + p))) d (sequenceOf (getD (r .rows) slot []))
-      (probeOf (getD (r .rows) slot [])) (rw len-is at (sound .distinct)) (elem-contents N (λ slot. probeOf (getD (r .rows) slot [])) (r .ring .head) d p) refl))
+      contents-cut N (λ slot. heldProbeOf (getD (r .rows) slot [])) (λ slot. heldProbeOf (getD rows′ slot [])) (r .ring .head) p d (λ i l. ap heldProbeOf (row-low i l)) (λ i l m. ap heldProbeOf (row-high i l m))
+      ∙ sym (rw len-is (others-cut (contents N (λ slot. heldProbeOf (getD (r .rows) slot [])) (r .ring .head) (suc (d + p))) d (sequenceOf (getD (r .rows) slot []))
+      (heldProbeOf (getD (r .rows) slot [])) (rw len-is at (sound .distinct)) (elem-contents N (λ slot. heldProbeOf (getD (r .rows) slot [])) (r .ring .head) d p) refl))
 
   held-after : held N (rooms rows′ links′ (record { head = r .ring .head; len = d + p })) ≡ others (sequenceOf (getD (r .rows) slot [])) (held N r)
   unfolding held

@@ -10,9 +10,9 @@ use Rattle.chains.specs.declared.Ring.{Ring}
 use Rattle.chains.specs.Rings.{wrap, contents, pushSlot, afterPush}
 use Rattle.chains.specs.Walk.{walk, placeOf}
 use Rattle.chains.specs.Links.{setWord, newest, older, linked}
-use Rattle.probe_ring.specs.declared.Probe.{Probe}
+use Rattle.probe_ring.specs.declared.HeldProbe.{HeldProbe}
 use Rattle.probe_ring.specs.declared.Remembered.{Remembered}
-use Rattle.probe_ring.specs.Row.{sequenceOf, repliesOf, wordsOf, probeOf}
+use Rattle.probe_ring.specs.Row.{sequenceOf, repliesOf, wordsOf, heldProbeOf}
 
 -- the rows of the probes, the links of their chains, and which of the rows are held
 pub record Rooms : Type 0 where
@@ -94,7 +94,7 @@ module _ (N : ℕ) (hash : ℕ → ℕ) where
       (newest lane (r .links) (hash s))
 
   -- a probe as the newest; where N are held, the oldest goes, lost where it has no reply
-  unfoldable pub pushed : Rooms → Probe → Outcome
+  unfoldable pub pushed : Rooms → HeldProbe → Outcome
   pushed r p =
       outcome (set (r .rows) (pushSlot N (r .ring)) (wordsOf p)) (linked lane (r .links) (hash (p .sequence)) (pushSlot N (r .ring)))
       (record {
@@ -105,13 +105,13 @@ module _ (N : ℕ) (hash : ℕ → ℕ) where
       })
 
   -- a held one is taken out first, and nothing is evicted for it
-  unfoldable pub rememberedAt : Rooms → Probe → ℕ → Outcome
+  unfoldable pub rememberedAt : Rooms → HeldProbe → ℕ → Outcome
   rememberedAt r p slot = cond (ltb slot N) (pushed (takenOut N r slot) p) (pushed r p)
 
   -- a probe is the newest from now on, whether its sequence was held or not
-  unfoldable pub remembered : Rooms → Probe → Outcome
+  unfoldable pub remembered : Rooms → HeldProbe → Outcome
   remembered r p = rememberedAt r p (slotOf r (p .sequence))
 
 -- the held probes, newest first
-unfoldable pub held : ℕ → Rooms → List Probe
-held N r = contents N (λ slot. probeOf (getD (r .rows) slot [])) (r .ring .head) (r .ring .len)
+unfoldable pub held : ℕ → Rooms → List HeldProbe
+held N r = contents N (λ slot. heldProbeOf (getD (r .rows) slot [])) (r .ring .head) (r .ring .len)

@@ -4,15 +4,15 @@ ghost use mathlib.Core.Path.{_≡_};
 ghost use mathlib.Core.List.{[]};
 ghost use Prim.Native.Nat.{_+_, _-_, _*_, _/_, _%_, _≤_, _<_};
 ghost use lib.ListN.{length, getD, set};
-ghost use Rattle.scope.specs.Limits.{capacity};
+ghost use Rattle.limits.specs.Limits.{capacity};
 ghost use Rattle.chains.specs.Rings.{RingFits};
 ghost use Rattle.chains.specs.Hash.{numberHash};
 ghost use Rattle.chains.specs.Walk.{placeOf};
-ghost use Rattle.probe_ring.specs.Row.{oneMore, packetAfter, unanswered, afterReply, isAnswered, knownOf, numberOf, ordinalOf, repliesOf, wordsOf, probeOf};
+ghost use Rattle.probe_ring.specs.Row.{oneMore, packetAfter, unanswered, afterReply, isAnswered, knownOf, numberOf, ordinalOf, repliesOf, wordsOf, heldProbeOf};
 ghost use Rattle.probe_ring.specs.Rooms.{rooms, outcome, slotOf, pushed, remembered, takenOut, moved, moveRow, moveLink, mendedLink, mendNewest};
-use calls::Ordinal;
-use calls::Pending;
-use calls::PendingPacket;
+use call_types::Ordinal;
+use call_types::Pending;
+use call_types::PendingPacket;
 use chains::Ring;
 use chains::first;
 use chains::link;
@@ -20,13 +20,13 @@ use chains::next;
 use chains::number_hash;
 use chains::place;
 use chains::push_slot;
-use scope::CAPACITY;
+use limits::CAPACITY;
 
 // The lane of `links` that is the probes' own.
 pub const LANE: usize = 4;
 
 // `Probe` of the original, with its sequence and its train (document 02, Q-3). It is answered where it has replies.
-pub struct Probe {
+pub struct HeldProbe {
     pub sequence: u32,
     pub replies: u16,
     pub ordinal: Ordinal,
@@ -121,12 +121,17 @@ fn packet_after(pending: Pending, stored: PendingPacket) -> PendingPacket
     }
 }
 
-impl Probe {
+impl HeldProbe {
     // A probe just remembered.
-    pub fn unanswered(sequence: u32, packet: PendingPacket, ordinal: Ordinal, train: u32) -> Probe
+    pub fn unanswered(
+        sequence: u32,
+        packet: PendingPacket,
+        ordinal: Ordinal,
+        train: u32,
+    ) -> HeldProbe
         ensures { λ q. ⌜ q ≡ unanswered sequence packet ordinal train ⌝ }
     {
-        Probe {
+        HeldProbe {
             sequence: sequence,
             replies: 0,
             ordinal: ordinal,
@@ -142,14 +147,14 @@ impl Probe {
     }
 
     // The probe after one more reply. A pending packet carries a corrected send time and replaces the stored one.
-    pub fn after_reply(self, pending: Pending) -> Probe
+    pub fn after_reply(self, pending: Pending) -> HeldProbe
         ensures { λ q. ⌜ q ≡ afterReply pending self ⌝ }
     {
         let ordinal = self.ordinal;
         let stored = self.packet;
         let replies = one_more(self.replies);
         let packet = packet_after(pending, stored);
-        Probe {
+        HeldProbe {
             sequence: self.sequence,
             replies: replies,
             ordinal: ordinal,
@@ -170,8 +175,8 @@ impl Probe {
     }
 
     // The probe of a row, whatever its words.
-    pub fn of_words(words: [u64; 4]) -> Probe
-        ensures { λ q. ⌜ q ≡ probeOf words ⌝ }
+    pub fn of_words(words: [u64; 4]) -> HeldProbe
+        ensures { λ q. ⌜ q ≡ heldProbeOf words ⌝ }
     {
         let sequence = low(words[0]);
         let replies = count_of(words[0]);
@@ -181,7 +186,7 @@ impl Probe {
             time: words[2],
             tag: words[3],
         };
-        Probe {
+        HeldProbe {
             sequence: sequence,
             replies: replies,
             ordinal: ordinal,
@@ -327,16 +332,16 @@ pub fn find(
 }
 
 // The probe in a slot.
-pub fn get(probes: &[[u64; 4]], slot: usize) -> Probe
+pub fn get(probes: &[[u64; 4]], slot: usize) -> HeldProbe
     requires { ⌜ (length (now probes) ≡ capacity) × (slot < capacity) ⌝ }
-    ensures { λ q. ⌜ q ≡ probeOf (getD (now (probes .entry)) slot []) ⌝ }
+    ensures { λ q. ⌜ q ≡ heldProbeOf (getD (now (probes .entry)) slot []) ⌝ }
 {
     let words = probes[slot];
-    Probe::of_words(words)
+    HeldProbe::of_words(words)
 }
 
 // Another row for a probe: after a reply, with the same sequence.
-pub fn put(probes: &mut [[u64; 4]], slot: usize, probe: Probe)
+pub fn put(probes: &mut [[u64; 4]], slot: usize, probe: HeldProbe)
     requires { ⌜ (length (now probes) ≡ capacity) × (slot < capacity) ⌝ }
     ensures { λ q. ⌜ now (probes .exit) ≡ set (now (probes .entry)) slot (wordsOf probe) ⌝ }
 {
@@ -350,7 +355,7 @@ pub fn push(
     links: &mut [[u16; 8]],
     ring: Ring,
     secret: [u32; 8],
-    probe: Probe,
+    probe: HeldProbe,
 ) -> Remembered
     requires { ⌜ (length (now probes) ≡ capacity) × (length (now links) ≡ capacity) × RingFits capacity ring ⌝ }
     ensures { λ q. ⌜ (outcome (now (probes .exit)) (now (links .exit)) q ≡ pushed capacity (numberHash secret) (rooms (now (probes .entry)) (now (links .entry)) ring) probe) × RingFits capacity (q .ring) × (q .slot < capacity) ⌝ }
@@ -384,7 +389,7 @@ pub fn remember(
     requires { ⌜ (length (now probes) ≡ capacity) × (length (now links) ≡ capacity) × RingFits capacity ring ⌝ }
     ensures { λ q. ⌜ (outcome (now (probes .exit)) (now (links .exit)) q ≡ remembered capacity (numberHash secret) (rooms (now (probes .entry)) (now (links .entry)) ring) (unanswered sequence packet ordinal train)) × RingFits capacity (q .ring) × (q .slot < capacity) ⌝ }
 {
-    let probe = Probe::unanswered(sequence, packet, ordinal, train);
+    let probe = HeldProbe::unanswered(sequence, packet, ordinal, train);
     let slot = find(probes, links, ring, secret, sequence);
     if slot < CAPACITY {
         let rest = take_out(probes, links, ring, slot);

@@ -11,7 +11,7 @@ use lib.ListN.{length, getD, take, drop, length-append}
 use Rattle.rank.specs.Rank.{rankOf, rank-below}
 use Rattle.exact_rank.specs.Rank.{sorted, atRank}
 use Rattle.exact_rank.proofs.Sorting.{length-sorted}
-use Rattle.scope.specs.Refusals.{wrongRoom}
+use Rattle.limits.specs.Refusals.{wrongRoom}
 use Rattle.quantiles.specs.State.{roomSize}
 use Rattle.buckets.specs.Signed.{magnitude, order, gap, indexOf, valueOf}
 use Rattle.histogram.specs.Histogram.{bucketAt}

@@ -3,7 +3,7 @@ use mathlib.Core.List.{List}
 use Prim.Native.Nat.{ℕ, _-_}
 use lib.Dec.{leb, eqb}
 use lib.Ieee.{Float}
-use Rattle.scope.specs.Limits.{capacity}
+use Rattle.limits.specs.Limits.{capacity}
 use Rattle.rank.specs.Rank.{rankOf}
 use Rattle.exact_rank.specs.Rank.{atRank}
 use Rattle.buckets.specs.Buckets.{pick}

@@ -8,8 +8,8 @@ use native.Mathlib.Omega.{arith}
 use borrow.Author.Tests.{lt-ltb, le-ltb, eq-eqb, ne-eqb}
 use lib.Dec.{ltb, eqb}
 use lib.ListN.{length, getD, set, take, drop}
-use Rattle.scope.specs.Limits.{capacity}
-use Rattle.scope.specs.Refusals.{wrongRoom}
+use Rattle.limits.specs.Limits.{capacity}
+use Rattle.limits.specs.Refusals.{wrongRoom}
 use Rattle.buckets.specs.Buckets.{pick}
 use Rattle.buckets.specs.Signed.{order, indexOf}
 use Rattle.quantiles.specs.declared.Quantiles.{Quantiles}

@@ -112,7 +112,7 @@ fn clear_counts(room: &mut [u64])
     requires { ⌜ 4096 ≤ length (now room) ⌝ }
     ensures { λ r. ⌜ now (room .exit) ≡ take 4096 (now (room .entry)) ++ replicate (length (now (room .entry)) - 4096) 0 ⌝ }
 {
-    histogram::clear(&mut room[scope::CAPACITY..]);
+    histogram::clear(&mut room[limits::CAPACITY..]);
 }
 
 // One sample more in a bucket, and in the total of its block.
@@ -120,7 +120,7 @@ fn count_in(signed: bool, room: &mut [u64], place: usize)
     requires { ⌜ (length (now room) ≡ roomSize signed) × (place < bucketCount signed) × (getD (bucketsOf signed (now room)) place 0 + 1 < 2 ^ 64) × (getD (totals signed (now room)) (place / 128) 0 + 1 < 2 ^ 64) ⌝ }
     ensures { λ r. ⌜ now (room .exit) ≡ samples (now (room .entry)) ++ (bumped (bucketsOf signed (now (room .entry))) place ++ bumped (totals signed (now (room .entry))) (place / 128)) ⌝ }
 {
-    let at = scope::CAPACITY + place;
+    let at = limits::CAPACITY + place;
     let block = totals_start(signed) + place / 128;
     room[at] = room[at] + 1;
     room[block] = room[block] + 1;
@@ -133,7 +133,7 @@ fn fill(signed: bool, room: &mut [u64])
 {
     clear_counts(room);
     let mut i = 0;
-    while i < scope::CAPACITY {
+    while i < limits::CAPACITY {
         let place = buckets::bucket_of(signed, room[i]);
         count_in(signed, room, place);
         i += 1;
@@ -167,7 +167,7 @@ fn add_later(q: Quantiles, room: &mut [u64], value: u64) -> Recording
     ensures { λ r. ⌜ outcome q r (now (room .exit)) ≡ recorded q (now (room .entry)) value ⌝ }
 {
     let place = buckets::bucket_of(q.signed, value);
-    let at = scope::CAPACITY + place;
+    let at = limits::CAPACITY + place;
     let block = totals_start(q.signed) + place / 128;
     if room[at] == 18446744073709551615 {
         return Recording::Refused;
@@ -214,7 +214,7 @@ fn try_later(q: Quantiles, room: &mut [u64], value: u64) -> bool
         return false;
     }
     let place = buckets::bucket_of(q.signed, value);
-    let at = scope::CAPACITY + place;
+    let at = limits::CAPACITY + place;
     let block = totals_start(q.signed) + place / 128;
     if room[at] == MOST {
         return false;

@@ -7,23 +7,23 @@ use mir.Val.{SFits}
 use Rattle.estimate.specs.declared.ErrorEstimate.{ErrorEstimate}
 use Rattle.estimate.specs.declared.Estimates.{Estimates}
 use Rattle.estimate.specs.declared.Estimates.the-variants as estimates
-use Rattle.calls.specs.declared.Time.{Time}
-use Rattle.calls.specs.declared.Time.the-variants as time
-use Rattle.calls.specs.declared.PendingPacket.{PendingPacket}
-use Rattle.calls.specs.declared.Pending.{Pending}
-use Rattle.calls.specs.declared.Pending.the-variants as pending
-use Rattle.calls.specs.declared.Ordinal.{Ordinal}
-use Rattle.calls.specs.declared.Ordinal.the-variants as ordinal
-use Rattle.calls.specs.declared.CounterPoint.{CounterPoint}
-use Rattle.calls.specs.declared.Counters.{Counters}
-use Rattle.calls.specs.declared.Counters.the-variants as counters
-use Rattle.calls.specs.declared.FollowUpTelemetry.{FollowUpTelemetry}
-use Rattle.calls.specs.declared.FollowUp.{FollowUp}
-use Rattle.calls.specs.declared.FollowUp.the-variants as follow
-use Rattle.calls.specs.declared.ReplyKey.{ReplyKey}
-use Rattle.calls.specs.declared.Reply.{Reply}
-use Rattle.calls.specs.declared.SentProbe.{SentProbe}
-use Rattle.calls.specs.declared.ReplyObservation.{ReplyObservation}
+use Rattle.call_types.specs.declared.Time.{Time}
+use Rattle.call_types.specs.declared.Time.the-variants as time
+use Rattle.call_types.specs.declared.PendingPacket.{PendingPacket}
+use Rattle.call_types.specs.declared.Pending.{Pending}
+use Rattle.call_types.specs.declared.Pending.the-variants as pending
+use Rattle.call_types.specs.declared.Ordinal.{Ordinal}
+use Rattle.call_types.specs.declared.Ordinal.the-variants as ordinal
+use Rattle.call_types.specs.declared.CounterPoint.{CounterPoint}
+use Rattle.call_types.specs.declared.Counters.{Counters}
+use Rattle.call_types.specs.declared.Counters.the-variants as counters
+use Rattle.call_types.specs.declared.FollowUpTelemetry.{FollowUpTelemetry}
+use Rattle.call_types.specs.declared.FollowUp.{FollowUp}
+use Rattle.call_types.specs.declared.FollowUp.the-variants as follow
+use Rattle.call_types.specs.declared.ReplyKey.{ReplyKey}
+use Rattle.call_types.specs.declared.Reply.{Reply}
+use Rattle.call_types.specs.declared.SentProbe.{SentProbe}
+use Rattle.call_types.specs.declared.ReplyObservation.{ReplyObservation}
 use Rattle.record_parts.specs.declared.Entry.{Entry}
 use Rattle.record_parts.specs.declared.Entry.the-variants as entry
 

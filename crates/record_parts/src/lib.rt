@@ -8,21 +8,21 @@ ghost use Rattle.record_parts.specs.Parts.{estimatesFlag, senderWire, re
 ghost use Rattle.record_parts.specs.Parts.{pendingBy, timeBy, ordinalBy, countersBy, followBy, estimatesBy};
 ghost use Rattle.estimate.specs.Make.{formatOf};
 ghost use Rattle.estimate.specs.Wire.{bit};
-use calls::Call;
-use calls::CounterPoint;
-use calls::Counters;
-use calls::FollowUp;
-use calls::FollowUpTelemetry;
-use calls::Ordinal;
-use calls::Pending;
-use calls::PendingPacket;
-use calls::ReflectorRx;
-use calls::ReflectorTx;
-use calls::Reply;
-use calls::ReplyObservation;
-use calls::SenderTx;
-use calls::SentProbe;
-use calls::Time;
+use call_types::Call;
+use call_types::CounterPoint;
+use call_types::Counters;
+use call_types::FollowUp;
+use call_types::FollowUpTelemetry;
+use call_types::Ordinal;
+use call_types::Pending;
+use call_types::PendingPacket;
+use call_types::ReflectorRx;
+use call_types::ReflectorTx;
+use call_types::Reply;
+use call_types::ReplyObservation;
+use call_types::SenderTx;
+use call_types::SentProbe;
+use call_types::Time;
 use estimate::ClockFormat;
 use estimate::ErrorEstimate;
 use estimate::Estimates;
@@ -106,7 +106,7 @@ pub fn time_word(time: Time) -> u64
 {
     match time {
         Time::Absent => 0,
-        Time::Nanoseconds(z) => words::word64(z),
+        Time::Nanoseconds(z) => signed_words::word64(z),
     }
 }
 
@@ -288,7 +288,7 @@ pub fn time_by(there: bool, word: u64) -> Time
     ensures { λ r. ⌜ r ≡ timeBy there word ⌝ }
 {
     if there {
-        return Time::Nanoseconds(words::signed64(word));
+        return Time::Nanoseconds(signed_words::signed64(word));
     }
     Time::Absent
 }

@@ -8,9 +8,9 @@ use borrow.Fn.Kinds as Kinds'
 use denote.Triple.Clauses as Clauses
 use denote.Ref.{now}
 use lib.ListN.{length}
-use Rattle.link_log.specs.Logs.{logOf}
-use Rattle.report.specs.declared.Answer.{Answer}
-use Rattle.report.specs.declared.Answer.the-variants as answer
+use Rattle.log_whole.specs.Logs.{logOf}
+use Rattle.report.specs.declared.ReportAnswer.{ReportAnswer}
+use Rattle.report.specs.declared.ReportAnswer.the-variants as answer
 use Rattle.report.specs.Report.{outcome}
 use Rattle.recount.specs.declared.Checked.{Checked}
 use Rattle.recount.specs.declared.Checked.the-variants.{Refused, Good}
@@ -20,16 +20,16 @@ use Rattle.recount.proofs.recount_log.Kinds as kinds
 use Rattle.recount.proofs.recount_log.Reads as reads
 
 -- the answer of an outcome: no value is answered with a refusal
-abbrev answerBy : ℕ → List ℕ → Answer
+abbrev answerBy : ℕ → List ℕ → ReportAnswer
 answerBy number [] = answer.Refused number
 answerBy number (n ∷ ns) = answer.Written n
 
-answer-of : (a : Answer) (buffer : List ℕ) → answerBy (outcome a buffer .number) (outcome a buffer .values) ≡ a
+answer-of : (a : ReportAnswer) (buffer : List ℕ) → answerBy (outcome a buffer .number) (outcome a buffer .values) ≡ a
 unfolding outcome
 answer-of (answer.Written n) buffer = refl
 answer-of (answer.Refused n) buffer = refl
 
-buffer-of : (a : Answer) (buffer : List ℕ) → outcome a buffer .buffer ≡ buffer
+buffer-of : (a : ReportAnswer) (buffer : List ℕ) → outcome a buffer .buffer ≡ buffer
 unfolding outcome
 buffer-of (answer.Written n) buffer = refl
 buffer-of (answer.Refused n) buffer = refl

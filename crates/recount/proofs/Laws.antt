@@ -7,16 +7,16 @@ use native.Mathlib.Omega.{arith}
 use lib.Dec.{eqb}
 use lib.ListN.{length}
 use borrow.Author.Tests.{eq-eqb, eqb-true}
-use Rattle.scope.specs.Limits.{capacity}
+use Rattle.limits.specs.Limits.{capacity}
 use Rattle.history.specs.Ledger.{copiesOf}
 use Rattle.history.specs.FollowUps.{roundTrips}
 use Rattle.history.specs.DirectLoss.{window, spans}
-use Rattle.link_log.specs.declared.Settings.{Settings}
-use Rattle.link_log.specs.declared.Log.{Log}
-use Rattle.link_log.specs.declared.Log.the-variants as log'
-use Rattle.link_log.specs.Logs.{logOf}
-use Rattle.report.specs.declared.Answer.the-variants as answer
-use Rattle.report.specs.declared.figures.Played.{Played}
+use Rattle.log_whole.specs.declared.Settings.{Settings}
+use Rattle.log_whole.specs.declared.Log.{Log}
+use Rattle.log_whole.specs.declared.Log.the-variants as log'
+use Rattle.log_whole.specs.Logs.{logOf}
+use Rattle.report.specs.declared.ReportAnswer.the-variants as answer
+use Rattle.report.specs.declared.figures.PlayedRecords.{PlayedRecords}
 use Rattle.report.specs.declared.figures.Loss.{Loss}
 use Rattle.report.specs.declared.figures.Replies.{Replies}
 use Rattle.report.specs.declared.figures.Probes.{Probes}
@@ -45,7 +45,7 @@ use Rattle.recount.specs.Recount.{mostRecords, roomsFit, checkedBy, reco
 -- ---- the figures
 
 pub figures-are : (copies asked : ℕ) (log marks : List ℕ) (n : ℕ) (session : Session)
-    (played : Played) (loss : Loss) (replies : Replies) (probes : Probes) (order : Order) (followup : FollowUps) (direct : Direct) (missing : Missing) (rtt : RoundTrip)
+    (played : PlayedRecords) (loss : Loss) (replies : Replies) (probes : Probes) (order : Order) (followup : FollowUps) (direct : Direct) (missing : Missing) (rtt : RoundTrip)
     → asked ≡ copiesOf copies
     → played ≡ playedAt marks n
     → loss ≡ lossAt asked log marks n

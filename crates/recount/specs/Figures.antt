@@ -4,11 +4,11 @@ use mathlib.Core.Bool.{Bool, not}
 use mathlib.Core.List.{List}
 use Prim.Native.Nat.{ℕ}
 use lib.Dec.{eqb}
-use Rattle.scope.specs.Limits.{capacity}
+use Rattle.limits.specs.Limits.{capacity}
 use Rattle.history.specs.Ledger.{copiesOf}
 use Rattle.history.specs.FollowUps.{roundTrips}
 use Rattle.history.specs.DirectLoss.{window, spans}
-use Rattle.link_log.specs.declared.Settings.{Settings}
+use Rattle.log_whole.specs.declared.Settings.{Settings}
 use Rattle.report.specs.declared.figures.FollowUps.{FollowUps}
 use Rattle.report.specs.declared.figures.Direct.{Direct}
 use Rattle.report.specs.declared.figures.Session.{Session}

@@ -4,12 +4,12 @@ use mathlib.Core.List.{List, []}
 use Prim.Native.Nat.{ℕ}
 use lib.Dec.{eqb}
 use lib.ListN.{length}
-use Rattle.scope.specs.Refusals.{wrongRoom}
+use Rattle.limits.specs.Refusals.{wrongRoom}
 use Rattle.log_record.specs.Records.{badRecord}
-use Rattle.link_log.specs.declared.Settings.{Settings}
-use Rattle.link_log.specs.declared.Log.{Log}
-use Rattle.link_log.specs.declared.Log.the-variants as log'
-use Rattle.link_log.specs.Logs.{tooLong, badTrailer, logOf}
+use Rattle.log_whole.specs.declared.Settings.{Settings}
+use Rattle.log_whole.specs.declared.Log.{Log}
+use Rattle.log_whole.specs.declared.Log.the-variants as log'
+use Rattle.log_whole.specs.Logs.{tooLong, badTrailer, logOf}
 use Rattle.report.specs.Lines.{textOf}
 use Rattle.report.specs.Report.{Outcome, reportRoom, written}
 use Rattle.recount_marks.specs.Marks.{markedTo}

@@ -7,9 +7,9 @@ ghost use lib.ListN.{length};
 ghost use Rattle.report.specs.Report.{outcome, reportRoom};
 ghost use Rattle.recount.specs.Figures.{followupAt, directAt, figuresBy, watchedBy};
 ghost use Rattle.recount.specs.Recount.{roomsFit, checkedOf, checkedBy, recounted, recountGood, recountOfLog};
-use link_log::Log;
-use link_log::Settings;
-use report::Answer;
+use log_whole::Log;
+use log_whole::Settings;
+use report::ReportAnswer;
 use report::figures;
 use report::figures::Figures;
 use report::figures::Session;
@@ -124,7 +124,7 @@ fn checked_by(fit: bool, found: Log) -> Checked
     if fit {
         return checked_of(found);
     }
-    Checked::Refused(scope::WRONG_ROOM)
+    Checked::Refused(limits::WRONG_ROOM)
 }
 
 // ---- the report
@@ -141,7 +141,7 @@ fn recount_good(
     marks: &mut [u8],
     fronts: &mut [u32],
     text: &mut [u8],
-) -> Answer
+) -> ReportAnswer
     requires { ⌜ (s .count ≤ length (now marks)) × (s .count ≤ length (now fronts)) × (s .count < 65536) × (length (now text) ≡ reportRoom) ⌝ }
     ensures { λ r. ⌜ recounted (outcome r (now (text .exit))) (now (marks .exit)) (now (fronts .exit)) ≡ recountGood s (now (log .entry)) (now (marks .entry)) (now (fronts .entry)) (now (text .entry)) ⌝ }
 {
@@ -153,14 +153,19 @@ fn recount_good(
 
 // The report of a log, at the start of the buffer. The rooms may hold anything; 5 where one has another size, then 9, 7 or 8 of the log itself,
 // and nothing is changed.
-pub fn recount_log(log: &[u8], marks: &mut [u8], fronts: &mut [u32], text: &mut [u8]) -> Answer
+pub fn recount_log(
+    log: &[u8],
+    marks: &mut [u8],
+    fronts: &mut [u32],
+    text: &mut [u8],
+) -> ReportAnswer
     ensures { λ r. ⌜ recounted (outcome r (now (text .exit))) (now (marks .exit)) (now (fronts .exit)) ≡ recountOfLog (now (log .entry)) (now (marks .entry)) (now (fronts .entry)) (now (text .entry)) ⌝ }
 {
     let fit = rooms_fit(marks.len(), fronts.len(), text.len());
-    let found = link_log::check(log);
+    let found = log_whole::check(log);
     let checked = checked_by(fit, found);
     match checked {
-        Checked::Refused(number) => Answer::Refused(number),
+        Checked::Refused(number) => ReportAnswer::Refused(number),
         Checked::Good(settings) => recount_good(settings, log, marks, fronts, text),
     }
 }

@@ -6,7 +6,7 @@ use mathlib.Core.Option.{Option, none, some}
 use Prim.Native.Nat.{ℕ, suc, _+_, _%_, _^_, _≤_, _<_}
 use native.Mathlib.Omega.{arith}
 use lib.Dec.{eqb, ltb}
-use Rattle.calls.specs.declared.ReplyKey.{ReplyKey}
+use Rattle.call_types.specs.declared.ReplyKey.{ReplyKey}
 use Rattle.history.specs.Counting.{tally, has, offset}
 use Rattle.history.specs.Ledger.{Event, hasKey, accepted, rememberings, awaiting, replies, newHighest, highestReflector, behind}
 use Rattle.recount_seen.specs.declared.Seen.{Seen}

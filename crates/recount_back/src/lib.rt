@@ -6,7 +6,7 @@ ghost use Rattle.history.specs.Counting.{has, tally, offset};
 ghost use Rattle.history.specs.Ledger.{sameKey, hasKey, accepted, rememberings, awaiting, replies, highestReflector};
 ghost use Rattle.recount_seen.specs.Seen.{eventsOf};
 ghost use Rattle.recount_back.specs.Back.{accepts, remembers, awaits, awaitsNext, repliesNext, zeroIf, highestOf, raised, highestNext, isBehind};
-use calls::ReplyKey;
+use call_types::ReplyKey;
 use recount_seen::Seen;
 
 pub fn same_key(a: ReplyKey, b: ReplyKey) -> bool

@@ -6,11 +6,11 @@ use Prim.Native.Nat.{ℕ, _+_, _-_, _^_, _<_}
 use native.Mathlib.Omega.{arith}
 use lib.Dec.{leb, ltb}
 use borrow.Author.Tests.{le-leb, lt-leb, ltb-true, ltb-false}
-use Rattle.calls.specs.declared.PendingPacket.{PendingPacket}
-use Rattle.calls.specs.declared.Pending.{Pending}
-use Rattle.calls.specs.declared.Pending.the-variants.{Absent, Held}
-use Rattle.calls.specs.declared.Reply.{Reply}
-use Rattle.calls.specs.declared.ReplyObservation.{ReplyObservation}
+use Rattle.call_types.specs.declared.PendingPacket.{PendingPacket}
+use Rattle.call_types.specs.declared.Pending.{Pending}
+use Rattle.call_types.specs.declared.Pending.the-variants.{Absent, Held}
+use Rattle.call_types.specs.declared.Reply.{Reply}
+use Rattle.call_types.specs.declared.ReplyObservation.{ReplyObservation}
 use Rattle.ranges.specs.Ranges.{inRange}
 use Rattle.history.specs.Counting.{has}
 use Rattle.history.specs.Ledger.{Event, hasKey, accepted, rememberings, awaiting}

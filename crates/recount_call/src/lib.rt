@@ -7,10 +7,10 @@ ghost use Rattle.recount_call.specs.Mark.{late, probeMark, replyMark, ob
 
 pub mod range;
 
-use calls::Pending;
-use calls::Reply;
-use calls::ReplyObservation;
-use calls::SentProbe;
+use call_types::Pending;
+use call_types::Reply;
+use call_types::ReplyObservation;
+use call_types::SentProbe;
 use recount_seen::DUPLICATE;
 use recount_seen::FIRST;
 use recount_seen::KNOWN;

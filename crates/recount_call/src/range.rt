@@ -1,8 +1,8 @@
 // Refusal 1 of document 01, tested here anew: a second count does not lean on the test that the ledger makes.
 ghost use mathlib.Core.Path.{_≡_};
 ghost use Rattle.ranges.specs.Ranges.{referenceWithin, offsetWithin, timeWithin, timeFits, estimatesFit, inRange};
-use calls::ReplyObservation;
-use calls::Time;
+use call_types::ReplyObservation;
+use call_types::Time;
 use estimate::Estimates;
 
 fn time_within(ns: i64) -> bool

@@ -3,9 +3,9 @@ use mathlib.Core.Bool.{Bool, true, false, not, _&&_, cond}
 use mathlib.Core.List.{List}
 use Prim.Native.Nat.{ℕ, zero, suc}
 use lib.Dec.{eqb, ltb}
-use Rattle.calls.specs.declared.Pending.{Pending}
-use Rattle.calls.specs.declared.Pending.the-variants as pending
-use Rattle.calls.specs.declared.Reply.{Reply}
+use Rattle.call_types.specs.declared.Pending.{Pending}
+use Rattle.call_types.specs.declared.Pending.the-variants as pending
+use Rattle.call_types.specs.declared.Reply.{Reply}
 use Rattle.history.specs.Counting.{tally}
 use Rattle.history.specs.Ledger.{Event, accepted, replies, behind, highestReflector}
 use Rattle.recount_seen.specs.declared.Seen.{Seen}

@@ -6,8 +6,8 @@ ghost use Prim.Native.Nat.{_≤_, _<_};
 ghost use lib.ListN.{length};
 ghost use Rattle.recount_seen.specs.Seen.{seenAt, eventsOf};
 ghost use Rattle.recount_counts.specs.Tests.{absent, uniqueTest, uniqueAt, testBy, passing};
-use calls::Pending;
-use calls::Reply;
+use call_types::Pending;
+use call_types::Reply;
 use recount_seen::Seen;
 
 fn absent(pending: Pending) -> bool

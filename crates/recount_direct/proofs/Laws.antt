@@ -8,8 +8,8 @@ use native.Mathlib.Omega.{arith}
 use lib.Dec.{eqb, leb, ltb}
 use borrow.Author.Tests.{eq-eqb, ne-eqb, lt-ltb, le-ltb}
 use lib.ListN.{length}
-use Rattle.scope.specs.Limits.{capacity}
-use Rattle.calls.specs.declared.CounterPoint.{CounterPoint}
+use Rattle.limits.specs.Limits.{capacity}
+use Rattle.call_types.specs.declared.CounterPoint.{CounterPoint}
 use Rattle.history.specs.Counting.{has}
 use Rattle.history.specs.Given.{ordinalOf, countersOf}
 use Rattle.history.specs.DirectLoss.{DirectClass, mismatch, zeros, anchors, jump, again, exceeded, reordered, advanced, jumps, within, senderOffset, receivedOffset, transmitOffset, seen, highest, anchorOf, anchor, onWindow, directClass, directAt, window}

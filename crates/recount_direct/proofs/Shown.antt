@@ -8,8 +8,8 @@ use native.Mathlib.Omega.{arith}
 use lib.Dec.{leb}
 use lib.ListN.{length}
 use borrow.Author.Tests.{le-ltb}
-use Rattle.scope.specs.Limits.{capacity}
-use Rattle.calls.specs.declared.CounterPoint.{CounterPoint}
+use Rattle.limits.specs.Limits.{capacity}
+use Rattle.call_types.specs.declared.CounterPoint.{CounterPoint}
 use Rattle.history.specs.DirectLoss.{seen, highest, senderMaximum, receivedMaximum, anchorOf, anchor, missing, above0, forwardMissing, spans, window}
 use Rattle.history.proofs.Missing.{Clean, Distinct, window-clean, missing-is, missing-present, present-distinct, largest-bounds}
 use Rattle.report.specs.declared.figures.Value.the-variants.{Absent, Number}

@@ -5,8 +5,8 @@ use mathlib.Core.Option.{Option, none, some}
 use Prim.Native.Nat.{ℕ}
 use lib.Dec.{eqb, ltb}
 use lib.ListN.{length}
-use Rattle.scope.specs.Limits.{capacity}
-use Rattle.calls.specs.declared.CounterPoint.{CounterPoint}
+use Rattle.limits.specs.Limits.{capacity}
+use Rattle.call_types.specs.declared.CounterPoint.{CounterPoint}
 use Rattle.history.specs.Counting.{has}
 use Rattle.history.specs.Given.{ordinalOf, countersOf}
 use Rattle.history.specs.Ledger.{Event}

@@ -8,12 +8,12 @@ use native.Mathlib.Omega.{arith}
 use lib.Dec.{T, eqb, ltb, eqb→eq}
 use lib.IntN.{ℤ, _+ℤ_}
 use Rattle.estimate.specs.declared.ClockFormat.{ClockFormat}
-use Rattle.calls.specs.declared.Time.{Time}
-use Rattle.calls.specs.declared.Time.the-variants as time
-use Rattle.calls.specs.declared.FollowUpTelemetry.{FollowUpTelemetry}
-use Rattle.calls.specs.declared.FollowUp.{FollowUp}
-use Rattle.calls.specs.declared.FollowUp.the-variants as follow
-use Rattle.calls.specs.declared.ReplyObservation.{ReplyObservation}
+use Rattle.call_types.specs.declared.Time.{Time}
+use Rattle.call_types.specs.declared.Time.the-variants as time
+use Rattle.call_types.specs.declared.FollowUpTelemetry.{FollowUpTelemetry}
+use Rattle.call_types.specs.declared.FollowUp.{FollowUp}
+use Rattle.call_types.specs.declared.FollowUp.the-variants as follow
+use Rattle.call_types.specs.declared.ReplyObservation.{ReplyObservation}
 use Rattle.history.specs.Counting.{present}
 use Rattle.history.specs.Given.{timeOf, followOf, estimatesOf}
 use Rattle.history.specs.FollowUps.{Kept, Slot, free, taken, recordOf, raise, correct, FollowClass, unavailable, ambiguous, repeated, matched, followNumber, sameFollow, followClass, following, observing}

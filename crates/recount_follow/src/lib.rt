@@ -6,10 +6,10 @@ ghost use lib.ListN.{length};
 ghost use Rattle.recount_seen.specs.Seen.{eventsOf};
 ghost use Rattle.recount_follow.specs.Slots.{slotIn};
 ghost use Rattle.recount_follow.specs.Brief.{byRecord, hasRecord, bySlot, classOf, followedBy, followed, leftTime, leftBy, raised, observedBy, slotNext, briefOf};
-use calls::FollowUp;
-use calls::FollowUpTelemetry;
-use calls::ReplyObservation;
-use calls::Time;
+use call_types::FollowUp;
+use call_types::FollowUpTelemetry;
+use call_types::ReplyObservation;
+use call_types::Time;
 use estimate::ClockFormat;
 use recount_observed::Observation;
 

@@ -6,8 +6,8 @@ ghost use lib.ListN.{length};
 ghost use Rattle.recount_seen.specs.Seen.{seenAt, eventsOf};
 ghost use Rattle.recount_counts.specs.Tests.{passing};
 ghost use Rattle.recount_follow_counts.specs.Tests.{telemetryTest, followTest, followBy};
-use calls::FollowUp;
-use calls::FollowUpTelemetry;
+use call_types::FollowUp;
+use call_types::FollowUpTelemetry;
 use recount_observed::Observation;
 
 fn telemetry_test(

@@ -7,24 +7,24 @@ use Prim.Native.Nat.{ℕ, zero, suc, _≤_, _<_}
 use native.Mathlib.Omega.{arith}
 use lib.Dec.{eqb, ltb}
 use lib.ListN.{length, getD}
-use Rattle.scope.specs.Limits.{capacity}
+use Rattle.limits.specs.Limits.{capacity}
 use Rattle.reply_history.proofs.Lists.{eqb-same}
-use Rattle.calls.specs.declared.PendingPacket.{PendingPacket}
-use Rattle.calls.specs.declared.Pending.{Pending}
-use Rattle.calls.specs.declared.Pending.the-variants as pending
-use Rattle.calls.specs.declared.SentProbe.{SentProbe}
-use Rattle.calls.specs.declared.Reply.{Reply}
-use Rattle.calls.specs.declared.ReplyKey.{ReplyKey}
-use Rattle.calls.specs.declared.ReplyObservation.{ReplyObservation}
-use Rattle.calls.specs.declared.Call.{Call}
-use Rattle.calls.specs.declared.Call.the-variants.{Sent, Accept, Observe, Advance, Idle}
+use Rattle.call_types.specs.declared.PendingPacket.{PendingPacket}
+use Rattle.call_types.specs.declared.Pending.{Pending}
+use Rattle.call_types.specs.declared.Pending.the-variants as pending
+use Rattle.call_types.specs.declared.SentProbe.{SentProbe}
+use Rattle.call_types.specs.declared.Reply.{Reply}
+use Rattle.call_types.specs.declared.ReplyKey.{ReplyKey}
+use Rattle.call_types.specs.declared.ReplyObservation.{ReplyObservation}
+use Rattle.call_types.specs.declared.Call.{Call}
+use Rattle.call_types.specs.declared.Call.the-variants.{Sent, Accept, Observe, Advance, Idle}
 use Rattle.ranges.specs.Ranges.{inRange}
 use Rattle.history.specs.Counting.{tally, has, present}
 use Rattle.history.specs.Given.{packetOf}
 use Rattle.history.specs.Ledger.{Event, accepted, hasKey, rememberings, awaiting, replies, Class, duplicate, unknown, unique, sameClass, held, classBy, replyClass, ready, unique?, before, CallTest, isSent, isClass, isAnswered, isAdditional, isLate, isSatisfying, isIndependent, isReordered, behind, highestReflector, events, count}
-use Rattle.link_log.specs.declared.Played.{Played}
-use Rattle.link_log.specs.declared.Played.the-variants as played
-use Rattle.link_log.specs.Logs.{callAt}
+use Rattle.log_whole.specs.declared.PlayedCall.{PlayedCall}
+use Rattle.log_whole.specs.declared.PlayedCall.the-variants as played
+use Rattle.log_whole.specs.Logs.{callAt}
 use Rattle.link_history.specs.Fresh.{Watching}
 use Rattle.link_history.specs.Link.{servedFrom}
 use Rattle.report_history.specs.Figures.{callThen, logCalls}
@@ -49,7 +49,7 @@ Agree watched t f test = (h : List Call) → length h < capacity → (c : Call) 
 
 module _ (v : Watching) (t : ℕ) (ok : Timed v t) (log marks : List ℕ) (n : ℕ) (few : n ≤ capacity) (marked : Marked (watchedIn v) t log marks n) where
   module _ (f : Seen → List Event → Bool) (none-passes : (es : List Event) → f Nothing es ≡ false) (test : CallTest) (agree : Agree (watchedIn v) t f test) where
-    one-more : (r : Played) (cs : List Call) → length (servedFrom v cs) < capacity
+    one-more : (r : PlayedCall) (cs : List Call) → length (servedFrom v cs) < capacity
         → tally (f (seenBy (playedMark (watchedIn v) t (events capacity (servedFrom v cs)) r) r) (events capacity (servedFrom v cs))) (count capacity test (servedFrom v cs))
         ≡ count capacity test (servedFrom v (callThen r cs))
     unfolding servedFrom

@@ -5,16 +5,16 @@ use mathlib.Core.List.{List}
 use mathlib.Core.Option.{Option, none, some}
 use Prim.Native.Nat.{ℕ, _≤_}
 use native.Mathlib.Omega.{arith}
-use Rattle.scope.specs.Limits.{capacity}
-use Rattle.calls.specs.declared.CounterPoint.{CounterPoint}
+use Rattle.limits.specs.Limits.{capacity}
+use Rattle.call_types.specs.declared.CounterPoint.{CounterPoint}
 use Rattle.history.specs.Given.{ordinalOf, countersOf}
 use Rattle.history.specs.Ledger.{Event, count, events}
 use Rattle.history.specs.DirectLoss.{DirectClass, isObservation, isUnavailable, isDiscontinuity, isBelow, directAt, isDirect, window, Spans, spans}
 use Rattle.observe_history.specs.Direct.{packetsOf, spansShown}
 use Rattle.link_figures.specs.Figures.{valueOf as shownOf}
-use Rattle.link_log.specs.declared.Settings.{Settings}
-use Rattle.link_log.specs.declared.Log.the-variants as log'
-use Rattle.link_log.specs.Logs.{logOf}
+use Rattle.log_whole.specs.declared.Settings.{Settings}
+use Rattle.log_whole.specs.declared.Log.the-variants as log'
+use Rattle.log_whole.specs.Logs.{logOf}
 use Rattle.link_history.specs.Fresh.{Watching}
 use Rattle.report.specs.declared.figures.Value.{Value}
 use Rattle.report.specs.declared.figures.Value.the-variants as value

@@ -10,10 +10,10 @@ use lib.ListN.{length, length-take}
 use borrow.Author.Tests.{ne-eqb}
 use lib.Seq.{take-all}
 use Rattle.chains.proofs.Tests.{Test, holds, fails, eq-test}
-use Rattle.calls.specs.declared.PendingPacket.{PendingPacket}
-use Rattle.calls.specs.declared.ReplyKey.{ReplyKey}
-use Rattle.calls.specs.declared.Call.{Call}
-use Rattle.calls.specs.declared.Call.the-variants.{Sent, Accept, Observe, Advance, Idle}
+use Rattle.call_types.specs.declared.PendingPacket.{PendingPacket}
+use Rattle.call_types.specs.declared.ReplyKey.{ReplyKey}
+use Rattle.call_types.specs.declared.Call.{Call}
+use Rattle.call_types.specs.declared.Call.the-variants.{Sent, Accept, Observe, Advance, Idle}
 use Rattle.history.specs.Counting.{tally, has, orElse}
 use Rattle.history.specs.Given.{packetOf}
 use Rattle.history.specs.Ledger.{Event, remembered, replied, observed, noPacket, rememberings, without, distinct, oldest, replies, evictedUnanswered, accepted, Class, duplicate, unknown, unique, lastAccepted, held, replyClass, ready, afterReply, events}

@@ -7,16 +7,16 @@ use native.Mathlib.Omega.{arith}
 use lib.Dec.{eqb}
 use lib.IntN.{ℤ}
 use lib.ListN.{length}
-use Rattle.scope.specs.Limits.{capacity}
-use Rattle.calls.specs.declared.FollowUp.{FollowUp}
-use Rattle.calls.specs.declared.FollowUp.the-variants as follow
+use Rattle.limits.specs.Limits.{capacity}
+use Rattle.call_types.specs.declared.FollowUp.{FollowUp}
+use Rattle.call_types.specs.declared.FollowUp.the-variants as follow
 use Rattle.history.specs.Counting.{present}
 use Rattle.history.specs.Given.{followOf}
 use Rattle.history.specs.Ledger.{Event, accepted, copiesOf, CallTest, count}
 use Rattle.history.specs.FollowUps.{FollowClass, unavailable, ambiguous, unmatched, repeated, matched, followNumber, isClassOf, hasFollow, isFollow}
-use Rattle.link_log.specs.declared.Settings.{Settings}
-use Rattle.link_log.specs.declared.Log.the-variants as log'
-use Rattle.link_log.specs.Logs.{logOf}
+use Rattle.log_whole.specs.declared.Settings.{Settings}
+use Rattle.log_whole.specs.declared.Log.the-variants as log'
+use Rattle.log_whole.specs.Logs.{logOf}
 use Rattle.link_history.specs.Fresh.{Watching}
 use Rattle.report_history.specs.Figures.{watchingBy, figuresFrom, reportFrom}
 use Rattle.recount_marks.specs.Marks.{Marked}

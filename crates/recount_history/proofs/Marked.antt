@@ -7,18 +7,18 @@ use Prim.Native.Nat.{ℕ, zero, suc, _≤_, _<_}
 use native.Mathlib.Omega.{arith}
 use lib.Dec.{eqb}
 use lib.ListN.{length}
-use Rattle.scope.specs.Limits.{capacity}
-use Rattle.calls.specs.declared.PendingPacket.{PendingPacket}
-use Rattle.calls.specs.declared.Reply.{Reply}
-use Rattle.calls.specs.declared.Call.{Call}
-use Rattle.calls.specs.declared.Call.the-variants.{Sent, Accept, Observe, Advance, Idle}
+use Rattle.limits.specs.Limits.{capacity}
+use Rattle.call_types.specs.declared.PendingPacket.{PendingPacket}
+use Rattle.call_types.specs.declared.Reply.{Reply}
+use Rattle.call_types.specs.declared.Call.{Call}
+use Rattle.call_types.specs.declared.Call.the-variants.{Sent, Accept, Observe, Advance, Idle}
 use Rattle.ranges.specs.Ranges.{inRange}
 use Rattle.history.specs.Counting.{has, present}
 use Rattle.history.specs.Given.{packetOf}
 use Rattle.history.specs.Ledger.{Event, accepted, hasKey, rememberings, awaiting, held, classBy, replyClass, ready, afterReply, events}
-use Rattle.link_log.specs.declared.Played.{Played}
-use Rattle.link_log.specs.declared.Played.the-variants as played
-use Rattle.link_log.specs.Logs.{callAt}
+use Rattle.log_whole.specs.declared.PlayedCall.{PlayedCall}
+use Rattle.log_whole.specs.declared.PlayedCall.the-variants as played
+use Rattle.log_whole.specs.Logs.{callAt}
 use Rattle.link_steps.specs.Steps.{keptIf}
 use Rattle.link_history.specs.Fresh.{Watching}
 use Rattle.link_history.specs.Link.{refusesFrom, servedFrom}
@@ -49,7 +49,7 @@ module _ (N : ℕ) (es : List Event) (a : Reply) (la : length (accepted es) ≤ 
   reply-adds =
       by-mark (hasKey (accepted es) (a .key)) (has (rememberings es) (a .key .sender)) (present p) (all-held N es lr (a .key .sender)) refl
       ∙ ap (λ (b : Bool). afterReply N (classBy (hasKey (accepted es) (a .key)) b (present p)) es (a .key) p) (sym (all-held N es lr (a .key .sender)))
-      ∙ ap (λ (ks : List Rattle.calls.specs.declared.ReplyKey.ReplyKey). afterReply N (classBy (hasKey ks (a .key)) (has (held N es) (a .key .sender)) (present p)) es (a .key) p) (sym (all-accepted N es la))
+      ∙ ap (λ (ks : List Rattle.call_types.specs.declared.ReplyKey.ReplyKey). afterReply N (classBy (hasKey ks (a .key)) (has (held N es) (a .key .sender)) (present p)) es (a .key) p) (sym (all-accepted N es la))
 
 -- ---- a call
 
@@ -57,12 +57,12 @@ module _ (h : List Call) (few : length h < capacity) (watched : Bool) (t : ℕ) 
   abbrev es : List Event
   es = events capacity h
 
-  sent-adds : (b : Bool) (s : Rattle.calls.specs.declared.SentProbe.SentProbe) → events capacity (cond (eqb (cond b 0 1) 0) h (Sent s ∷ h)) ≡ grow (seenBy (cond b 0 1) (played.Call (Sent s))) es
+  sent-adds : (b : Bool) (s : Rattle.call_types.specs.declared.SentProbe.SentProbe) → events capacity (cond (eqb (cond b 0 1) 0) h (Sent s ∷ h)) ≡ grow (seenBy (cond b 0 1) (played.Call (Sent s))) es
   unfolding events
   sent-adds true s = refl
   sent-adds false s = refl
 
-  observe-adds : (b : Bool) (o : Rattle.calls.specs.declared.ReplyObservation.ReplyObservation) → events capacity (cond (eqb (cond b 1 0) 0) h (Observe o ∷ h)) ≡ grow (seenBy (cond b 1 0) (played.Call (Observe o))) es
+  observe-adds : (b : Bool) (o : Rattle.call_types.specs.declared.ReplyObservation.ReplyObservation) → events capacity (cond (eqb (cond b 1 0) 0) h (Observe o ∷ h)) ≡ grow (seenBy (cond b 1 0) (played.Call (Observe o))) es
   unfolding events
   observe-adds true o = refl
   observe-adds false o = refl
@@ -105,11 +105,11 @@ module _ (v : Watching) (t : ℕ) (ok : Timed v t) (log : List ℕ) where
   served-few zero = omega arith
   served-few (suc n) = go (callAt log n) (served-few n)
     where
-      go : (r : Played) → length (servedIn n) ≤ n → length (servedFrom v (callThen r (logCalls log n))) ≤ suc n
+      go : (r : PlayedCall) → length (servedIn n) ≤ n → length (servedFrom v (callThen r (logCalls log n))) ≤ suc n
       go played.Nothing l = omega arith
       go (played.Call c) l = kept-most (refusesFrom v (servedIn n) c) c (servedIn n) n l
 
-  one-record : (r : Played) (cs : List Call) → length (servedFrom v cs) < capacity
+  one-record : (r : PlayedCall) (cs : List Call) → length (servedFrom v cs) < capacity
       → events capacity (servedFrom v (callThen r cs)) ≡ grow (seenBy (playedMark (watchedIn v) t (events capacity (servedFrom v cs)) r) r) (events capacity (servedFrom v cs))
   unfolding servedFrom
   one-record played.Nothing cs l = refl

@@ -7,13 +7,13 @@ use native.Mathlib.Omega.{arith}
 use lib.Dec.{eqb}
 use lib.ListN.{length, getD}
 use borrow.Author.Tests.{ne-eqb}
-use Rattle.scope.specs.Limits.{capacity}
-use Rattle.calls.specs.declared.SentProbe.{SentProbe}
-use Rattle.calls.specs.declared.Reply.{Reply}
-use Rattle.calls.specs.declared.ReplyKey.{ReplyKey}
-use Rattle.calls.specs.declared.ReplyObservation.{ReplyObservation}
-use Rattle.calls.specs.declared.Call.{Call}
-use Rattle.calls.specs.declared.Call.the-variants.{Sent, Accept, Observe, Advance, Idle}
+use Rattle.limits.specs.Limits.{capacity}
+use Rattle.call_types.specs.declared.SentProbe.{SentProbe}
+use Rattle.call_types.specs.declared.Reply.{Reply}
+use Rattle.call_types.specs.declared.ReplyKey.{ReplyKey}
+use Rattle.call_types.specs.declared.ReplyObservation.{ReplyObservation}
+use Rattle.call_types.specs.declared.Call.{Call}
+use Rattle.call_types.specs.declared.Call.the-variants.{Sent, Accept, Observe, Advance, Idle}
 use Rattle.ranges.specs.Ranges.{inRange}
 use Rattle.monitor.specs.declared.State.{State}
 use Rattle.monitor.specs.declared.State.the-variants as state
@@ -21,11 +21,11 @@ use Rattle.monitor_model.specs.Plain.{Plain, reply}
 use Rattle.history.specs.Counting.{has, present}
 use Rattle.history.specs.Given.{packetOf}
 use Rattle.history.specs.Ledger.{Event, accepted, hasKey, rememberings, awaiting, held, unique, sameClass, classBy, replyClass, events}
-use Rattle.link_log.specs.declared.Settings.{Settings}
-use Rattle.link_log.specs.declared.Log.the-variants as log'
-use Rattle.link_log.specs.declared.Played.{Played}
-use Rattle.link_log.specs.declared.Played.the-variants as played
-use Rattle.link_log.specs.Logs.{callAt, logOf}
+use Rattle.log_whole.specs.declared.Settings.{Settings}
+use Rattle.log_whole.specs.declared.Log.the-variants as log'
+use Rattle.log_whole.specs.declared.PlayedCall.{PlayedCall}
+use Rattle.log_whole.specs.declared.PlayedCall.the-variants as played
+use Rattle.log_whole.specs.Logs.{callAt, logOf}
 use Rattle.link_figures.specs.Figures.{sessionBy}
 use Rattle.link_history.specs.Fresh.{Watching, watching}
 use Rattle.link_history.specs.Monitor.{monitorFrom}
@@ -98,7 +98,7 @@ module _ (threshold timeout : ℕ) where
   v = watching threshold timeout
 
   module _ (log marks : List ℕ) (n : ℕ) (few : n ≤ capacity) (marked : Marked true timeout log marks n) where
-    one-record : (r : Played) (cs : List Call) → length (servedFrom v cs) < capacity
+    one-record : (r : PlayedCall) (cs : List Call) → length (servedFrom v cs) < capacity
         → track.played (moveBy (playedMark true timeout (events capacity (servedFrom v cs)) r) r) (M (servedFrom v cs)) ≡ M (servedFrom v (callThen r cs))
     unfolding servedFrom
     one-record played.Nothing cs l = refl

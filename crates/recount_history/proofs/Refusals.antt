@@ -9,14 +9,14 @@ use lib.Dec.{eqb, leb, ltb}
 use lib.ListN.{length}
 use borrow.Author.Tests.{lt-leb}
 use Rattle.chains.proofs.Tests.{lt-true}
-use Rattle.scope.specs.Limits.{capacity, mostCalls, countBound}
-use Rattle.scope.specs.Refusals.{deadlinePasses, countsFull, queueFull}
-use Rattle.calls.specs.declared.SentProbe.{SentProbe}
-use Rattle.calls.specs.declared.Reply.{Reply}
-use Rattle.calls.specs.declared.ReplyKey.{ReplyKey}
-use Rattle.calls.specs.declared.ReplyObservation.{ReplyObservation}
-use Rattle.calls.specs.declared.Call.{Call}
-use Rattle.calls.specs.declared.Call.the-variants.{Sent, Accept, Observe, Advance, Idle}
+use Rattle.limits.specs.Limits.{capacity, mostCalls, countBound}
+use Rattle.limits.specs.Refusals.{deadlinePasses, countsFull, queueFull}
+use Rattle.call_types.specs.declared.SentProbe.{SentProbe}
+use Rattle.call_types.specs.declared.Reply.{Reply}
+use Rattle.call_types.specs.declared.ReplyKey.{ReplyKey}
+use Rattle.call_types.specs.declared.ReplyObservation.{ReplyObservation}
+use Rattle.call_types.specs.declared.Call.{Call}
+use Rattle.call_types.specs.declared.Call.the-variants.{Sent, Accept, Observe, Advance, Idle}
 use Rattle.ranges.specs.Ranges.{inRange}
 use Rattle.probe_queue.specs.Queue.{choose}
 use Rattle.monitor.specs.Refusals.{counted}

@@ -7,19 +7,19 @@ use Prim.Native.Nat.{ℕ, zero, suc}
 use native.Mathlib.Omega.{arith}
 use lib.ListN.{length}
 use borrow.Author.Tests.{ne-eqb}
-use Rattle.scope.specs.Limits.{capacity}
-use Rattle.probe_queue.specs.declared.Probe.{Probe}
+use Rattle.limits.specs.Limits.{capacity}
+use Rattle.probe_queue.specs.declared.QueuedProbe.{QueuedProbe}
 use Rattle.ledger_steps.specs.Rooms.{Rooms}
 use Rattle.reply_history.specs.Stands.{RoomsFit}
-use Rattle.link_log.specs.declared.Settings.{Settings}
-use Rattle.link_log.specs.declared.Log.{Log}
-use Rattle.link_log.specs.declared.Log.the-variants as log'
-use Rattle.link_log.specs.Logs.{logOf}
+use Rattle.log_whole.specs.declared.Settings.{Settings}
+use Rattle.log_whole.specs.declared.Log.{Log}
+use Rattle.log_whole.specs.declared.Log.the-variants as log'
+use Rattle.log_whole.specs.Logs.{logOf}
 use Rattle.report.specs.declared.figures.Figures.{Figures}
 use Rattle.report.specs.Lines.{textOf}
 use Rattle.report.specs.Report.{written}
 use Rattle.link_figures.specs.Figures.{figuresOf}
-use Rattle.link_settings.specs.Checks as checks
+use Rattle.log_settings.specs.Checks as checks
 use Rattle.link_report.specs.LogReport as first
 use Rattle.link_report.specs.LogReport.{endOf, fits, reportOfLog}
 use Rattle.report_history.specs.Bytes.{BytesIn}
@@ -75,7 +75,7 @@ module _ (log : List ℕ) (h : BytesIn log) (s : Settings) (g : logOf log ≡ lo
   pub count-is-history : figuresAt s log (marksOf s log marks) ≡ reportFrom log s
   count-is-history = sym (lines-say log s g (marksOf s log marks) marked)
 
-  module _ (secret : List ℕ) (queue : List Probe) (long : length queue ≡ capacity) (rooms : Rooms) (sized : RoomsFit capacity rooms) where
+  module _ (secret : List ℕ) (queue : List QueuedProbe) (long : length queue ≡ capacity) (rooms : Rooms) (sized : RoomsFit capacity rooms) where
     -- what `linkreport` reports
     abbrev pub reported : Figures
     reported = figuresOf (endOf log secret queue rooms s .standing .link) (s .count) (endOf log secret queue rooms s .turned)
@@ -87,7 +87,7 @@ module _ (log : List ℕ) (h : BytesIn log) (s : Settings) (g : logOf log ≡ lo
 -- ---- the calls: both answer the same and leave the same in the buffer, for every log, accepted or not
 
 module _ (log : List ℕ) (h : BytesIn log) (marks fronts buffer : List ℕ) (fit : roomsFit (length marks) (length fronts) (length buffer) ≡ true)
-    (secret : List ℕ) (queue : List Probe) (long : length queue ≡ capacity) (rooms : Rooms) (sized : RoomsFit capacity rooms) (fit′ : fits queue rooms buffer ≡ true) where
+    (secret : List ℕ) (queue : List QueuedProbe) (long : length queue ≡ capacity) (rooms : Rooms) (sized : RoomsFit capacity rooms) (fit′ : fits queue rooms buffer ≡ true) where
   by-log : (l : Log) → logOf log ≡ l
       → second.recountBy (second.checkedOf l) log marks fronts buffer .outcome ≡ first.reportBy (checks.checkedOf l) (endOf log secret queue rooms) queue rooms buffer .outcome
   by-log log'.TooLong e = refl

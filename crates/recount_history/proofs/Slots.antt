@@ -6,8 +6,8 @@ use Prim.Native.Nat.{ℕ, zero, suc, _-_, _≤_, _<_}
 use native.Mathlib.Omega.{arith}
 use lib.IntN.{ℤ}
 use lib.ListN.{length, getElem?}
-use Rattle.calls.specs.declared.ReplyKey.{ReplyKey}
-use Rattle.calls.specs.declared.FollowUpTelemetry.{FollowUpTelemetry}
+use Rattle.call_types.specs.declared.ReplyKey.{ReplyKey}
+use Rattle.call_types.specs.declared.FollowUpTelemetry.{FollowUpTelemetry}
 use Rattle.history.specs.Given.{followOf}
 use Rattle.history.specs.Ledger.{Event, remembered, replied, observed, accepted}
 use Rattle.history.specs.FollowUps.{Slot, recordOf, evicting, following, observing, evicted, slotAt, followNumber, followClass, classAt}

@@ -6,15 +6,15 @@ use Prim.Native.Nat.{ℕ, _≤_}
 use native.Mathlib.Omega.{arith}
 use lib.IntN.{ℤ, pos, negsuc}
 use lib.ListN.{length}
-use Rattle.scope.specs.Limits.{capacity}
+use Rattle.limits.specs.Limits.{capacity}
 use Rattle.history.specs.Ledger.{Event, events}
 use Rattle.history.specs.FollowUps.{roundTrips}
 use Rattle.history.specs.Figures.{figuresOf, least, greatest}
 use Rattle.observe_history.specs.RoundTrips.{extremeOf, delaysFrom}
 use Rattle.link_figures.specs.Figures.{timeOf, roundTripOf}
-use Rattle.link_log.specs.declared.Settings.{Settings}
-use Rattle.link_log.specs.declared.Log.the-variants as log'
-use Rattle.link_log.specs.Logs.{logOf}
+use Rattle.log_whole.specs.declared.Settings.{Settings}
+use Rattle.log_whole.specs.declared.Log.the-variants as log'
+use Rattle.log_whole.specs.Logs.{logOf}
 use Rattle.link_history.specs.Fresh.{Watching}
 use Rattle.report_history.specs.Figures.{watchingBy, figuresFrom, reportFrom}
 use Rattle.recount_seen.specs.Seen.{eventsOf}

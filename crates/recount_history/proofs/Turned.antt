@@ -8,12 +8,12 @@ use native.Mathlib.Omega.{arith}
 use lib.Dec.{eqb}
 use lib.ListN.{length, getD}
 use borrow.Author.Tests.{ne-eqb}
-use Rattle.scope.specs.Limits.{capacity}
-use Rattle.calls.specs.declared.Call.{Call}
+use Rattle.limits.specs.Limits.{capacity}
+use Rattle.call_types.specs.declared.Call.{Call}
 use Rattle.history.specs.Ledger.{Event, events}
-use Rattle.link_log.specs.declared.Played.{Played}
-use Rattle.link_log.specs.declared.Played.the-variants as played
-use Rattle.link_log.specs.Logs.{callAt}
+use Rattle.log_whole.specs.declared.PlayedCall.{PlayedCall}
+use Rattle.log_whole.specs.declared.PlayedCall.the-variants as played
+use Rattle.log_whole.specs.Logs.{callAt}
 use Rattle.link_steps.specs.Steps.{keptIf}
 use Rattle.link_history.specs.Fresh.{Watching}
 use Rattle.link_history.specs.Link.{refusesFrom}
@@ -37,5 +37,5 @@ module _ (v : Watching) (t : ℕ) (ok : Timed v t) (log marks : List ℕ) (n : �
       let h = servedIn v t ok log j in
       ap (λ (m : ℕ). eqb m 0) (marked j l)
       ∙ ap (λ (es : List Event). eqb (playedMark (watchedIn v) t es (callAt log j)) 0) (marks-say v t ok log marks n few marked j (omega arith))
-      ∙ ap (λ (r : Played). eqb (playedMark (watchedIn v) t (events capacity h) r) 0) e
+      ∙ ap (λ (r : PlayedCall). eqb (playedMark (watchedIn v) t (events capacity h) r) 0) e
       ∙ same-test (refusesFrom v h c) (eqb (callMark (watchedIn v) t (events capacity h) c) 0) c h (call-kept h (omega (arith, served-few v t ok log j, few, l)) v t ok c)

@@ -7,17 +7,17 @@ use Prim.Native.Nat.{ℕ, zero, suc, _+_, _-_, _*_, _≤_, _<_}
 use native.Mathlib.Omega.{arith}
 use lib.Dec.{eqb}
 use lib.ListN.{length}
-use Rattle.scope.specs.Limits.{capacity}
-use Rattle.calls.specs.declared.Call.{Call}
+use Rattle.limits.specs.Limits.{capacity}
+use Rattle.call_types.specs.declared.Call.{Call}
 use Rattle.history.specs.Counting.{tally}
 use Rattle.history.specs.Ledger.{Event, copiesOf, duplicate, unknown, unique, isSent, isClass, isAnswered, isAdditional, isLate, isSatisfying, isIndependent, isReordered, CallTest, count, events, thousandths}
-use Rattle.link_log.specs.declared.Settings.{Settings}
-use Rattle.link_log.specs.declared.Log.the-variants as log'
-use Rattle.link_log.specs.declared.Played.{Played}
-use Rattle.link_log.specs.declared.Played.the-variants as played
-use Rattle.link_log.specs.Logs.{callAt, logOf}
+use Rattle.log_whole.specs.declared.Settings.{Settings}
+use Rattle.log_whole.specs.declared.Log.the-variants as log'
+use Rattle.log_whole.specs.declared.PlayedCall.{PlayedCall}
+use Rattle.log_whole.specs.declared.PlayedCall.the-variants as played
+use Rattle.log_whole.specs.Logs.{callAt, logOf}
 use Rattle.record_parts.specs.Parts.{callOf}
-use Rattle.link_log.proofs.Accepted.{accepted-decodes}
+use Rattle.log_whole.proofs.Accepted.{accepted-decodes}
 use Rattle.link_history.specs.Fresh.{Watching}
 use Rattle.link_history.specs.Link.{servedFrom}
 use Rattle.report_history.specs.Figures.{callThen, logCalls, watchingBy, figuresFrom, reportFrom}
@@ -37,8 +37,8 @@ use Rattle.recount_history.proofs.Counts.{Agree, count-says, sent-agree
 
 -- ---- every record says a call
 
-one-longer : (log : List ℕ) (n : ℕ) (r : Played) (c : Call) → r ≡ played.Call c → length (callThen r (logCalls log n)) ≡ suc (length (logCalls log n))
-one-longer log n r c e = ap (λ (x : Played). length (callThen x (logCalls log n))) e
+one-longer : (log : List ℕ) (n : ℕ) (r : PlayedCall) (c : Call) → r ≡ played.Call c → length (callThen r (logCalls log n)) ≡ suc (length (logCalls log n))
+one-longer log n r c e = ap (λ (x : PlayedCall). length (callThen x (logCalls log n))) e
 
 pub all-calls : (log : List ℕ) (s : Settings) → logOf log ≡ log'.Good s → (n : ℕ) → n ≤ s .count → length (logCalls log n) ≡ n
 unfolding logCalls
@@ -54,7 +54,7 @@ module _ (v : Watching) (t : ℕ) (ok : Timed v t) (log marks : List ℕ) (n : �
   turned-or-kept true c h turned = omega arith
   turned-or-kept false c h turned = omega arith
 
-  one-more : (r : Played) (cs : List Call) (turned : ℕ) → length (servedFrom v cs) < capacity
+  one-more : (r : PlayedCall) (cs : List Call) (turned : ℕ) → length (servedFrom v cs) < capacity
       → tally (eqb (playedMark (watchedIn v) t (events capacity (servedFrom v cs)) r) 0) turned + length (servedFrom v (callThen r cs)) ≡ suc (turned + length (servedFrom v cs))
   unfolding servedFrom
   one-more played.Nothing cs turned l = omega arith

@@ -3,7 +3,7 @@ use mathlib.Core.List.{List}
 use Prim.Native.Nat.{ℕ, zero, suc, _-_, _*_, _/_}
 use Rattle.report.specs.declared.figures.Value.{Value}
 use Rattle.report.specs.declared.figures.Value.the-variants as value
-use Rattle.report.specs.declared.figures.Played.{Played}
+use Rattle.report.specs.declared.figures.PlayedRecords.{PlayedRecords}
 use Rattle.report.specs.declared.figures.Loss.{Loss}
 use Rattle.report.specs.declared.figures.Replies.{Replies}
 use Rattle.report.specs.declared.figures.Probes.{Probes}
@@ -12,7 +12,7 @@ use Rattle.recount_marks.specs.Marks.{turnedIn}
 use Rattle.recount_counts.specs.Tests.{testBy, passing}
 
 -- "records N turned away N"
-abbrev pub playedAt : List ℕ → ℕ → Played
+abbrev pub playedAt : List ℕ → ℕ → PlayedRecords
 playedAt marks n = record { records = n; «turned_away» = turnedIn marks n }
 
 -- "1,000·unobserved/requested rounded down"; with nothing requested there is no figure (document 02, Q-5)

@@ -18,12 +18,12 @@ pub fn copies_of(copies: u16) -> u32
     copies as u32
 }
 
-pub fn played(marks: &[u8], n: u32) -> figures::Played
+pub fn played(marks: &[u8], n: u32) -> figures::PlayedRecords
     requires { ⌜ (n ≤ length (now marks)) × (n < 65536) ⌝ }
     ensures { λ r. ⌜ r ≡ playedAt (now (marks .entry)) n ⌝ }
 {
     let turned = recount_marks::turned_away(marks, n);
-    figures::Played {
+    figures::PlayedRecords {
         records: n as u64,
         turned_away: turned as u64,
     }

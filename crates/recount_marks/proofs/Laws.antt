@@ -10,7 +10,7 @@ use lib.Seq.{getD-set-same, getD-set-other}
 use borrow.Author.Count.{below-more}
 use Rattle.history.specs.Counting.{tally}
 use Rattle.history.specs.Ledger.{Event}
-use Rattle.link_log.specs.Logs.{callAt}
+use Rattle.log_whole.specs.Logs.{callAt}
 use Rattle.recount_seen.specs.Seen.{seenBy, seenAt, grow, eventsOf}
 use Rattle.recount_marks.specs.Marks.{playedMark, recordMark, markedTo, turnedIn, Marked}
 

@@ -3,12 +3,12 @@ use mathlib.Core.Path.{_≡_, subst}
 use mathlib.Core.List.{List}
 use Prim.Native.Nat.{ℕ, _≤_}
 use native.Mathlib.Omega.{arith}
-use Rattle.link_log.specs.declared.Settings.{Settings}
-use Rattle.link_log.specs.declared.Log.the-variants as log'
-use Rattle.link_log.specs.Logs.{logOf}
-use Rattle.link_log.specs.Meaning.{Means}
-use Rattle.link_log.proofs.Accepted.{answer-means}
-use Rattle.link_log.proofs.Laws.{settings-within}
+use Rattle.log_whole.specs.declared.Settings.{Settings}
+use Rattle.log_whole.specs.declared.Log.the-variants as log'
+use Rattle.log_whole.specs.Logs.{logOf}
+use Rattle.log_whole.specs.Meaning.{Means}
+use Rattle.log_whole.proofs.Accepted.{answer-means}
+use Rattle.log_whole.proofs.Laws.{settings-within}
 
 pub few-records : (log : List ℕ) (s : Settings) → logOf log ≡ log'.Good s → s .count ≤ 682
 few-records log s g =

@@ -7,13 +7,13 @@ use mathlib.Core.List.{List}
 use Prim.Native.Nat.{ℕ, zero, suc, _<_}
 use lib.Dec.{eqb}
 use lib.ListN.{getD, set}
-use Rattle.calls.specs.declared.Call.{Call}
-use Rattle.calls.specs.declared.Call.the-variants.{Sent, Accept, Observe, Advance, Idle}
+use Rattle.call_types.specs.declared.Call.{Call}
+use Rattle.call_types.specs.declared.Call.the-variants.{Sent, Accept, Observe, Advance, Idle}
 use Rattle.history.specs.Counting.{tally}
 use Rattle.history.specs.Ledger.{Event}
-use Rattle.link_log.specs.declared.Played.{Played}
-use Rattle.link_log.specs.declared.Played.the-variants as played
-use Rattle.link_log.specs.Logs.{callAt}
+use Rattle.log_whole.specs.declared.PlayedCall.{PlayedCall}
+use Rattle.log_whole.specs.declared.PlayedCall.the-variants as played
+use Rattle.log_whole.specs.Logs.{callAt}
 use Rattle.recount_seen.specs.Seen.{eventsOf}
 pub use Rattle.recount_call.specs.Mark.{late, probeMark}
 unfoldable pub use Rattle.recount_call.specs.Mark.{replyMark, observeMark}
@@ -27,7 +27,7 @@ callMark watched timeout es (Advance t) = 1
 callMark watched timeout es Idle = 1
 
 -- what a record says
-abbrev pub playedMark : Bool → ℕ → List Event → Played → ℕ
+abbrev pub playedMark : Bool → ℕ → List Event → PlayedCall → ℕ
 playedMark watched timeout es played.Nothing = 0
 playedMark watched timeout es (played.Call c) = callMark watched timeout es c
 

@@ -5,8 +5,8 @@ ghost use Prim.Native.Nat.{_≤_, _<_};
 ghost use lib.ListN.{length};
 ghost use Rattle.recount_seen.specs.Seen.{eventsOf};
 ghost use Rattle.recount_marks.specs.Marks.{callMark, recordMark, markedTo, turnedIn};
-use calls::Call;
-use link_log::Played;
+use call_types::Call;
+use log_whole::PlayedCall;
 use recount_seen::SERVED;
 use recount_seen::TURNED;
 
@@ -27,10 +27,10 @@ fn record_mark(log: &[u8], marks: &[u8], n: u32, watched: bool, timeout: u64) ->
     requires { ⌜ n ≤ length (now marks) ⌝ }
     ensures { λ r. ⌜ r ≡ recordMark watched timeout (now (log .entry)) (now (marks .entry)) n ⌝ }
 {
-    let played = link_log::call_at(log, n);
+    let played = log_whole::call_at(log, n);
     match played {
-        Played::Call(call) => call_mark(log, marks, n, watched, timeout, call),
-        Played::Nothing => TURNED,
+        PlayedCall::Call(call) => call_mark(log, marks, n, watched, timeout, call),
+        PlayedCall::Nothing => TURNED,
     }
 }
 

@@ -3,9 +3,9 @@ use mathlib.Core.Path.{_≡_, refl, sym, ap, _∙_}
 use mathlib.Core.List.{List, _∷_}
 use mathlib.Core.Option.{Option}
 use Prim.Native.Nat.{ℕ, _+_}
-use Rattle.calls.specs.declared.PendingPacket.{PendingPacket}
-use Rattle.calls.specs.declared.ReplyKey.{ReplyKey}
-use Rattle.calls.specs.declared.ReplyObservation.{ReplyObservation}
+use Rattle.call_types.specs.declared.PendingPacket.{PendingPacket}
+use Rattle.call_types.specs.declared.ReplyKey.{ReplyKey}
+use Rattle.call_types.specs.declared.ReplyObservation.{ReplyObservation}
 use Rattle.history.specs.Ledger.{Event, remembered, replied, observed}
 use Rattle.recount_seen.specs.declared.Seen.{Seen}
 use Rattle.recount_seen.specs.declared.Seen.the-variants.{Nothing, Probe, Duplicate, Unknown, Known, First, Observed}

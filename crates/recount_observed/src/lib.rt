@@ -3,7 +3,7 @@ ghost use mathlib.Core.Path.{_≡_};
 ghost use Prim.Native.Nat.{_<_};
 ghost use lib.ListN.{length};
 ghost use Rattle.recount_observed.specs.Observed.{observationOf, observationAt};
-use calls::ReplyObservation;
+use call_types::ReplyObservation;
 use recount_seen::Seen;
 
 pub enum Observation {

@@ -5,7 +5,7 @@ use mathlib.Core.List.{List, [], _∷_, _++_}
 use Prim.Native.Nat.{ℕ, zero, suc, _+_, _-_, _≤_}
 use native.Mathlib.Omega.{arith}
 use lib.Dec.{eqb, ltb}
-use Rattle.calls.specs.declared.SentProbe.{SentProbe}
+use Rattle.call_types.specs.declared.SentProbe.{SentProbe}
 use Rattle.probe_queue.specs.Queue.{choose}
 use Rattle.monitor.specs.declared.State.the-variants as state
 use Rattle.monitor.specs.declared.Summary.{Summary}

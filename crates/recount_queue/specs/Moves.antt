@@ -4,18 +4,18 @@ use mathlib.Core.List.{List}
 use Prim.Native.Nat.{ℕ}
 use lib.Dec.{eqb, ltb}
 use lib.ListN.{getD}
-use Rattle.calls.specs.declared.Call.{Call}
-use Rattle.calls.specs.declared.Call.the-variants.{Sent, Accept, Observe, Advance, Idle}
-use Rattle.link_log.specs.declared.Played.{Played}
-use Rattle.link_log.specs.declared.Played.the-variants as played
-use Rattle.link_log.specs.Logs.{callAt}
+use Rattle.call_types.specs.declared.Call.{Call}
+use Rattle.call_types.specs.declared.Call.the-variants.{Sent, Accept, Observe, Advance, Idle}
+use Rattle.log_whole.specs.declared.PlayedCall.{PlayedCall}
+use Rattle.log_whole.specs.declared.PlayedCall.the-variants as played
+use Rattle.log_whole.specs.Logs.{callAt}
 use Rattle.recount_queue.specs.declared.Move.{Move}
 use Rattle.recount_queue.specs.declared.Move.the-variants.{Sends, Hears, Advances, Halts, Rests}
 use Rattle.recount_queue.specs.declared.Queued.{Queued}
 use Rattle.recount_queue.specs.declared.Queued.the-variants.{Nothing, Probe}
 
 -- a record by its mark: a probe that is served (1), a unique reply (4 or 5), an advance, an idle; anything else is nothing to it
-abbrev pub moveBy : ℕ → Played → Move
+abbrev pub moveBy : ℕ → PlayedCall → Move
 moveBy mark played.Nothing = Rests
 moveBy mark (played.Call (Sent s)) = cond (eqb mark 1) (Sends s) Rests
 moveBy mark (played.Call (Accept a)) = cond (eqb mark 4 || eqb mark 5) (Hears (a .key .sender)) Rests

@@ -4,7 +4,7 @@ use mathlib.Core.Bool.{Bool, true, false, _||_, cond}
 use mathlib.Core.List.{List, [], _∷_}
 use Prim.Native.Nat.{ℕ, zero, suc, _+_, _-_}
 use lib.Dec.{eqb, leb}
-use Rattle.calls.specs.declared.SentProbe.{SentProbe}
+use Rattle.call_types.specs.declared.SentProbe.{SentProbe}
 use Rattle.monitor_model.specs.Plain.{Sent}
 use Rattle.recount_queue.specs.declared.Queued.{Queued}
 use Rattle.recount_queue.specs.declared.Queued.the-variants.{Nothing, Probe}

@@ -6,10 +6,10 @@ ghost use lib.Dec.{leb};
 ghost use lib.ListN.{length};
 ghost use Rattle.recount_queue.specs.Moves.{moveBy, moveAt, sentBy, queuedBy, queuedAt};
 ghost use Rattle.recount_queue.specs.Queue.{named, goes, anyNamed, frontTo, frontBy};
-use calls::Call;
-use calls::Reply;
-use calls::SentProbe;
-use link_log::Played;
+use call_types::Call;
+use call_types::Reply;
+use call_types::SentProbe;
+use log_whole::PlayedCall;
 
 // What a served record is to the monitor: a probe, a unique reply to a sequence, an advance to a time, an idle, or nothing.
 pub enum Move {
@@ -29,7 +29,7 @@ pub enum Queued {
 // ---- what a record is
 
 fn probe_move(mark: u8, probe: SentProbe) -> Move
-    ensures { λ r. ⌜ r ≡ moveBy mark (Played.Call (Call.Sent probe)) ⌝ }
+    ensures { λ r. ⌜ r ≡ moveBy mark (PlayedCall.Call (Call.Sent probe)) ⌝ }
 {
     if mark == recount_seen::SERVED {
         return Move::Sends(probe);
@@ -38,7 +38,7 @@ fn probe_move(mark: u8, probe: SentProbe) -> Move
 }
 
 fn reply_move(mark: u8, reply: Reply) -> Move
-    ensures { λ r. ⌜ r ≡ moveBy mark (Played.Call (Call.Accept reply)) ⌝ }
+    ensures { λ r. ⌜ r ≡ moveBy mark (PlayedCall.Call (Call.Accept reply)) ⌝ }
 {
     if (mark == recount_seen::KNOWN) | (mark == recount_seen::FIRST) {
         return Move::Hears(reply.key.sender);
@@ -47,7 +47,7 @@ fn reply_move(mark: u8, reply: Reply) -> Move
 }
 
 fn call_move(mark: u8, call: Call) -> Move
-    ensures { λ r. ⌜ r ≡ moveBy mark (Played.Call call) ⌝ }
+    ensures { λ r. ⌜ r ≡ moveBy mark (PlayedCall.Call call) ⌝ }
 {
     match call {
         Call::Sent(probe) => probe_move(mark, probe),
@@ -58,12 +58,12 @@ fn call_move(mark: u8, call: Call) -> Move
     }
 }
 
-fn move_by(mark: u8, played: Played) -> Move
+fn move_by(mark: u8, played: PlayedCall) -> Move
     ensures { λ r. ⌜ r ≡ moveBy mark played ⌝ }
 {
     match played {
-        Played::Call(call) => call_move(mark, call),
-        Played::Nothing => Move::Rests,
+        PlayedCall::Call(call) => call_move(mark, call),
+        PlayedCall::Nothing => Move::Rests,
     }
 }
 
@@ -74,7 +74,7 @@ pub fn move_at(log: &[u8], marks: &[u8], j: u32) -> Move
 {
     let at = j as usize;
     let mark = marks[at];
-    let played = link_log::call_at(log, j);
+    let played = log_whole::call_at(log, j);
     move_by(mark, played)
 }
 

@@ -5,15 +5,15 @@ use mathlib.Core.Option.{none, some}
 use Prim.Native.Nat.{ℕ, zero, suc}
 use lib.Dec.{eqb}
 use lib.ListN.{getD}
-use Rattle.calls.specs.declared.Reply.{Reply}
-use Rattle.calls.specs.declared.Call.{Call}
-use Rattle.calls.specs.declared.Call.the-variants as call
+use Rattle.call_types.specs.declared.Reply.{Reply}
+use Rattle.call_types.specs.declared.Call.{Call}
+use Rattle.call_types.specs.declared.Call.the-variants as call
 use Rattle.history.specs.Counting.{orElse}
 use Rattle.history.specs.Given.{packetOf}
 use Rattle.history.specs.Ledger.{Event, remembered, replied, observed, noPacket}
-use Rattle.link_log.specs.declared.Played.{Played}
-use Rattle.link_log.specs.declared.Played.the-variants as played
-use Rattle.link_log.specs.Logs.{callAt}
+use Rattle.log_whole.specs.declared.PlayedCall.{PlayedCall}
+use Rattle.log_whole.specs.declared.PlayedCall.the-variants as played
+use Rattle.log_whole.specs.Logs.{callAt}
 use Rattle.recount_seen.specs.declared.Seen.{Seen}
 use Rattle.recount_seen.specs.declared.Seen.the-variants.{Nothing, Probe, Duplicate, Unknown, Known, First, Observed}
 
@@ -22,7 +22,7 @@ abbrev pub replyBy : ℕ → Reply → Seen
 replyBy mark a = cond (eqb mark 2) Duplicate (cond (eqb mark 3) Unknown (cond (eqb mark 4) (Known a) (cond (eqb mark 5) (First a) Nothing)))
 
 -- a record by its mark: 1 is served, and 0 was turned away
-abbrev pub seenBy : ℕ → Played → Seen
+abbrev pub seenBy : ℕ → PlayedCall → Seen
 seenBy mark played.Nothing = Nothing
 seenBy mark (played.Call (call.Sent s)) = cond (eqb mark 1) (Probe s) Nothing
 seenBy mark (played.Call (call.Accept a)) = replyBy mark a

@@ -3,11 +3,11 @@ ghost use mathlib.Core.Path.{_≡_};
 ghost use Prim.Native.Nat.{_<_};
 ghost use lib.ListN.{length};
 ghost use Rattle.recount_seen.specs.Seen.{replyBy, seenBy, seenAt};
-use calls::Call;
-use calls::Reply;
-use calls::ReplyObservation;
-use calls::SentProbe;
-use link_log::Played;
+use call_types::Call;
+use call_types::Reply;
+use call_types::ReplyObservation;
+use call_types::SentProbe;
+use log_whole::PlayedCall;
 
 // The marks. A record that is turned away; a probe, an observation, an advance or an idle that is served; a reply by its class, a unique one
 // by whether its probe was held or is remembered with it.
@@ -53,7 +53,7 @@ fn reply_by(mark: u8, reply: Reply) -> Seen
 }
 
 fn probe_by(mark: u8, probe: SentProbe) -> Seen
-    ensures { λ r. ⌜ r ≡ seenBy mark (Played.Call (Call.Sent probe)) ⌝ }
+    ensures { λ r. ⌜ r ≡ seenBy mark (PlayedCall.Call (Call.Sent probe)) ⌝ }
 {
     if mark == SERVED {
         return Seen::Probe(probe);
@@ -62,7 +62,7 @@ fn probe_by(mark: u8, probe: SentProbe) -> Seen
 }
 
 fn observed_by(mark: u8, o: ReplyObservation) -> Seen
-    ensures { λ r. ⌜ r ≡ seenBy mark (Played.Call (Call.Observe o)) ⌝ }
+    ensures { λ r. ⌜ r ≡ seenBy mark (PlayedCall.Call (Call.Observe o)) ⌝ }
 {
     if mark == SERVED {
         return Seen::Observed(o);
@@ -71,7 +71,7 @@ fn observed_by(mark: u8, o: ReplyObservation) -> Seen
 }
 
 fn call_by(mark: u8, call: Call) -> Seen
-    ensures { λ r. ⌜ r ≡ seenBy mark (Played.Call call) ⌝ }
+    ensures { λ r. ⌜ r ≡ seenBy mark (PlayedCall.Call call) ⌝ }
 {
     match call {
         Call::Sent(probe) => probe_by(mark, probe),
@@ -82,12 +82,12 @@ fn call_by(mark: u8, call: Call) -> Seen
     }
 }
 
-fn seen_by(mark: u8, played: Played) -> Seen
+fn seen_by(mark: u8, played: PlayedCall) -> Seen
     ensures { λ r. ⌜ r ≡ seenBy mark played ⌝ }
 {
     match played {
-        Played::Call(call) => call_by(mark, call),
-        Played::Nothing => Seen::Nothing,
+        PlayedCall::Call(call) => call_by(mark, call),
+        PlayedCall::Nothing => Seen::Nothing,
     }
 }
 
@@ -98,6 +98,6 @@ pub fn seen_at(log: &[u8], marks: &[u8], j: u32) -> Seen
 {
     let at = j as usize;
     let mark = marks[at];
-    let played = link_log::call_at(log, j);
+    let played = log_whole::call_at(log, j);
     seen_by(mark, played)
 }

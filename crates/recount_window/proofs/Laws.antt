@@ -8,7 +8,7 @@ use native.Mathlib.Omega.{arith}
 use lib.Dec.{eqb}
 use borrow.Author.Tests.{ne-eqb}
 use lib.ListN.{length}
-use Rattle.calls.specs.declared.CounterPoint.{CounterPoint}
+use Rattle.call_types.specs.declared.CounterPoint.{CounterPoint}
 use Rattle.history.specs.Counting.{tally, has}
 use Rattle.history.specs.DirectLoss.{transmitOffset, seen, highest, receivedMaximum, above0, anchorOf, anchor}
 use Rattle.recount_observed.specs.declared.Observation.{Observation}

@@ -7,7 +7,7 @@ use Prim.Native.Nat.{ℕ, zero, suc, _+_, _-_, _≤_}
 use native.Mathlib.Omega.{arith}
 use lib.Dec.{eqb, ltb}
 use lib.ListN.{length}
-use Rattle.calls.specs.declared.CounterPoint.{CounterPoint}
+use Rattle.call_types.specs.declared.CounterPoint.{CounterPoint}
 use Rattle.history.specs.Counting.{has}
 use Rattle.history.specs.Given.{ordinalOf, countersOf}
 use Rattle.history.specs.DirectLoss.{mismatch, zeros, anchors, jumps, within, anchorOf, seen, transmitOffset, highest, onWindow, directClass, nextWindow, withCounters, window}

@@ -5,7 +5,7 @@ use mathlib.Core.Option.{Option, none, some}
 use Prim.Native.Nat.{ℕ, _+_, max}
 use lib.Dec.{eqb, ltb}
 use lib.ListN.{length}
-use Rattle.calls.specs.declared.CounterPoint.{CounterPoint}
+use Rattle.call_types.specs.declared.CounterPoint.{CounterPoint}
 use Rattle.history.specs.Counting.{tally}
 use Rattle.history.specs.DirectLoss.{senderOffset, receivedOffset, transmitOffset, seen, highest, senderMaximum, receivedMaximum, above0}
 use Rattle.recount_window.specs.declared.Reach.{Reach}

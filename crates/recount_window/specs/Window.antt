@@ -4,7 +4,7 @@ use mathlib.Core.List.{List, [], _∷_}
 use mathlib.Core.Option.{Option, none, some}
 use Prim.Native.Nat.{ℕ, zero, suc, _+_, _-_}
 use lib.Dec.{eqb}
-use Rattle.calls.specs.declared.CounterPoint.{CounterPoint}
+use Rattle.call_types.specs.declared.CounterPoint.{CounterPoint}
 use Rattle.history.specs.Given.{ordinalOf, countersOf}
 use Rattle.history.specs.DirectLoss.{DirectClass, mismatch, zeros, anchors, jump, again, exceeded, reordered, advanced, directClass}
 use Rattle.recount_observed.specs.declared.Observation.{Observation}

@@ -9,10 +9,10 @@ ghost use Rattle.history.specs.DirectLoss.{anchor, seen};
 ghost use Rattle.recount_observed.specs.Observed.{observationAt};
 ghost use Rattle.recount_window.specs.Window.{pointBy, pointOf, pointsFrom};
 ghost use Rattle.recount_window.specs.Reach.{firstOf, isSeen, reachOf, receivedNext, reachWith, reachNext};
-use calls::CounterPoint;
-use calls::Counters;
-use calls::Ordinal;
-use calls::ReplyObservation;
+use call_types::CounterPoint;
+use call_types::Counters;
+use call_types::Ordinal;
+use call_types::ReplyObservation;
 use recount_observed::Observation;
 
 // ---- the counters of a record

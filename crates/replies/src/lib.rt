@@ -336,31 +336,31 @@ impl Replies {
 fn totals_fit(t: Totals) -> bool
     ensures { λ r. ⌜ r ≡ totalsFit t ⌝ }
 {
-    (t.requested < scope::COUNT_BOUND)
-        & (t.unique < scope::COUNT_BOUND)
-        & (t.duplicate < scope::COUNT_BOUND)
-        & (t.unknown < scope::COUNT_BOUND)
+    (t.requested < limits::COUNT_BOUND)
+        & (t.unique < limits::COUNT_BOUND)
+        & (t.duplicate < limits::COUNT_BOUND)
+        & (t.unknown < limits::COUNT_BOUND)
 }
 
 fn answers_fit(a: Answers) -> bool
     ensures { λ r. ⌜ r ≡ answersFit a ⌝ }
 {
-    (a.answered < scope::COUNT_BOUND)
-        & (a.additional < scope::COUNT_BOUND)
-        & (a.late < scope::COUNT_BOUND)
-        & (a.satisfied < scope::COUNT_BOUND)
+    (a.answered < limits::COUNT_BOUND)
+        & (a.additional < limits::COUNT_BOUND)
+        & (a.late < limits::COUNT_BOUND)
+        & (a.satisfied < limits::COUNT_BOUND)
 }
 
 fn numbers_fit(n: Numbers) -> bool
     ensures { λ r. ⌜ r ≡ numbersFit n ⌝ }
 {
-    (n.reordered < scope::COUNT_BOUND) & (n.independent < scope::COUNT_BOUND)
+    (n.reordered < limits::COUNT_BOUND) & (n.independent < limits::COUNT_BOUND)
 }
 
 fn evicted_fit(e: Evicted) -> bool
     ensures { λ r. ⌜ r ≡ evictedFit e ⌝ }
 {
-    (e.probes < scope::COUNT_BOUND)
-        & (e.replies < scope::COUNT_BOUND)
-        & (e.unanswered < scope::COUNT_BOUND)
+    (e.probes < limits::COUNT_BOUND)
+        & (e.replies < limits::COUNT_BOUND)
+        & (e.unanswered < limits::COUNT_BOUND)
 }

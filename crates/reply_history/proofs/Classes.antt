@@ -6,11 +6,11 @@ use mathlib.Core.List.{List, _∷_, map}
 use mathlib.Core.Option.{Option}
 use Prim.Native.Nat.{ℕ, _<_}
 use lib.Dec.{ltb}
-use Rattle.calls.specs.declared.ReplyKey.{ReplyKey}
-use Rattle.calls.specs.declared.PendingPacket.{PendingPacket}
-use Rattle.calls.specs.declared.Reply.{Reply}
-use Rattle.calls.specs.declared.Call.{Call}
-use Rattle.calls.specs.declared.Call.the-variants.{Accept}
+use Rattle.call_types.specs.declared.ReplyKey.{ReplyKey}
+use Rattle.call_types.specs.declared.PendingPacket.{PendingPacket}
+use Rattle.call_types.specs.declared.Reply.{Reply}
+use Rattle.call_types.specs.declared.Call.{Call}
+use Rattle.call_types.specs.declared.Call.the-variants.{Accept}
 use Rattle.key_ring.specs.Keys as ring
 use Rattle.key_ring.specs.Table.{findIn}
 use Rattle.key_ring.proofs.Tables as key_laws

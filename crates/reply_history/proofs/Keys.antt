@@ -11,7 +11,7 @@ use lib.ListN.{length, take}
 use lib.Seq.{take-all}
 use Rattle.chains.proofs.Tests.{Test, holds, fails, lt-test}
 use Rattle.chains.proofs.Contents.{length-contents}
-use Rattle.calls.specs.declared.ReplyKey.{ReplyKey}
+use Rattle.call_types.specs.declared.ReplyKey.{ReplyKey}
 use Rattle.key_ring.specs.Keys as ring
 use Rattle.key_ring.specs.Keys.{keyAt}
 use Rattle.key_ring.specs.Table.{Table, keysOf}

@@ -12,11 +12,11 @@ use Rattle.chains.specs.Whole.{Indexed}
 use Rattle.chains.proofs.Tests.{Test, holds, fails, lt-test}
 use Rattle.chains.proofs.Places.{push-below}
 use Rattle.chains.proofs.Lanes.{linked-fits, linked-elsewhere}
-use Rattle.calls.specs.declared.ReplyKey.{ReplyKey}
-use Rattle.calls.specs.declared.Counters.{Counters}
-use Rattle.calls.specs.declared.Counters.the-variants as counters
-use Rattle.calls.specs.declared.Ordinal.{Ordinal}
-use Rattle.calls.specs.declared.ReplyObservation.{ReplyObservation}
+use Rattle.call_types.specs.declared.ReplyKey.{ReplyKey}
+use Rattle.call_types.specs.declared.Counters.{Counters}
+use Rattle.call_types.specs.declared.Counters.the-variants as counters
+use Rattle.call_types.specs.declared.Ordinal.{Ordinal}
+use Rattle.call_types.specs.declared.ReplyObservation.{ReplyObservation}
 use Rattle.direct.specs.declared.Direct.{Direct}
 use Rattle.direct.specs.declared.Offsets.{Offsets}
 use Rattle.direct.specs.declared.Offsets.the-variants.{Kept, Begun, Added, Cleared}

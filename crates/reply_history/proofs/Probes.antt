@@ -11,11 +11,11 @@ use borrow.Author.Tests.{lt-leb, le-leb}
 use lib.ListN.{length, take}
 use Rattle.chains.specs.Walk.{firstOf}
 use Rattle.chains.proofs.Tests.{Test, holds, fails, eq-test, eq-false, true-not-false}
-use Rattle.calls.specs.declared.PendingPacket.{PendingPacket}
-use Rattle.calls.specs.declared.Pending.{Pending}
-use Rattle.calls.specs.declared.Pending.the-variants as pending
-use Rattle.calls.specs.declared.ReplyKey.{ReplyKey}
-use Rattle.probe_ring.specs.declared.Probe.{Probe}
+use Rattle.call_types.specs.declared.PendingPacket.{PendingPacket}
+use Rattle.call_types.specs.declared.Pending.{Pending}
+use Rattle.call_types.specs.declared.Pending.the-variants as pending
+use Rattle.call_types.specs.declared.ReplyKey.{ReplyKey}
+use Rattle.probe_ring.specs.declared.HeldProbe.{HeldProbe}
 use Rattle.probe_ring.specs.Row.{unanswered, packetAfter, afterReply}
 use Rattle.probe_ring.specs.Held as list
 use Rattle.probe_ring.specs.Held.{others, remembering, replacing, evicts, loses}
@@ -43,10 +43,10 @@ module _ (es : List Event) where
       go : (b : Bool) → others s (map (probeIn es) ss) ≡ map (probeIn es) (without s ss)
           → cond b (others s (map (probeIn es) ss)) (probeIn es x ∷ others s (map (probeIn es) ss)) ≡ map (probeIn es) (cond b (without s ss) (x ∷ without s ss))
       go true ih = ih
-      go false ih = ap (λ (q : List Probe). probeIn es x ∷ q) ih
+      go false ih = ap (λ (q : List HeldProbe). probeIn es x ∷ q) ih
 
   -- the first of a sequence that is there is its probe
-  pub rows-first : {B : Type 0} (f : Probe → B) (d : B) (s : ℕ) (ss : List ℕ) → has ss s ≡ true → firstOf (λ p. eqb s (p .sequence)) f d (map (probeIn es) ss) ≡ f (probeIn es s)
+  pub rows-first : {B : Type 0} (f : HeldProbe → B) (d : B) (s : ℕ) (ss : List ℕ) → has ss s ≡ true → firstOf (λ p. eqb s (p .sequence)) f d (map (probeIn es) ss) ≡ f (probeIn es s)
   unfolding firstOf has
   rows-first f d s [] e = absurd (true-not-false e refl)
   rows-first {B} f d s (x ∷ ss) e = go (eq-test s x) (rows-first f d s ss)
@@ -57,7 +57,7 @@ module _ (es : List Event) where
       go (fails p t) ih = rw t (ih (rw t at e))
 
   -- and d where it is not there
-  pub rows-absent : {B : Type 0} (f : Probe → B) (d : B) (s : ℕ) (ss : List ℕ) → has ss s ≡ false → firstOf (λ p. eqb s (p .sequence)) f d (map (probeIn es) ss) ≡ d
+  pub rows-absent : {B : Type 0} (f : HeldProbe → B) (d : B) (s : ℕ) (ss : List ℕ) → has ss s ≡ false → firstOf (λ p. eqb s (p .sequence)) f d (map (probeIn es) ss) ≡ d
   unfolding firstOf
   rows-absent f d s [] e = refl
   rows-absent f d s (x ∷ ss) e = let t = has-tail x ss s e in rw (t .0) (rows-absent f d s ss (t .1))
@@ -74,7 +74,7 @@ module _ (es : List Event) where
       go : (b : Bool) → eqb s x ≡ b → map (probeIn (e ∷ es)) (without s ss) ≡ map (probeIn es) (without s ss)
           → map (probeIn (e ∷ es)) (cond b (without s ss) (x ∷ without s ss)) ≡ map (probeIn es) (cond b (without s ss) (x ∷ without s ss))
       go true t ih = ih
-      go false t ih = ap₂ (λ (p : Probe) (ps : List Probe). p ∷ ps) (k x t) ih
+      go false t ih = ap₂ (λ (p : HeldProbe) (ps : List HeldProbe). p ∷ ps) (k x t) ih
 
   remembered-row : (s : ℕ) (o : Option ℕ) (t : ℕ) (p : PendingPacket) → probeIn (remembered s o t p ∷ es) s ≡ unanswered s p (asOrdinal o) t
   unfolding replies history.ordinal history.train packet
@@ -90,7 +90,7 @@ module _ (es : List Event) where
   unfolding remembering held rememberings distinct
   rows-remember zero s o t p = refl
   rows-remember (suc n) s o t p =
-      ap₂ (λ (q : Probe) (qs : List Probe). q ∷ qs) (sym (remembered-row s o t p))
+      ap₂ (λ (q : HeldProbe) (qs : List HeldProbe). q ∷ qs) (sym (remembered-row s o t p))
       (ap (take n) (rows-others s (take (suc n) (distinct (rememberings es))))
       ∙ take-map (probeIn es) n (without s (take (suc n) (distinct (rememberings es))))
       ∙ ap (map (probeIn es)) (kept-without n s (rememberings es))
@@ -123,7 +123,7 @@ module _ (es : List Event) where
   unfolding replacing afterReply
   rows-replied k p [] = refl
   rows-replied k p (x ∷ ss) =
-      ap₂ (λ (q : Probe) (qs : List Probe). q ∷ qs) (each-row k p x) (rows-replied k p ss)
+      ap₂ (λ (q : HeldProbe) (qs : List HeldProbe). q ∷ qs) (each-row k p x) (rows-replied k p ss)
 
   -- the probe just remembered is held
   pub held-new : (N s : ℕ) (o : Option ℕ) (t : ℕ) (p : PendingPacket) → 0 < N → has (held N (remembered s o t p ∷ es)) s ≡ true
@@ -156,7 +156,7 @@ and-flip false true = refl
 and-flip false false = refl
 
 -- "nothing is evicted" where it is held, or where there is room
-pub evicts-is : (N : ℕ) (es : List Event) (p : Probe)
+pub evicts-is : (N : ℕ) (es : List Event) (p : HeldProbe)
     → evicts N p (map (probeIn es) (held N es)) ≡ (eqb (length (held N es)) N && not (has (held N es) (p .sequence)))
 unfolding evicts held
 evicts-is N es p =
@@ -174,11 +174,11 @@ rows-oldest es x [] = refl
 rows-oldest es x (y ∷ ys) = rows-oldest es y ys
 
 -- "evicted while unanswered": the oldest goes, and it has had no reply
-pub loses-is : (N : ℕ) → 0 < N → (es : List Event) (p : Probe)
+pub loses-is : (N : ℕ) → 0 < N → (es : List Event) (p : HeldProbe)
     → loses N p (map (probeIn es) (held N es)) ≡ (eqb (length (held N es)) N && not (has (held N es) (p .sequence)) && eqb (replies (oldest (p .sequence) (held N es)) es) 0)
 unfolding loses list.oldest oldest
 loses-is N some-room es p = rw (evicts-is N es p) (go (not (has (held N es) (p .sequence))) (held N es))
   where
     go : (b : Bool) (ss : List ℕ) → (eqb (length ss) N && b && eqb (list.oldest p (map (probeIn es) ss) .replies) 0) ≡ (eqb (length ss) N && b && eqb (replies (oldest (p .sequence) ss) es) 0)
     go b [] = rw (eq-false 0 N (λ e. omega (arith, e, some-room)))
-    go b (x ∷ xs) = ap (λ (t : Bool). eqb (length (x ∷ xs)) N && b && t) (ap (λ (q : Probe). eqb (q .replies) 0) (rows-oldest es x xs) ∙ none-yet (replies (oldest x xs) es))
+    go b (x ∷ xs) = ap (λ (t : Bool). eqb (length (x ∷ xs)) N && b && t) (ap (λ (q : HeldProbe). eqb (q .replies) 0) (rows-oldest es x xs) ∙ none-yet (replies (oldest x xs) es))

@@ -11,10 +11,10 @@ use borrow.Author.Tests.{ltb-true}
 use lib.Dec.{eqb, ltb}
 use lib.ListN.{length}
 use Rattle.chains.specs.Links.{wordOf}
-use Rattle.calls.specs.declared.ReplyKey.{ReplyKey}
-use Rattle.calls.specs.declared.Pending.{Pending}
-use Rattle.calls.specs.declared.Ordinal.the-variants as ordinal
-use Rattle.probe_ring.specs.declared.Probe.{Probe}
+use Rattle.call_types.specs.declared.ReplyKey.{ReplyKey}
+use Rattle.call_types.specs.declared.Pending.{Pending}
+use Rattle.call_types.specs.declared.Ordinal.the-variants as ordinal
+use Rattle.probe_ring.specs.declared.HeldProbe.{HeldProbe}
 use Rattle.probe_ring.specs.Row.{unanswered, packetAfter, ProbeFits}
 use Rattle.probe_ring.specs.Held as list
 use Rattle.probe_ring.specs.Held.{remembering, evicts, loses}
@@ -49,10 +49,10 @@ module _ (N : ℕ) (some-room : 0 < N) (byKey : ReplyKey → ℕ) (byNumber : �
 
   -- A sequence is found exactly if the history holds it.
   pub found-is : (s : ℕ) → ltb (slotOf N byNumber r s) N ≡ has (held N es) s
-  found-is s = find-is N byNumber r sound s ∙ ap (λ (ps : List Probe). list.holds ps s) are ∙ rows-has es (held N es) s
+  found-is s = find-is N byNumber r sound s ∙ ap (λ (ps : List HeldProbe). list.holds ps s) are ∙ rows-has es (held N es) s
 
   -- the probe as it is remembered where it is not held
-  abbrev new : Probe
+  abbrev new : HeldProbe
   new = unanswered (k .sender) (packetAfter p noPacket) ordinal.Absent 0
 
   new-fits : ProbeFits new
@@ -73,7 +73,7 @@ module _ (N : ℕ) (some-room : 0 < N) (byKey : ReplyKey → ℕ) (byNumber : �
   is-new : has (held N es) (k .sender) ≡ false → Readied (readied N byKey byNumber r (slotOf N byNumber r (k .sender)) k p)
   unfolding readied ready probesEvicted evictedUnanswered
   is-new e =
-      let absent : list.holds (probe_ring.held N r) (k .sender) ≡ false = ap (λ (ps : List Probe). list.holds ps (k .sender)) are ∙ rows-has es (held N es) (k .sender) ∙ e in
+      let absent : list.holds (probe_ring.held N r) (k .sender) ≡ false = ap (λ (ps : List HeldProbe). list.holds ps (k .sender)) are ∙ rows-has es (held N es) (k .sender) ∙ e in
       let rem : Remembers N byNumber r sound new (pushed N byNumber r new) = remembers-new N byNumber r sound new new-fits absent in
       let told : pushed N byNumber r new .answer .evicted ≡ (eqb (length (held N es)) N && not (has (held N es) (k .sender))) =
       rem .after-evicted ∙ ap (evicts N new) are ∙ evicts-is N es new in
@@ -102,12 +102,12 @@ module _ (N : ℕ) (some-room : 0 < N) (byKey : ReplyKey → ℕ) (byNumber : �
     slot-true : ltb (o .answer .slot) N ≡ true
     slot-true =
         rw (← ok .after-found)
-        (find-is N byNumber (roomsAfter o) (ok .after-sound) (k .sender) ∙ ap (λ (ps : List Probe). list.holds ps (k .sender)) (ok .after-are) ∙ rows-has es′ (held N es′) (k .sender) ∙ ok .after-has)
+        (find-is N byNumber (roomsAfter o) (ok .after-sound) (k .sender) ∙ ap (λ (ps : List HeldProbe). list.holds ps (k .sender)) (ok .after-are) ∙ rows-has es′ (held N es′) (k .sender) ∙ ok .after-has)
 
     pub slot-in : o .answer .slot < N
     slot-in = ltb-true (o .answer .slot) N slot-true
 
     pub probe-is : probeAt (o .rows) (o .answer .slot) ≡ probeIn es′ (k .sender)
     probe-is =
-        let found = find-first N byNumber (roomsAfter o) (ok .after-sound) {B = Probe} (λ q. q) (probeIn es′ (k .sender)) (k .sender) in
-        (rw (ok .after-found, slot-true) at found) ∙ rw (ok .after-are) (rows-first es′ {B = Probe} (λ q. q) (probeIn es′ (k .sender)) (k .sender) (held N es′) (ok .after-has))
+        let found = find-first N byNumber (roomsAfter o) (ok .after-sound) {B = HeldProbe} (λ q. q) (probeIn es′ (k .sender)) (k .sender) in
+        (rw (ok .after-found, slot-true) at found) ∙ rw (ok .after-are) (rows-first es′ {B = HeldProbe} (λ q. q) (probeIn es′ (k .sender)) (k .sender) (held N es′) (ok .after-has))

@@ -4,10 +4,10 @@ use mathlib.Core.Path.{_≡_, refl}
 use mathlib.Core.List.{List}
 use Prim.Native.Nat.{ℕ}
 use lib.Dec.{ltb}
-use Rattle.calls.specs.declared.ReplyKey.{ReplyKey}
-use Rattle.calls.specs.declared.Reply.{Reply}
-use Rattle.calls.specs.declared.Call.{Call}
-use Rattle.calls.specs.declared.Call.the-variants.{Sent, Accept, Observe, Advance, Idle}
+use Rattle.call_types.specs.declared.ReplyKey.{ReplyKey}
+use Rattle.call_types.specs.declared.Reply.{Reply}
+use Rattle.call_types.specs.declared.Call.{Call}
+use Rattle.call_types.specs.declared.Call.the-variants.{Sent, Accept, Observe, Advance, Idle}
 use Rattle.replies.specs.declared.ReplyClass.{ReplyClass}
 use Rattle.replies.specs.declared.ReplyClass.the-variants as class
 use Rattle.replies.specs.Served.{classBy}

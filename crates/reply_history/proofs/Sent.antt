@@ -5,12 +5,12 @@ use mathlib.Core.List.{List, _∷_}
 use mathlib.Core.Option.{some}
 use Prim.Native.Nat.{ℕ, _<_}
 use native.Mathlib.Omega.{arith}
-use Rattle.calls.specs.declared.ReplyKey.{ReplyKey}
-use Rattle.calls.specs.declared.Ordinal.the-variants as ordinal
-use Rattle.calls.specs.declared.SentProbe.{SentProbe}
-use Rattle.calls.specs.declared.Call.{Call}
-use Rattle.calls.specs.declared.Call.the-variants.{Sent}
-use Rattle.probe_ring.specs.declared.Probe.{Probe}
+use Rattle.call_types.specs.declared.ReplyKey.{ReplyKey}
+use Rattle.call_types.specs.declared.Ordinal.the-variants as ordinal
+use Rattle.call_types.specs.declared.SentProbe.{SentProbe}
+use Rattle.call_types.specs.declared.Call.{Call}
+use Rattle.call_types.specs.declared.Call.the-variants.{Sent}
+use Rattle.probe_ring.specs.declared.HeldProbe.{HeldProbe}
 use Rattle.probe_ring.specs.Row.{unanswered, ProbeFits}
 use Rattle.probe_ring.specs.Held.{remembering, evicts, loses}
 use Rattle.probe_ring.specs.Rooms.{remembered}
@@ -28,7 +28,7 @@ use Rattle.reply_history.proofs.Counts.{counts-sent}
 module _ (N : ℕ) (some-room : 0 < N) (byKey : ReplyKey → ℕ) (byNumber : ℕ → ℕ) (copies : ℕ) (h : List Call) (s : Stand) (p : SentProbe) (fits : SentFits p)
     (f : RepliesFollow N byKey byNumber copies h s) where
   -- the probe as it is remembered
-  abbrev new : Probe
+  abbrev new : HeldProbe
   new = unanswered (p .sequence) (p .packet) (ordinal.Number (p .ordinal)) (p .train)
 
   new-fits : ProbeFits new

@@ -9,8 +9,8 @@ use native.Mathlib.Omega.{arith}
 use lib.Dec.{eqb, ltb}
 use lib.ListN.{take}
 use Rattle.chains.specs.Walk.{firstOf}
-use Rattle.calls.specs.declared.ReplyKey.{ReplyKey}
-use Rattle.calls.specs.declared.Call.{Call}
+use Rattle.call_types.specs.declared.ReplyKey.{ReplyKey}
+use Rattle.call_types.specs.declared.Call.{Call}
 use Rattle.key_ring.specs.Keys.{firstIs}
 use Rattle.key_ring.specs.Table.{newestIs}
 use Rattle.key_ring.proofs.Accepts.{newest-is}

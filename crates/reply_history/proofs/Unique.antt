@@ -7,15 +7,15 @@ use Prim.Native.Nat.{ℕ, _/_, _%_, _^_, _<_, suc}
 use native.Mathlib.Omega.{arith}
 use lib.Dec.{leb, eqb}
 use lib.ListN.{take, getD, set}
-use Rattle.calls.specs.declared.ReplyKey.{ReplyKey}
-use Rattle.calls.specs.declared.Ordinal.the-variants as ordinal
-use Rattle.calls.specs.declared.Reply.{Reply}
-use Rattle.calls.specs.declared.Call.{Call}
-use Rattle.calls.specs.declared.Call.the-variants.{Accept}
+use Rattle.call_types.specs.declared.ReplyKey.{ReplyKey}
+use Rattle.call_types.specs.declared.Ordinal.the-variants as ordinal
+use Rattle.call_types.specs.declared.Reply.{Reply}
+use Rattle.call_types.specs.declared.Call.{Call}
+use Rattle.call_types.specs.declared.Call.the-variants.{Accept}
 use Rattle.key_ring.specs.Table as key_ring
 use Rattle.key_ring.specs.Table.{Table, tableOf, keysOf, acceptedKey}
 use Rattle.key_ring.proofs.Accepts.{accepted-sound, accepted-keys}
-use Rattle.probe_ring.specs.declared.Probe.{Probe}
+use Rattle.probe_ring.specs.declared.HeldProbe.{HeldProbe}
 use Rattle.probe_ring.specs.Row.{wordsOf, OrdinalFits, ProbeFits}
 use Rattle.probe_ring.specs.Row as row
 use Rattle.probe_ring.specs.Held.{replacing}
@@ -53,12 +53,12 @@ word-ordinal known number l = go (eqb known 0)
     go true = tt
     go false = l
 
-row-ordinal : (words : List ℕ) → OrdinalFits (row.probeOf words .ordinal)
-unfolding row.probeOf
+row-ordinal : (words : List ℕ) → OrdinalFits (row.heldProbeOf words .ordinal)
+unfolding row.heldProbeOf
 row-ordinal words = word-ordinal (getD words 0 0 / 2 ^ 32 / 2 ^ 16) (getD words 1 0 % 2 ^ 32) (low-in (getD words 1 0))
 
-row-train : (words : List ℕ) → row.probeOf words .train < 2 ^ 32
-unfolding row.probeOf
+row-train : (words : List ℕ) → row.heldProbeOf words .train < 2 ^ 32
+unfolding row.heldProbeOf
 row-train words = low-in (getD words 1 0 / 2 ^ 32)
 
 module _ (N : ℕ) (some-room : 0 < N) (byKey : ReplyKey → ℕ) (byNumber : ℕ → ℕ) (key-below : (k : ReplyKey) → byKey k < N) (number-below : (r : ℕ) → byNumber r < N)
@@ -115,19 +115,19 @@ module _ (N : ℕ) (some-room : 0 < N) (byKey : ReplyKey → ℕ) (byNumber : �
   -- ---- the probes
 
   -- its probe after the reply
-  abbrev after : Probe
+  abbrev after : HeldProbe
   after = row.afterReply (a .pending) (probeIn es′ (a .key .sender))
 
   rows-are : repliedRows (o .rows) (o .answer .slot) (a .pending) ≡ set (o .rows) (o .answer .slot) (wordsOf after)
-  rows-are = ap (λ (q : Probe). set (o .rows) (o .answer .slot) (wordsOf (row.afterReply (a .pending) q))) here-is
+  rows-are = ap (λ (q : HeldProbe). set (o .rows) (o .answer .slot) (wordsOf (row.afterReply (a .pending) q))) here-is
 
   after-fits : ProbeFits after
   unfolding row.afterReply
   after-fits = record {
     sequence-in = fits .sender-in;
     replies-in = rw (one-more (replies (a .key .sender) es′)) (kept-in (suc (replies (a .key .sender) es′)));
-    ordinal-in = subst (λ (q : Probe). OrdinalFits (q .ordinal)) here-is (row-ordinal (getD (o .rows) (o .answer .slot) []));
-    train-in = subst (λ (q : Probe). q .train < 2 ^ 32) here-is (row-train (getD (o .rows) (o .answer .slot) []));
+    ordinal-in = subst (λ (q : HeldProbe). OrdinalFits (q .ordinal)) here-is (row-ordinal (getD (o .rows) (o .answer .slot) []));
+    train-in = subst (λ (q : HeldProbe). q .train < 2 ^ 32) here-is (row-train (getD (o .rows) (o .answer .slot) []));
   }
 
   its : after .sequence ≡ a .key .sender

@@ -1,19 +1,19 @@
 -- What the types of a call's numbers say: each fits its bits. Assumes nothing.
 use mathlib.Core.List.{List, [], _∷_}
 use Prim.Native.Nat.{_^_, _<_}
-use Rattle.calls.specs.declared.ReplyKey.{ReplyKey}
-use Rattle.calls.specs.declared.CounterPoint.{CounterPoint}
-use Rattle.calls.specs.declared.Counters.{Counters}
-use Rattle.calls.specs.declared.Counters.the-variants as counters
-use Rattle.calls.specs.declared.Ordinal.{Ordinal}
-use Rattle.calls.specs.declared.Ordinal.the-variants as ordinal
-use Rattle.calls.specs.declared.FollowUpTelemetry.{FollowUpTelemetry}
-use Rattle.calls.specs.declared.FollowUp.{FollowUp}
-use Rattle.calls.specs.declared.FollowUp.the-variants as follow
-use Rattle.calls.specs.declared.SentProbe.{SentProbe}
-use Rattle.calls.specs.declared.ReplyObservation.{ReplyObservation}
-use Rattle.calls.specs.declared.Call.{Call}
-use Rattle.calls.specs.declared.Call.the-variants.{Sent, Accept, Observe, Advance, Idle}
+use Rattle.call_types.specs.declared.ReplyKey.{ReplyKey}
+use Rattle.call_types.specs.declared.CounterPoint.{CounterPoint}
+use Rattle.call_types.specs.declared.Counters.{Counters}
+use Rattle.call_types.specs.declared.Counters.the-variants as counters
+use Rattle.call_types.specs.declared.Ordinal.{Ordinal}
+use Rattle.call_types.specs.declared.Ordinal.the-variants as ordinal
+use Rattle.call_types.specs.declared.FollowUpTelemetry.{FollowUpTelemetry}
+use Rattle.call_types.specs.declared.FollowUp.{FollowUp}
+use Rattle.call_types.specs.declared.FollowUp.the-variants as follow
+use Rattle.call_types.specs.declared.SentProbe.{SentProbe}
+use Rattle.call_types.specs.declared.ReplyObservation.{ReplyObservation}
+use Rattle.call_types.specs.declared.Call.{Call}
+use Rattle.call_types.specs.declared.Call.the-variants.{Sent, Accept, Observe, Advance, Idle}
 
 -- the three parts of a key
 pub record KeyFits (k : ReplyKey) : Type 0 where

@@ -5,11 +5,11 @@ use mathlib.Core.Bool.{Bool, false}
 use mathlib.Core.List.{List, map}
 use mathlib.Core.Option.{Option, none, some}
 use Prim.Native.Nat.{ℕ, min}
-use Rattle.calls.specs.declared.ReplyKey.{ReplyKey}
-use Rattle.calls.specs.declared.Ordinal.{Ordinal}
-use Rattle.calls.specs.declared.Ordinal.the-variants as ordinal
-use Rattle.calls.specs.declared.Call.{Call}
-use Rattle.probe_ring.specs.declared.Probe.{Probe}
+use Rattle.call_types.specs.declared.ReplyKey.{ReplyKey}
+use Rattle.call_types.specs.declared.Ordinal.{Ordinal}
+use Rattle.call_types.specs.declared.Ordinal.the-variants as ordinal
+use Rattle.call_types.specs.declared.Call.{Call}
+use Rattle.probe_ring.specs.declared.HeldProbe.{HeldProbe}
 use Rattle.probe_ring.specs.Row.{mostReplies}
 use Rattle.probe_ring.specs.Rooms as probe_ring
 use Rattle.probe_ring.specs.Sound as probe_laws
@@ -38,7 +38,7 @@ asReflector none = reflector.Absent
 asReflector (some n) = reflector.Number n
 
 -- the probe s after these events; its replies are counted up to 65,535
-abbrev pub probeIn : List Event → ℕ → Probe
+abbrev pub probeIn : List Event → ℕ → HeldProbe
 probeIn es s = record { sequence = s; replies = min (replies s es) mostReplies; ordinal = asOrdinal (history.ordinal s es); train = history.train s es; packet = packet s es }
 
 -- the counts and the reflector numbers

@@ -12,8 +12,8 @@ use denote.Ref.{now}
 use lib.Dec.{eqb}
 use lib.ListN.{length, take, drop, length-append}
 use lib.Seq.{take-append-seam}
-use Rattle.report.specs.declared.Answer.{Answer}
-use Rattle.report.specs.declared.Answer.the-variants.{Written, Refused}
+use Rattle.report.specs.declared.ReportAnswer.{ReportAnswer}
+use Rattle.report.specs.declared.ReportAnswer.the-variants.{Written, Refused}
 use Rattle.report.specs.declared.figures.Figures.{Figures}
 use Rattle.report.specs.Lines.{textOf}
 use Rattle.report.specs.Report.{Outcome, outcome, pickOutcome, written, wrong, reportOf, reportRoom}
@@ -22,7 +22,7 @@ use Rattle.report.proofs.report.Kinds as K
 use Rattle.report.proofs.report.Reads.{Post}
 
 -- an outcome tells the answer
-same-answer : (a b : Answer) (l m : List ℕ) → outcome a l ≡ outcome b m → a ≡ b
+same-answer : (a b : ReportAnswer) (l m : List ℕ) → outcome a l ≡ outcome b m → a ≡ b
 unfolding outcome
 same-answer (Written x) (Written y) l m e = cc (ap (λ (o : Outcome). o .values) e)
 same-answer (Written x) (Refused y) l m e = cc (ap (λ (o : Outcome). o .values) e)
@@ -30,7 +30,7 @@ same-answer (Refused x) (Written y) l m e = cc (ap (λ (o : Outcome). o .values)
 same-answer (Refused x) (Refused y) l m e = ap Refused (ap (λ (o : Outcome). o .number) e)
 
 -- and the buffer
-buffer-of : (a : Answer) (l : List ℕ) → outcome a l .buffer ≡ l
+buffer-of : (a : ReportAnswer) (l : List ℕ) → outcome a l .buffer ≡ l
 unfolding outcome
 buffer-of (Written n) l = refl
 buffer-of (Refused n) l = refl

@@ -4,9 +4,9 @@ use mathlib.Core.List.{List, [], _∷_, _++_}
 use Prim.Native.Nat.{ℕ}
 use lib.Dec.{eqb}
 use lib.ListN.{length, drop}
-use Rattle.scope.specs.Refusals.{wrongRoom}
-use Rattle.report.specs.declared.Answer.{Answer}
-use Rattle.report.specs.declared.Answer.the-variants.{Written, Refused}
+use Rattle.limits.specs.Refusals.{wrongRoom}
+use Rattle.report.specs.declared.ReportAnswer.{ReportAnswer}
+use Rattle.report.specs.declared.ReportAnswer.the-variants.{Written, Refused}
 use Rattle.report.specs.declared.figures.Figures.{Figures}
 use Rattle.report.specs.Lines.{textOf}
 
@@ -21,7 +21,7 @@ pub record Outcome : Type 0 where
   pub buffer : List ℕ
 
 -- the number and the values of each case of the answer
-unfoldable pub outcome : Answer → List ℕ → Outcome
+unfoldable pub outcome : ReportAnswer → List ℕ → Outcome
 outcome (Written n) buffer = record { number = 0; values = n ∷ []; buffer = buffer }
 outcome (Refused n) buffer = record { number = n; values = []; buffer = buffer }
 

@@ -1,7 +1,7 @@
 // The figures of the report, a struct for each line, in the report's order. Counts are u64, as the ledger's are.
 
 // `records`, `turned away`.
-pub struct Played {
+pub struct PlayedRecords {
     pub records: u64,
     pub turned_away: u64,
 }
@@ -85,7 +85,7 @@ pub struct Evicted {
 
 // All that the report shows.
 pub struct Figures {
-    pub played: Played,
+    pub played: PlayedRecords,
     pub loss: Loss,
     pub replies: Replies,
     pub probes: Probes,

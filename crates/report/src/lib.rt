@@ -11,17 +11,17 @@ use crate::figures::Figures;
 pub const REPORT_ROOM: usize = 1024;
 
 // The length of the text, or the refusal's number.
-pub enum Answer {
+pub enum ReportAnswer {
     Written(usize),
     Refused(u8),
 }
 
 // Writes the report at the start of the buffer and leaves all bytes behind it as they are. A buffer of another size is refused.
-pub fn report(buffer: &mut [u8], figures: Figures) -> Answer
+pub fn report(buffer: &mut [u8], figures: Figures) -> ReportAnswer
     ensures { λ r. ⌜ outcome r (now (buffer .exit)) ≡ reportOf (now (buffer .entry)) figures ⌝ }
 {
     if buffer.len() != REPORT_ROOM {
-        return Answer::Refused(scope::WRONG_ROOM);
+        return ReportAnswer::Refused(limits::WRONG_ROOM);
     }
     let values = values::values_of(figures);
     let end = template::fill(
@@ -39,5 +39,5 @@ pub fn report(buffer: &mut [u8], figures: Figures) -> Answer
         evicted unanswered #\n",
         values,
     );
-    Answer::Written(end)
+    ReportAnswer::Written(end)
 }

@@ -7,20 +7,20 @@ use native.Mathlib.Omega.{arith}
 use lib.Dec.{eqb, ltb, lit<}
 use lib.ListN.{length, getD, take, drop}
 use Rattle.big_endian.specs.Numbers.{numberAt}
-use Rattle.calls.specs.declared.Call.{Call}
-use Rattle.calls.specs.declared.Call.the-variants as call
+use Rattle.call_types.specs.declared.Call.{Call}
+use Rattle.call_types.specs.declared.Call.the-variants as call
 use Rattle.reply_history.specs.Fits.{KeyFits, OrdinalFits, CountersFit, FollowFits}
 use Rattle.observe_history.specs.FollowUps.{QualityFits}
 use Rattle.record_parts.specs.declared.Entry.{Entry}
 use Rattle.record_parts.specs.declared.Entry.the-variants as entry
 use Rattle.record_parts.specs.Parts.{callOf, flag, ordinalBy, countersBy, followBy, estimatesBy}
 use Rattle.log_record.specs.Records.{keyAt, sentAt, acceptAt, observeAt, convertedAt, entryOf, answer, badRecord, readNumber, readOf}
-use Rattle.link_log.specs.declared.Settings.{Settings}
-use Rattle.link_log.specs.declared.Log.{Log}
-use Rattle.link_log.specs.declared.Log.the-variants as log'
-use Rattle.link_log.specs.declared.Played.{Played}
-use Rattle.link_log.specs.declared.Played.the-variants as read
-use Rattle.link_log.specs.Logs.{trailerAt, countOf, settingsOf, mostBytes, trailerGood, recordAt, playedBy, callAt, logOf, numberBy, recordsNumber, firstOf, badTrailer}
+use Rattle.log_whole.specs.declared.Settings.{Settings}
+use Rattle.log_whole.specs.declared.Log.{Log}
+use Rattle.log_whole.specs.declared.Log.the-variants as log'
+use Rattle.log_whole.specs.declared.PlayedCall.{PlayedCall}
+use Rattle.log_whole.specs.declared.PlayedCall.the-variants as read
+use Rattle.log_whole.specs.Logs.{trailerAt, countOf, settingsOf, mostBytes, trailerGood, recordAt, playedBy, callAt, logOf, numberBy, recordsNumber, firstOf, badTrailer}
 use Rattle.link_history.specs.Fresh.{Fits, AllFits}
 use Rattle.report_history.specs.Bytes.{BytesIn}
 use Rattle.report_history.specs.Figures.{callThen, logCalls}
@@ -109,7 +109,7 @@ module _ (r : List ℕ) (h : BytesIn r) where
 
 -- ---- the calls of a log
 
-abbrev PlayedFits : Played → Type 0
+abbrev PlayedFits : PlayedCall → Type 0
 PlayedFits read.Nothing = Unit
 PlayedFits (read.Call c) = Fits c
 
@@ -121,7 +121,7 @@ read-fits : (r : List ℕ) → BytesIn r → PlayedFits (playedBy (readOf r))
 unfolding readOf
 read-fits r h = answer-fits (readNumber r) (entryOf r) (call-fits r h)
 
-picked-fits : (a b c : Bool) (p : Played) → PlayedFits p → PlayedFits (cond a read.Nothing (cond b (cond c p read.Nothing) read.Nothing))
+picked-fits : (a b c : Bool) (p : PlayedCall) → PlayedFits p → PlayedFits (cond a read.Nothing (cond b (cond c p read.Nothing) read.Nothing))
 picked-fits true b c p f = tt
 picked-fits false true true p f = f
 picked-fits false true false p f = tt
@@ -133,7 +133,7 @@ played-fits log h i =
     picked-fits (ltb mostBytes (length log)) (trailerGood log) (ltb i (countOf log)) (playedBy (readOf (recordAt log (settingsOf log .start) i)))
     (read-fits (recordAt log (settingsOf log .start) i) (bytes-take 96 (drop (settingsOf log .start + 96 * i) log) (bytes-drop (settingsOf log .start + 96 * i) log h)))
 
-then-fits : (p : Played) (cs : List Call) → PlayedFits p → AllFits cs → AllFits (callThen p cs)
+then-fits : (p : PlayedCall) (cs : List Call) → PlayedFits p → AllFits cs → AllFits (callThen p cs)
 unfolding AllFits
 then-fits read.Nothing cs f w = w
 then-fits (read.Call c) cs f w = (f, w)

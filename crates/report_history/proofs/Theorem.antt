@@ -5,8 +5,8 @@ use mathlib.Core.List.{List}
 use Prim.Native.Nat.{ℕ, zero, suc, _+_, _-_}
 use native.Mathlib.Omega.{arith}
 use lib.ListN.{length}
-use Rattle.calls.specs.declared.Call.{Call}
-use Rattle.probe_queue.specs.declared.Probe.{Probe}
+use Rattle.call_types.specs.declared.Call.{Call}
+use Rattle.probe_queue.specs.declared.QueuedProbe.{QueuedProbe}
 use Rattle.monitor.specs.declared.Summary.{Summary}
 use Rattle.history.specs.Ledger.{copiesOf}
 use Rattle.ledger_state.specs.State.{freshLedger}
@@ -19,18 +19,18 @@ use Rattle.link_history.specs.Fresh.{Watching, alone, watching, Making, MakingF
 use Rattle.link_history.specs.Monitor.{WatchShows}
 use Rattle.link_history.specs.Link.{servedFrom, LinkShows}
 use Rattle.link_history.proofs.Link.{served-is, made-calls-show, turned-away-adds-up}
-use Rattle.link_log.specs.declared.Settings.{Settings}
-use Rattle.link_log.specs.declared.Log.the-variants as log'
-use Rattle.link_log.specs.declared.Played.{Played}
-use Rattle.link_log.specs.declared.Played.the-variants as read
-use Rattle.link_log.specs.Logs.{callAt, logOf}
-use Rattle.link_tally.specs.Tally.{Tallied, recorded, tallied}
+use Rattle.log_whole.specs.declared.Settings.{Settings}
+use Rattle.log_whole.specs.declared.Log.the-variants as log'
+use Rattle.log_whole.specs.declared.PlayedCall.{PlayedCall}
+use Rattle.log_whole.specs.declared.PlayedCall.the-variants as read
+use Rattle.log_whole.specs.Logs.{callAt, logOf}
+use Rattle.log_play.specs.Tally.{Tallied, recorded, tallied}
 use Rattle.report.specs.Lines.{textOf}
 use Rattle.report.specs.Report.{written}
 use Rattle.link_figures.specs.Figures.{sessionBy, sessionOf, figureOf, followupOf, directOf, missingOf, roundTripOf, figuresOf}
 use Rattle.link_report.specs.LogReport.{startBy, endOf, playedText, reportBy as reportOfCase, fits, reportOfLog}
-use Rattle.link_settings.specs.Checks.{checkedBy}
-use Rattle.link_settings.specs.Fresh.{watchBy}
+use Rattle.log_settings.specs.Checks.{checkedBy}
+use Rattle.log_settings.specs.Fresh.{watchBy}
 use Rattle.report_history.specs.Figures.{callThen, logCalls, watchingBy, makingBy, sessionFrom, figuresFrom, reportFrom}
 
 -- ---- the tally of a log's records is what its calls leave
@@ -38,7 +38,7 @@ use Rattle.report_history.specs.Figures.{callThen, logCalls, watchingBy,
 abbrev leftBy : Standing → List Call → Tallied
 leftBy k cs = record { standing = played k cs; turned = turnedAway k cs }
 
-one-record : (k : Standing) (cs : List Call) (r : Played) → recorded (leftBy k cs) r ≡ leftBy k (callThen r cs)
+one-record : (k : Standing) (cs : List Call) (r : PlayedCall) → recorded (leftBy k cs) r ≡ leftBy k (callThen r cs)
 unfolding played turnedAway
 one-record k cs read.Nothing = refl
 one-record k cs (read.Call c) = refl
@@ -54,7 +54,7 @@ watch-is : (n t : ℕ) → watchBy n t ≡ freshWatch (watchingBy n t)
 watch-is zero t = refl
 watch-is (suc n) t = refl
 
-start-is : (s : Settings) (secret : List ℕ) (queue : List Probe) (rooms : Rooms) → startBy s secret queue rooms ≡ record { standing = freshLink (makingBy s secret queue rooms); turned = 0 }
+start-is : (s : Settings) (secret : List ℕ) (queue : List QueuedProbe) (rooms : Rooms) → startBy s secret queue rooms ≡ record { standing = freshLink (makingBy s secret queue rooms); turned = 0 }
 start-is s secret queue rooms = λ i. record {
   standing = record { link = record { ledger = freshLedger (s .copies) secret; watch = watch-is (s .threshold) (s .timeout) i }; rooms = rooms; queue = queue };
   turned = 0;
@@ -62,7 +62,7 @@ start-is s secret queue rooms = λ i. record {
 
 -- ---- the figures of a link that shows what its served calls call for
 
-session-is : (v : Watching) (h : List Call) (w : Watch) (queue : List Probe) → WatchShows v h w queue → sessionOf w ≡ sessionFrom v h
+session-is : (v : Watching) (h : List Call) (w : Watch) (queue : List QueuedProbe) → WatchShows v h w queue → sessionOf w ≡ sessionFrom v h
 session-is alone h Absent queue s = refl
 session-is alone h (Present m) queue s = absurd s
 session-is (watching threshold timeout) h Absent queue s = absurd s
@@ -91,7 +91,7 @@ figures-are copies v h k records turned shows =
 
 -- ---- the theorem
 
-module _ (log : List ℕ) (s : Settings) (secret : List ℕ) (queue : List Probe) (rooms : Rooms) where
+module _ (log : List ℕ) (s : Settings) (secret : List ℕ) (queue : List QueuedProbe) (rooms : Rooms) where
   abbrev m : Making
   m = makingBy s secret queue rooms
 

@@ -5,14 +5,14 @@ use mathlib.Core.Bool.{true}
 use mathlib.Core.List.{List}
 use Prim.Native.Nat.{ℕ, zero, suc, _^_, _<_}
 use lib.ListN.{length}
-use Rattle.scope.specs.Limits.{capacity}
-use Rattle.probe_queue.specs.declared.Probe.{Probe}
+use Rattle.limits.specs.Limits.{capacity}
+use Rattle.probe_queue.specs.declared.QueuedProbe.{QueuedProbe}
 use Rattle.ledger_steps.specs.Rooms.{Rooms}
 use Rattle.reply_history.specs.Stands.{RoomsFit}
 use Rattle.link_history.specs.Fresh.{QueueFits, MakingFits}
-use Rattle.link_log.specs.declared.Settings.{Settings}
-use Rattle.link_log.specs.declared.Log.the-variants as log'
-use Rattle.link_log.specs.Logs.{logOf}
+use Rattle.log_whole.specs.declared.Settings.{Settings}
+use Rattle.log_whole.specs.declared.Log.the-variants as log'
+use Rattle.log_whole.specs.Logs.{logOf}
 use Rattle.report.specs.Lines.{textOf}
 use Rattle.report.specs.Report.{written}
 use Rattle.link_figures.specs.Figures.{figuresOf}
@@ -22,12 +22,12 @@ use Rattle.report_history.specs.Figures.{watchingBy, makingBy, reportFro
 use Rattle.report_history.proofs.Bytes.{log-fits, good-settings, copies-in}
 use Rattle.report_history.proofs.Theorem.{figures-are-history, buffer-is-history}
 
-queue-fits : (n t : ℕ) (queue : List Probe) → length queue ≡ capacity → QueueFits (watchingBy n t) queue
+queue-fits : (n t : ℕ) (queue : List QueuedProbe) → length queue ≡ capacity → QueueFits (watchingBy n t) queue
 queue-fits zero t queue long = tt
 queue-fits (suc n) t queue long = long
 
 module _ (log : List ℕ) (h : BytesIn log) (s : Settings) (g : logOf log ≡ log'.Good s) where
-  module _ (secret : List ℕ) (queue : List Probe) (long : length queue ≡ capacity) (rooms : Rooms) (sized : RoomsFit capacity rooms) where
+  module _ (secret : List ℕ) (queue : List QueuedProbe) (long : length queue ≡ capacity) (rooms : Rooms) (sized : RoomsFit capacity rooms) where
     making-fits : MakingFits (makingBy s secret queue rooms)
     making-fits = record {
       copies-in = subst (λ (x : Settings). x .copies < 2 ^ 16) (good-settings log s g) (copies-in log h);

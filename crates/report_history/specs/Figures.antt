@@ -3,9 +3,9 @@
 use mathlib.Core.List.{List, [], _∷_}
 use Prim.Native.Nat.{ℕ, zero, suc, _-_}
 use lib.ListN.{length}
-use Rattle.scope.specs.Limits.{capacity}
-use Rattle.calls.specs.declared.Call.{Call}
-use Rattle.probe_queue.specs.declared.Probe.{Probe}
+use Rattle.limits.specs.Limits.{capacity}
+use Rattle.call_types.specs.declared.Call.{Call}
+use Rattle.probe_queue.specs.declared.QueuedProbe.{QueuedProbe}
 use Rattle.history.specs.Ledger.{copiesOf, replyCounts, thousandths}
 use Rattle.history.specs.DirectLoss.{directCounts}
 use Rattle.history.specs.FollowUps.{followCounts}
@@ -18,10 +18,10 @@ use Rattle.link_history.specs.Fresh.{Watching, alone, watching, Making}
 use Rattle.link_history.specs.Shows.{lostOf, thousandthsFrom}
 use Rattle.link_history.specs.Monitor.{monitorFrom}
 use Rattle.link_history.specs.Link.{servedFrom}
-use Rattle.link_log.specs.declared.Settings.{Settings}
-use Rattle.link_log.specs.declared.Played.{Played}
-use Rattle.link_log.specs.declared.Played.the-variants as read
-use Rattle.link_log.specs.Logs.{callAt}
+use Rattle.log_whole.specs.declared.Settings.{Settings}
+use Rattle.log_whole.specs.declared.PlayedCall.{PlayedCall}
+use Rattle.log_whole.specs.declared.PlayedCall.the-variants as read
+use Rattle.log_whole.specs.Logs.{callAt}
 use Rattle.report.specs.declared.figures.Session.{Session}
 use Rattle.report.specs.declared.figures.Session.the-variants as session
 use Rattle.report.specs.declared.figures.Figures.{Figures}
@@ -30,7 +30,7 @@ use Rattle.link_figures.specs.Figures.{sessionBy, figureOf, followupOf, directO
 -- ---- the calls of a log
 
 -- what one record says, before the calls of the earlier ones; nothing adds no call
-abbrev pub callThen : Played → List Call → List Call
+abbrev pub callThen : PlayedCall → List Call → List Call
 callThen read.Nothing cs = cs
 callThen (read.Call c) cs = c ∷ cs
 
@@ -47,7 +47,7 @@ watchingBy zero timeout = alone
 watchingBy (suc n) timeout = watching (suc n) timeout
 
 -- copies, threshold and timeout of the trailer, with any words of the hash, rooms and queue
-abbrev pub makingBy : Settings → List ℕ → List Probe → Rooms → Making
+abbrev pub makingBy : Settings → List ℕ → List QueuedProbe → Rooms → Making
 makingBy s secret queue rooms = record { copies = s .copies; secret = secret; monitor = watchingBy (s .threshold) (s .timeout); rooms = rooms; queue = queue }
 
 -- ---- the figures, from the served calls h

@@ -11,7 +11,7 @@ use borrow.Fn.Kinds as Kinds'
 use denote.Triple.Clauses as Clauses
 use denote.Ref.{now}
 use Rattle.floats.proofs.Determined.{OneAnswer}
-use Rattle.scope.specs.Refusals.{wrongRoom, countsFull}
+use Rattle.limits.specs.Refusals.{wrongRoom, countsFull}
 use Rattle.quantiles.specs.declared.Quantiles.{Quantiles}
 use Rattle.quantiles.specs.Record.{Outcome, still, taken, refuses, pickOutcome, recorded}
 use Rattle.quantiles.proofs.Determined.{refusal-changes-nothing, false-changes-nothing}

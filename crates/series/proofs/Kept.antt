@@ -10,7 +10,7 @@ use lib.IntN.{ℤ, pos, negsuc, negℤ, _+ℤ_}
 use mir.Syntax.{w64}
 use mir.Val.{toZ, sel}
 use Rattle.buckets.proofs.Facts.{lt-or-ge}
-use Rattle.scope.specs.Limits.{sumBound}
+use Rattle.limits.specs.Limits.{sumBound}
 use Rattle.floats.specs.Whole.{magnitude, signed}
 use Rattle.delays.specs.declared.Sum.{Sum}
 use Rattle.delays.specs.Sums.{totalOf, sumFrom, sumOf}

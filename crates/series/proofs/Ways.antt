@@ -7,8 +7,8 @@ use borrow.Author.Tests.{lt-ltb, le-ltb, eq-eqb, ne-eqb}
 use lib.Dec.{ltb, eqb}
 use lib.ListN.{length, getD}
 use Rattle.buckets.specs.Signed.{bucketCount, indexOf}
-use Rattle.scope.specs.Refusals.{wrongRoom, countsFull}
-use Rattle.scope.specs.Limits.{capacity}
+use Rattle.limits.specs.Refusals.{wrongRoom, countsFull}
+use Rattle.limits.specs.Limits.{capacity}
 use Rattle.quantiles.specs.declared.Quantiles.{Quantiles}
 use Rattle.quantiles.specs.declared.Recording.{Recording}
 use Rattle.quantiles.specs.declared.Recording.the-variants as recording

@@ -4,8 +4,8 @@ use mathlib.Core.Bool.{Bool, true, false, not}
 use mathlib.Core.List.{List}
 use Prim.Native.Nat.{ℕ}
 use lib.Dec.{ltb}
-use Rattle.scope.specs.Refusals.{wrongRoom, countsFull}
-use Rattle.scope.specs.Limits.{sumBound}
+use Rattle.limits.specs.Refusals.{wrongRoom, countsFull}
+use Rattle.limits.specs.Limits.{sumBound}
 use Rattle.floats.specs.Whole.{magnitude}
 use Rattle.delays.specs.declared.Sum.{Sum}
 use Rattle.quantiles.specs.declared.Quantiles.{Quantiles}

@@ -136,7 +136,7 @@ fn refused_beside(q: Quantiles, room: &mut [u64], value: u64) -> Sampling
         return Sampling::SumsFull;
     }
     let place = buckets::bucket_of(q.signed, value);
-    let at = scope::CAPACITY + place;
+    let at = limits::CAPACITY + place;
     let block = quantiles::totals_start(q.signed) + place / 128;
     if room[at] == MOST {
         return Sampling::Refused;

@@ -9,7 +9,7 @@ use lib.Dec.{T, ltb, eqb, ltb→lt}
 use lib.IntN.{ℤ, pos, negsuc, negℤ, _+ℤ_, _-ℤ_}
 use lib.Ieee.{Float, binary64, ofInt, add, sub, mul, div}
 use lib.Ieee.Fits.{and-l, and-r}
-use Rattle.scope.specs.Limits.{countBound, sumBound}
+use Rattle.limits.specs.Limits.{countBound, sumBound}
 use Rattle.floats.specs.Whole.{magnitude, signed}
 use Rattle.delays.specs.declared.Nanoseconds.{Nanoseconds}
 use Rattle.delays.specs.declared.Sum.{Sum}

@@ -2,7 +2,7 @@
 use mathlib.Core.Bool.{Bool, true, false, cond}
 use mathlib.Core.List.{List}
 use Prim.Native.Nat.{ℕ}
-use Rattle.scope.specs.Refusals.{wrongRoom, countsFull}
+use Rattle.limits.specs.Refusals.{wrongRoom, countsFull}
 use Rattle.series.specs.Series.{recordedBeside}
 use Rattle.spread.specs.declared.RttCollector.{RttCollector}
 use Rattle.spread.specs.declared.Recording.{Recording}

@@ -5,7 +5,7 @@ use Prim.Native.Nat.{ℕ, _+_, _-_}
 use lib.Dec.{ltb, eqb}
 use lib.IntN.{ℤ, pos, _+ℤ_, _-ℤ_}
 use lib.Ieee.{Float, binary64, ofInt, add, sub, mul, div}
-use Rattle.scope.specs.Limits.{countBound}
+use Rattle.limits.specs.Limits.{countBound}
 use Rattle.delays.specs.declared.Sum.{Sum}
 use Rattle.delays.specs.Sums.{totalOf, sumOf}
 use Rattle.buckets.specs.Buckets.{pick}

@@ -143,7 +143,7 @@ impl RttCollector {
         let sum = self.sum;
         let jitter = self.jitter;
         let differences = jitter.sum;
-        series::sum_fits(sum) & series::sum_fits(differences) & (jitter.count < scope::COUNT_BOUND)
+        series::sum_fits(sum) & series::sum_fits(differences) & (jitter.count < limits::COUNT_BOUND)
     }
 
     // One sample more, once the quantiles have it.

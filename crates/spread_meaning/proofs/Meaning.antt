@@ -9,7 +9,7 @@ use borrow.Author.Tests.{eq-eqb, ne-eqb, ltb-true, ltb-false}
 use lib.Dec.{eqb, ltb}
 use lib.IntN.{ℤ, pos, _+ℤ_}
 use lib.ListN.{length}
-use Rattle.scope.specs.Refusals.{wrongRoom, countsFull}
+use Rattle.limits.specs.Refusals.{wrongRoom, countsFull}
 use Rattle.delays.specs.declared.Sum.{Sum}
 use Rattle.delays.specs.Sums.{totalOf, sumOf}
 use Rattle.delays.specs.Shown.{total-back}

@@ -11,7 +11,7 @@ use lib.IntN.{ℤ, _+ℤ_}
 use lib.ListN.{length}
 use mir.Syntax.{w64}
 use mir.Val.{toZ}
-use Rattle.scope.specs.Refusals.{wrongRoom}
+use Rattle.limits.specs.Refusals.{wrongRoom}
 use Rattle.delays.specs.Sums.{totalOf, sumOf}
 use Rattle.delays.specs.Shown.{total-back}
 use Rattle.buckets.specs.Buckets.{pick}

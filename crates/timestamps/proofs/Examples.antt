@@ -3,7 +3,7 @@ use mathlib.Core.Path.{_≡_, refl}
 use Prim.Native.Nat.{ℕ, _+_, _*_}
 use lib.IntN.{pos, negsuc, _+ℤ_}
 use Rattle.estimate.specs.declared.ClockFormat.the-variants.{NTP, PTP}
-use Rattle.calls.specs.declared.Time.the-variants.{Absent, Nanoseconds}
+use Rattle.call_types.specs.declared.Time.the-variants.{Absent, Nanoseconds}
 use Rattle.timestamps.specs.Conversion.{era}
 use Rattle.timestamps.specs.Converted.{secondNear, converted}
 

@@ -5,8 +5,8 @@ use mathlib.Core.Option.{Option, none, some}
 use Prim.Native.Nat.{ℕ, _-_, _%_}
 use lib.IntN.{ℤ, pos, negsuc, _+ℤ_, _-ℤ_, _*ℤ_}
 use Rattle.estimate.specs.declared.ClockFormat.{ClockFormat}
-use Rattle.calls.specs.declared.Time.{Time}
-use Rattle.calls.specs.declared.Time.the-variants as time
+use Rattle.call_types.specs.declared.Time.{Time}
+use Rattle.call_types.specs.declared.Time.the-variants as time
 use Rattle.ranges.specs.Ranges.{timeWithin}
 use Rattle.timestamps.specs.Conversion.{era, halfEra, billion, wireSecond, wireNanoseconds}
 

@@ -2,7 +2,7 @@
 use mathlib.Core.Path.{sym, ap, _∙_}
 use borrow.Author.Needs.{needs}
 use borrow.Author.Tests.{lt-ltb, le-ltb}
-use Rattle.scope_requests.specs.Refusals.{mostPadding}
+use Rattle.request_limits.specs.Refusals.{mostPadding}
 use Rattle.bit_observation.specs.Observation.{ending, observed}
 use Rattle.bit_observation.proofs.observation.Statement.{statement}
 use Rattle.bit_observation.proofs.observation.Tie as tie

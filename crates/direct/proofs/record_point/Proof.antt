@@ -3,8 +3,8 @@ use mathlib.Core.Path.{_≡_, refl, sym, ap, _∙_, subst}
 use mathlib.Core.Bool.{Bool, true, false}
 use Prim.Native.Nat.{ℕ, _≤_}
 use borrow.Author.Tests.{eq-eqb, ne-eqb}
-use Rattle.scope.specs.Limits.{capacity}
-use Rattle.calls.specs.declared.Ordinal.{Ordinal}
+use Rattle.limits.specs.Limits.{capacity}
+use Rattle.call_types.specs.declared.Ordinal.{Ordinal}
 use Rattle.direct.specs.declared.Window.{Window}
 use Rattle.direct.specs.Outcomes.{recorded, byOrdinal, inWindow, seenIn}
 use borrow.Author.Needs.{needs}

@@ -2,8 +2,8 @@
 use mathlib.Core.Path.{_≡_, refl, sym, ap, _∙_, subst}
 use mathlib.Core.Bool.{Bool, true, false}
 use Prim.Native.Nat.{ℕ, _≤_}
-use Rattle.scope.specs.Limits.{capacity}
-use Rattle.calls.specs.declared.Ordinal.{Ordinal}
+use Rattle.limits.specs.Limits.{capacity}
+use Rattle.call_types.specs.declared.Ordinal.{Ordinal}
 use Rattle.direct.specs.declared.Window.{Window}
 use Rattle.direct.specs.Outcomes.{soughtIn}
 use borrow.Author.Needs.{needs}

@@ -1,6 +1,6 @@
 -- `host_accept_words::other` meets its contract. Assumes nothing.
 use mathlib.Core.Path.{sym, subst}
-use Rattle.scope.specs.Limits.{capacity}
+use Rattle.limits.specs.Limits.{capacity}
 use Rattle.chains.specs.Rings.{RingFits}
 use Rattle.host_ledger.specs.Parts.{repliesAt}
 use Rattle.host_ledger.specs.Words.{ledgerAt}

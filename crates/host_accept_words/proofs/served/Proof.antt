@@ -1,7 +1,7 @@
 -- `host_accept_words::served` meets its contract. Assumes nothing.
 use mathlib.Core.Path.{sym, subst}
 use Prim.Native.Nat.{ℕ, _≤_}
-use Rattle.scope.specs.Limits.{capacity}
+use Rattle.limits.specs.Limits.{capacity}
 use Rattle.chains.specs.Rings.{RingFits}
 use Rattle.host_ledger.specs.Parts.{repliesAt}
 use Rattle.host_ledger.specs.Words.{ledgerAt}

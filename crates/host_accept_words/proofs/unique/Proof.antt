@@ -1,6 +1,6 @@
 -- `host_accept_words::unique` meets its contract. Assumes nothing.
 use mathlib.Core.Path.{sym, subst}
-use Rattle.scope.specs.Limits.{capacity}
+use Rattle.limits.specs.Limits.{capacity}
 use Rattle.chains.specs.Rings.{RingFits}
 use Rattle.host_accept_words.proofs.Steps.{unique-as}
 use borrow.Author.Needs.{needs}

@@ -1,6 +1,6 @@
 -- `host_accept_words::unique_ready` meets its contract. Assumes nothing.
 use mathlib.Core.Path.{sym, subst}
-use Rattle.scope.specs.Limits.{capacity}
+use Rattle.limits.specs.Limits.{capacity}
 use Rattle.chains.specs.Rings.{RingFits}
 use Rattle.probe_ring.specs.Rooms.{outcome}
 use Rattle.host_accept_words.proofs.Steps.{unique-left}

@@ -1,7 +1,7 @@
 -- `host_log_write::ambrulicciu_log_write_accept` meets its contract. Assumes nothing.
 use mathlib.Core.Path.{ap, _∙_}
 use denote.Ref.{now}
-use Rattle.calls.specs.declared.Pending.{Pending}
+use Rattle.call_types.specs.declared.Pending.{Pending}
 use Rattle.record_parts.specs.declared.Entry.the-variants as entry
 use Rattle.log_record.specs.Records.{writtenTo}
 use borrow.Author.Needs.{needs}

@@ -1,8 +1,8 @@
 -- `host_log_write::ambrulicciu_log_write_observe` meets its contract. Assumes nothing.
 use mathlib.Core.Path.{ap, _∙_}
 use denote.Ref.{now}
-use Rattle.calls.specs.declared.ReplyObservation.{ReplyObservation}
-use Rattle.calls.specs.declared.Time.the-variants.{Absent}
+use Rattle.call_types.specs.declared.ReplyObservation.{ReplyObservation}
+use Rattle.call_types.specs.declared.Time.the-variants.{Absent}
 use Rattle.record_parts.specs.declared.Entry.the-variants as entry
 use Rattle.log_record.specs.Records.{writtenTo}
 use borrow.Author.Needs.{needs}

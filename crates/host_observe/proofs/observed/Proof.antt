@@ -1,7 +1,7 @@
 -- `host_observe::observed` meets its contract. Assumes nothing.
 use mathlib.Core.Path.{refl, sym, ap, subst, _∙_}
 use denote.Ref.{now}
-use Rattle.scope.specs.Limits.{capacity}
+use Rattle.limits.specs.Limits.{capacity}
 use Rattle.chains.specs.Hash.{numberHash}
 use Rattle.chains.specs.Rings.{RingFits}
 use Rattle.key_ring.specs.Table.{hashOf}

@@ -2,7 +2,7 @@
 use mathlib.Core.Path.{sym, ap, subst, _∙_}
 use mathlib.Core.Bool.{true, _&&_}
 use denote.Ref.{now}
-use Rattle.scope.specs.Limits.{capacity}
+use Rattle.limits.specs.Limits.{capacity}
 use Rattle.chains.specs.Rings.{RingFits}
 use Rattle.key_ring.specs.Table.{newestIs}
 use Rattle.ranges.specs.Ranges.{inRange}

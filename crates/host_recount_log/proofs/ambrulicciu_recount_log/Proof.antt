@@ -5,7 +5,7 @@ use Rattle.host_recount_log.proofs.ambrulicciu_recount_log.Statement.{s
 use Rattle.host_recount_log.proofs.ambrulicciu_recount_log.Tie as tie
 use Rattle.host_recount_log.proofs.ambrulicciu_recount_log.Reads as reads
 use Rattle.host_recount_log.proofs.ambrulicciu_recount_log.Lts as lts
-use Rattle.host_told.proofs.tell.Reads as tell-reads
+use Rattle.host_report_answer.proofs.tell.Reads as tell-reads
 use Rattle.recount.proofs.recount_log.Reads as recount-log-reads
 
 recount-log-requires : tie.Need-recount-log-requires

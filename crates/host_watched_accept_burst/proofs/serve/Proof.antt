@@ -44,9 +44,9 @@ use Rattle.walking.proofs.Lent.{lent-at, sliced, slice-to, slice-back, seen-to,
 use denote.Steps.{only}
 use Rattle.walking.proofs.LentArray.{array-to, array-back}
 use Rattle.walking.proofs.Calls.{asks, holds, twice, calls-plain, calls-gave, big-lit}
-use Rattle.probe_queue.specs.declared.Probe.{Probe}
-use Rattle.probe_queue.proofs.Probe as Probe-row
-use Rattle.probe_queue.proofs.Probe.Laws as Probe-laws
+use Rattle.probe_queue.specs.declared.QueuedProbe.{QueuedProbe}
+use Rattle.probe_queue.proofs.QueuedProbe as QueuedProbe-row
+use Rattle.probe_queue.proofs.QueuedProbe.Laws as QueuedProbe-laws
 use Rattle.ledger_watched.specs.declared.WatchedAccept.{WatchedAccept}
 use Rattle.ledger_watched.proofs.WatchedAccept as WatchedAccept-row
 use Rattle.ledger_watched.proofs.WatchedAccept.Laws as WatchedAccept-laws
@@ -56,9 +56,9 @@ use Rattle.monitor.proofs.Monitor.Laws as Monitor-laws
 use Rattle.ledger_state.specs.declared.Ledger.{Ledger}
 use Rattle.ledger_state.proofs.Ledger as Ledger-row
 use Rattle.ledger_state.proofs.Ledger.Laws as Ledger-laws
-use Rattle.calls.specs.declared.Reply.{Reply}
-use Rattle.calls.proofs.Reply as Reply-row
-use Rattle.calls.proofs.Reply.Laws as Reply-laws
+use Rattle.call_types.specs.declared.Reply.{Reply}
+use Rattle.call_types.proofs.Reply as Reply-row
+use Rattle.call_types.proofs.Reply.Laws as Reply-laws
 use Rattle.host_watched_accept_burst.proofs.Serving.{all-served}
 use Rattle.host_burst.proofs.reply_at as reply-at-fn
 use Rattle.host_burst.proofs.reply_at.Symbol as reply-at-def
@@ -123,7 +123,7 @@ over Reply-τ Ledger-τ Monitor-τ WatchedAccept-τ = record {
 }
 
 abbrev stayed : Stays (f.ended .signature .params) (f.ended .kept)
-stayed = (stay-ref (0 ∷ []) tt (ArrayOf (plain (λ _. u64)) (λ _. tt) 80), (stay-ref (1 ∷ []) tt (ArrayOf (plain (λ _. u64)) (λ _. tt) 12), (stay-slice (2 ∷ []) tt (ArrayOf (plain (λ _. u64)) (λ _. tt) 2), (stay-slice (3 ∷ []) tt (ArrayOf (plain (λ _. u64)) (λ _. tt) 3), (stay-slice (4 ∷ []) tt (ArrayOf (plain (λ _. u64)) (λ _. tt) 4), (stay-slice (5 ∷ []) tt (ArrayOf (plain (λ _. u16)) (λ _. tt) 8), (stay-slice (6 ∷ []) tt (plain (λ _. Probe-row.the-row)), (stay-dropped (shrSliceOf (7 ∷ []) tt (ArrayOf (plain (λ _. u64)) (λ _. tt) 5)) yes, (stay-none (λ _. u64) yes, (stay-slice (8 ∷ []) tt (ArrayOf (plain (λ _. u64)) (λ _. tt) 7), (stay-none (λ _. u8) yes, tt)))))))))))
+stayed = (stay-ref (0 ∷ []) tt (ArrayOf (plain (λ _. u64)) (λ _. tt) 80), (stay-ref (1 ∷ []) tt (ArrayOf (plain (λ _. u64)) (λ _. tt) 12), (stay-slice (2 ∷ []) tt (ArrayOf (plain (λ _. u64)) (λ _. tt) 2), (stay-slice (3 ∷ []) tt (ArrayOf (plain (λ _. u64)) (λ _. tt) 3), (stay-slice (4 ∷ []) tt (ArrayOf (plain (λ _. u64)) (λ _. tt) 4), (stay-slice (5 ∷ []) tt (ArrayOf (plain (λ _. u16)) (λ _. tt) 8), (stay-slice (6 ∷ []) tt (plain (λ _. QueuedProbe-row.the-row)), (stay-dropped (shrSliceOf (7 ∷ []) tt (ArrayOf (plain (λ _. u64)) (λ _. tt) 5)) yes, (stay-none (λ _. u64) yes, (stay-slice (8 ∷ []) tt (ArrayOf (plain (λ _. u64)) (λ _. tt) 7), (stay-none (λ _. u8) yes, tt)))))))))))
 
 -- the contracts that the proof cites
 module _ {X : Type 1} (𝓤 : URA X) (H : Heap 𝓤) (A : Atoms 𝓤) (mem : Memory → SProp 𝓤) (run : Routine → Fun 𝓤) where
@@ -157,18 +157,18 @@ module _ {X : Type 1} (𝓤 : URA X) (H : Heap 𝓤) (A : Atoms 𝓤) (mem : Mem
   abbrev Known : Calls 𝓤 H → Type 1
   Known C = Triple 𝓤 (C reply-at-def.name) reply-at-call × (Triple 𝓤 (C load-def.name) load-call × (Triple 𝓤 (C load2-def.name) load2-call × (Triple 𝓤 (C accept-def.name) accept-call × (Triple 𝓤 (C store-given-def.name) store-given-call × (Triple 𝓤 (C number-of-def.name) number-of-call × (Triple 𝓤 (C words-of-def.name) words-of-call × (Triple 𝓤 (C put-row-def.name) put-row-call × (Triple 𝓤 (C told-def.name) told-call))))))))
 
-module _ {X : Type 1} (𝓤 : URA X) (H : Heap 𝓤) (A : Atoms 𝓤) (W : Given 𝓤 H A) (mem : Memory → SProp 𝓤) (run : Routine → Fun 𝓤) (κ0 κ1 κ2 κ3 κ4 κ5 κ6 κ7 κ8 : Lft) (q0 q1 q2 q3 q4 q5 q6 q7 q8 : Share) (ledger-b ledger-o : ℕ) (ledger-γ : GName) (ledger-x : (List ℕ)) (monitor-b monitor-o : ℕ) (monitor-γ : GName) (monitor-x : (List ℕ)) (keys-b keys-o : ℕ) (keys-γ : GName) (keys-x : List (List ℕ)) (slots-b slots-o : ℕ) (slots-γ : GName) (slots-x : List (List ℕ)) (probes-b probes-o : ℕ) (probes-γ : GName) (probes-x : List (List ℕ)) (links-b links-o : ℕ) (links-γ : GName) (links-x : List (List ℕ)) (queue-b queue-o : ℕ) (queue-γ : GName) (queue-x : List Probe) (entries-b entries-o : ℕ) (entries-γ : GName) (entries-x : List (List ℕ)) (count-x : ℕ) (answers-b answers-o : ℕ) (answers-γ : GName) (answers-x : List (List ℕ)) (refusal-x : ℕ)
-    (keys-room : Room (Array u64 2) (length keys-x)) (slots-room : Room (Array u64 3) (length slots-x)) (probes-room : Room (Array u64 4) (length probes-x)) (links-room : Room (Array u16 8) (length links-x)) (queue-room : Room Probe-row.the-row (length queue-x)) (entries-room : Room (Array u64 5) (length entries-x)) (answers-room : Room (Array u64 7) (length answers-x)) (count-is : Is u64 count-x ((vint w64 count-x) ∷ [])) (refusal-is : Is u8 refusal-x ((vint w8 refusal-x) ∷ [])) where
+module _ {X : Type 1} (𝓤 : URA X) (H : Heap 𝓤) (A : Atoms 𝓤) (W : Given 𝓤 H A) (mem : Memory → SProp 𝓤) (run : Routine → Fun 𝓤) (κ0 κ1 κ2 κ3 κ4 κ5 κ6 κ7 κ8 : Lft) (q0 q1 q2 q3 q4 q5 q6 q7 q8 : Share) (ledger-b ledger-o : ℕ) (ledger-γ : GName) (ledger-x : (List ℕ)) (monitor-b monitor-o : ℕ) (monitor-γ : GName) (monitor-x : (List ℕ)) (keys-b keys-o : ℕ) (keys-γ : GName) (keys-x : List (List ℕ)) (slots-b slots-o : ℕ) (slots-γ : GName) (slots-x : List (List ℕ)) (probes-b probes-o : ℕ) (probes-γ : GName) (probes-x : List (List ℕ)) (links-b links-o : ℕ) (links-γ : GName) (links-x : List (List ℕ)) (queue-b queue-o : ℕ) (queue-γ : GName) (queue-x : List QueuedProbe) (entries-b entries-o : ℕ) (entries-γ : GName) (entries-x : List (List ℕ)) (count-x : ℕ) (answers-b answers-o : ℕ) (answers-γ : GName) (answers-x : List (List ℕ)) (refusal-x : ℕ)
+    (keys-room : Room (Array u64 2) (length keys-x)) (slots-room : Room (Array u64 3) (length slots-x)) (probes-room : Room (Array u64 4) (length probes-x)) (links-room : Room (Array u16 8) (length links-x)) (queue-room : Room QueuedProbe-row.the-row (length queue-x)) (entries-room : Room (Array u64 5) (length entries-x)) (answers-room : Room (Array u64 7) (length answers-x)) (count-is : Is u64 count-x ((vint w64 count-x) ∷ [])) (refusal-is : Is u8 refusal-x ((vint w8 refusal-x) ∷ [])) where
   abbrev vals : List Val × (List Val × (List Val × (List Val × (List Val × (List Val × (List Val × (List Val × (List Val × (List Val × (List Val × (Unit {0})))))))))))
   vals = ((vptr ledger-b ledger-o ∷ []), ((vptr monitor-b monitor-o ∷ []), ((sliced keys-b keys-o (length keys-x)), ((sliced slots-b slots-o (length slots-x)), ((sliced probes-b probes-o (length probes-x)), ((sliced links-b links-o (length links-x)), ((sliced queue-b queue-o (length queue-x)), ((sliced entries-b entries-o (length entries-x)), ((vint w64 count-x) ∷ [], ((sliced answers-b answers-o (length answers-x)), ((vint w8 refusal-x) ∷ [], tt)))))))))))
 
   abbrev Post : Val → SProp 𝓤
   Post = walkOf 𝓤 H A f.ended stayed (f.clauses 𝓤 H A mem run) .post (((κ0, (κ1, (κ2, (κ3, (κ4, (κ5, (κ6, (κ7, (κ8, tt))))))))), (q0, (q1, (q2, (q3, (q4, (q5, (q6, (q7, (q8, tt))))))))), tt, (lent-at ledger-b ledger-o ledger-γ ledger-x, (lent-at monitor-b monitor-o monitor-γ monitor-x, (lent-at keys-b keys-o keys-γ keys-x, (lent-at slots-b slots-o slots-γ slots-x, (lent-at probes-b probes-o probes-γ probes-x, (lent-at links-b links-o links-γ links-x, (lent-at queue-b queue-o queue-γ queue-x, (lent-at entries-b entries-o entries-γ entries-x, (count-x, (lent-at answers-b answers-o answers-γ answers-x, (refusal-x, tt))))))))))), vals), tt)
 
-  exits : (r : ℕ) (v : Val) (ledger-z : (List ℕ)) (monitor-z : (List ℕ)) (keys-z : List (List ℕ)) (keys-l : length keys-z ≡ length keys-x) (slots-z : List (List ℕ)) (slots-l : length slots-z ≡ length slots-x) (probes-z : List (List ℕ)) (probes-l : length probes-z ≡ length probes-x) (links-z : List (List ℕ)) (links-l : length links-z ≡ length links-x) (queue-z : List Probe) (queue-l : length queue-z ≡ length queue-x) (answers-z : List (List ℕ)) (answers-l : length answers-z ≡ length answers-x) → ent 𝓤 (emp 𝓤) (f.clauses 𝓤 H A mem run (κ0, (κ1, (κ2, (κ3, (κ4, (κ5, (κ6, (κ7, (κ8, tt))))))))) (lent-at ledger-b ledger-o ledger-γ ledger-x, (lent-at monitor-b monitor-o monitor-γ monitor-x, (lent-at keys-b keys-o keys-γ keys-x, (lent-at slots-b slots-o slots-γ slots-x, (lent-at probes-b probes-o probes-γ probes-x, (lent-at links-b links-o links-γ links-x, (lent-at queue-b queue-o queue-γ queue-x, (lent-at entries-b entries-o entries-γ entries-x, (count-x, (lent-at answers-b answers-o answers-γ answers-x, (refusal-x, tt))))))))))) .ensures tt r (atExit f.ended (κ0, (κ1, (κ2, (κ3, (κ4, (κ5, (κ6, (κ7, (κ8, tt))))))))) (lent-at ledger-b ledger-o ledger-γ ledger-x, (lent-at monitor-b monitor-o monitor-γ monitor-x, (lent-at keys-b keys-o keys-γ keys-x, (lent-at slots-b slots-o slots-γ slots-x, (lent-at probes-b probes-o probes-γ probes-x, (lent-at links-b links-o links-γ links-x, (lent-at queue-b queue-o queue-γ queue-x, (lent-at entries-b entries-o entries-γ entries-x, (count-x, (lent-at answers-b answers-o answers-γ answers-x, (refusal-x, tt))))))))))) (ledger-z, (monitor-z, (keys-z, (slots-z, (probes-z, (links-z, (queue-z, (tt, (tt, (answers-z, (tt, tt))))))))))))) → Is u8 r (v ∷ [])
-      → ent 𝓤 (⋆ 𝓤 H A (‵ (flft κ0 q0) ∷ ‵ (MutRef (named 0) κ0 (Array u64 80) .own (lent-at ledger-b ledger-o ledger-γ ledger-z) (vptr ledger-b ledger-o ∷ [])) ∷ ‵ (flft κ1 q1) ∷ ‵ (MutRef (named 1) κ1 (Array u64 12) .own (lent-at monitor-b monitor-o monitor-γ monitor-z) (vptr monitor-b monitor-o ∷ [])) ∷ ‵ (flft κ2 q2) ∷ ‵ (MutSlice (named 2) κ2 (Array u64 2) .own (lent-at keys-b keys-o keys-γ keys-z) (sliced keys-b keys-o (length keys-x))) ∷ ‵ (flft κ3 q3) ∷ ‵ (MutSlice (named 3) κ3 (Array u64 3) .own (lent-at slots-b slots-o slots-γ slots-z) (sliced slots-b slots-o (length slots-x))) ∷ ‵ (flft κ4 q4) ∷ ‵ (MutSlice (named 4) κ4 (Array u64 4) .own (lent-at probes-b probes-o probes-γ probes-z) (sliced probes-b probes-o (length probes-x))) ∷ ‵ (flft κ5 q5) ∷ ‵ (MutSlice (named 5) κ5 (Array u16 8) .own (lent-at links-b links-o links-γ links-z) (sliced links-b links-o (length links-x))) ∷ ‵ (flft κ6 q6) ∷ ‵ (MutSlice (named 6) κ6 Probe-row.the-row .own (lent-at queue-b queue-o queue-γ queue-z) (sliced queue-b queue-o (length queue-x))) ∷ ‵ (flft κ7 q7) ∷ ‵ (flft κ8 q8) ∷ ‵ (MutSlice (named 8) κ8 (Array u64 7) .own (lent-at answers-b answers-o answers-γ answers-z) (sliced answers-b answers-o (length answers-x))) ∷ [])) (Post v)
+  exits : (r : ℕ) (v : Val) (ledger-z : (List ℕ)) (monitor-z : (List ℕ)) (keys-z : List (List ℕ)) (keys-l : length keys-z ≡ length keys-x) (slots-z : List (List ℕ)) (slots-l : length slots-z ≡ length slots-x) (probes-z : List (List ℕ)) (probes-l : length probes-z ≡ length probes-x) (links-z : List (List ℕ)) (links-l : length links-z ≡ length links-x) (queue-z : List QueuedProbe) (queue-l : length queue-z ≡ length queue-x) (answers-z : List (List ℕ)) (answers-l : length answers-z ≡ length answers-x) → ent 𝓤 (emp 𝓤) (f.clauses 𝓤 H A mem run (κ0, (κ1, (κ2, (κ3, (κ4, (κ5, (κ6, (κ7, (κ8, tt))))))))) (lent-at ledger-b ledger-o ledger-γ ledger-x, (lent-at monitor-b monitor-o monitor-γ monitor-x, (lent-at keys-b keys-o keys-γ keys-x, (lent-at slots-b slots-o slots-γ slots-x, (lent-at probes-b probes-o probes-γ probes-x, (lent-at links-b links-o links-γ links-x, (lent-at queue-b queue-o queue-γ queue-x, (lent-at entries-b entries-o entries-γ entries-x, (count-x, (lent-at answers-b answers-o answers-γ answers-x, (refusal-x, tt))))))))))) .ensures tt r (atExit f.ended (κ0, (κ1, (κ2, (κ3, (κ4, (κ5, (κ6, (κ7, (κ8, tt))))))))) (lent-at ledger-b ledger-o ledger-γ ledger-x, (lent-at monitor-b monitor-o monitor-γ monitor-x, (lent-at keys-b keys-o keys-γ keys-x, (lent-at slots-b slots-o slots-γ slots-x, (lent-at probes-b probes-o probes-γ probes-x, (lent-at links-b links-o links-γ links-x, (lent-at queue-b queue-o queue-γ queue-x, (lent-at entries-b entries-o entries-γ entries-x, (count-x, (lent-at answers-b answers-o answers-γ answers-x, (refusal-x, tt))))))))))) (ledger-z, (monitor-z, (keys-z, (slots-z, (probes-z, (links-z, (queue-z, (tt, (tt, (answers-z, (tt, tt))))))))))))) → Is u8 r (v ∷ [])
+      → ent 𝓤 (⋆ 𝓤 H A (‵ (flft κ0 q0) ∷ ‵ (MutRef (named 0) κ0 (Array u64 80) .own (lent-at ledger-b ledger-o ledger-γ ledger-z) (vptr ledger-b ledger-o ∷ [])) ∷ ‵ (flft κ1 q1) ∷ ‵ (MutRef (named 1) κ1 (Array u64 12) .own (lent-at monitor-b monitor-o monitor-γ monitor-z) (vptr monitor-b monitor-o ∷ [])) ∷ ‵ (flft κ2 q2) ∷ ‵ (MutSlice (named 2) κ2 (Array u64 2) .own (lent-at keys-b keys-o keys-γ keys-z) (sliced keys-b keys-o (length keys-x))) ∷ ‵ (flft κ3 q3) ∷ ‵ (MutSlice (named 3) κ3 (Array u64 3) .own (lent-at slots-b slots-o slots-γ slots-z) (sliced slots-b slots-o (length slots-x))) ∷ ‵ (flft κ4 q4) ∷ ‵ (MutSlice (named 4) κ4 (Array u64 4) .own (lent-at probes-b probes-o probes-γ probes-z) (sliced probes-b probes-o (length probes-x))) ∷ ‵ (flft κ5 q5) ∷ ‵ (MutSlice (named 5) κ5 (Array u16 8) .own (lent-at links-b links-o links-γ links-z) (sliced links-b links-o (length links-x))) ∷ ‵ (flft κ6 q6) ∷ ‵ (MutSlice (named 6) κ6 QueuedProbe-row.the-row .own (lent-at queue-b queue-o queue-γ queue-z) (sliced queue-b queue-o (length queue-x))) ∷ ‵ (flft κ7 q7) ∷ ‵ (flft κ8 q8) ∷ ‵ (MutSlice (named 8) κ8 (Array u64 7) .own (lent-at answers-b answers-o answers-γ answers-z) (sliced answers-b answers-o (length answers-x))) ∷ [])) (Post v)
   exits r v ledger-z monitor-z keys-z keys-l slots-z slots-l probes-z probes-l links-z links-l queue-z queue-l answers-z answers-l so is =
-      qed W (‵ (flft κ0 q0) ∷ ‵ (MutRef (named 0) κ0 (Array u64 80) .own (lent-at ledger-b ledger-o ledger-γ ledger-z) (vptr ledger-b ledger-o ∷ [])) ∷ ‵ (flft κ1 q1) ∷ ‵ (MutRef (named 1) κ1 (Array u64 12) .own (lent-at monitor-b monitor-o monitor-γ monitor-z) (vptr monitor-b monitor-o ∷ [])) ∷ ‵ (flft κ2 q2) ∷ ‵ (MutSlice (named 2) κ2 (Array u64 2) .own (lent-at keys-b keys-o keys-γ keys-z) (sliced keys-b keys-o (length keys-x))) ∷ ‵ (flft κ3 q3) ∷ ‵ (MutSlice (named 3) κ3 (Array u64 3) .own (lent-at slots-b slots-o slots-γ slots-z) (sliced slots-b slots-o (length slots-x))) ∷ ‵ (flft κ4 q4) ∷ ‵ (MutSlice (named 4) κ4 (Array u64 4) .own (lent-at probes-b probes-o probes-γ probes-z) (sliced probes-b probes-o (length probes-x))) ∷ ‵ (flft κ5 q5) ∷ ‵ (MutSlice (named 5) κ5 (Array u16 8) .own (lent-at links-b links-o links-γ links-z) (sliced links-b links-o (length links-x))) ∷ ‵ (flft κ6 q6) ∷ ‵ (MutSlice (named 6) κ6 Probe-row.the-row .own (lent-at queue-b queue-o queue-γ queue-z) (sliced queue-b queue-o (length queue-x))) ∷ ‵ (flft κ7 q7) ∷ ‵ (flft κ8 q8) ∷ ‵ (MutSlice (named 8) κ8 (Array u64 7) .own (lent-at answers-b answers-o answers-γ answers-z) (sliced answers-b answers-o (length answers-x))) ∷ []) ∵ suffices ! _ (ends-at 𝓤 H A f.ended stayed (f.clauses 𝓤 H A mem run) W (((κ0, (κ1, (κ2, (κ3, (κ4, (κ5, (κ6, (κ7, (κ8, tt))))))))), (q0, (q1, (q2, (q3, (q4, (q5, (q6, (q7, (q8, tt))))))))), tt, (lent-at ledger-b ledger-o ledger-γ ledger-x, (lent-at monitor-b monitor-o monitor-γ monitor-x, (lent-at keys-b keys-o keys-γ keys-x, (lent-at slots-b slots-o slots-γ slots-x, (lent-at probes-b probes-o probes-γ probes-x, (lent-at links-b links-o links-γ links-x, (lent-at queue-b queue-o queue-γ queue-x, (lent-at entries-b entries-o entries-γ entries-x, (count-x, (lent-at answers-b answers-o answers-γ answers-x, (refusal-x, tt))))))))))), vals), tt) v r (ledger-z, (monitor-z, (keys-z, (slots-z, (probes-z, (links-z, (queue-z, (tt, (tt, (answers-z, (tt, tt))))))))))) (tt, (tt, (keys-l, (slots-l, (probes-l, (links-l, (queue-l, (tt, (tt, (answers-l, (tt, tt)))))))))))) $ holds ! so $ nothing ! $ move ! (16 ∷ []) $ join ! $ move ! (15 ∷ []) $ join ! $ move ! (13 ∷ []) $ join ! $ move ! (11 ∷ []) $ join ! $ move ! (9 ∷ []) $ join ! $ move ! (7 ∷ []) $ join ! $ move ! (5 ∷ []) $ join ! $ move ! (3 ∷ []) $ join ! $ move ! (1 ∷ []) $ join ! $ frame ! $ nothing ! $ owned ! u8 (Is u8) (uint-makes 𝓤 H A W w8) refusal-x _ refusal-is $ fjoin ! $ move ! (8 ∷ []) $ fjoin ! $ owned ! u64 (Is u64) (uint-makes 𝓤 H A W w64) count-x _ count-is $ fjoin ! $ nothing ! $ fjoin ! $ move ! (7 ∷ []) $ fjoin ! $ move ! (6 ∷ []) $ fjoin ! $ move ! (5 ∷ []) $ fjoin ! $ move ! (4 ∷ []) $ fjoin ! $ move ! (3 ∷ []) $ fjoin ! $ move ! (2 ∷ []) $ fjoin ! $ move ! (1 ∷ []) $ fjoin ! $ frame ! $ owned ! u8 (Is u8) (uint-makes 𝓤 H A W w8) r _ is $ done !
+      qed W (‵ (flft κ0 q0) ∷ ‵ (MutRef (named 0) κ0 (Array u64 80) .own (lent-at ledger-b ledger-o ledger-γ ledger-z) (vptr ledger-b ledger-o ∷ [])) ∷ ‵ (flft κ1 q1) ∷ ‵ (MutRef (named 1) κ1 (Array u64 12) .own (lent-at monitor-b monitor-o monitor-γ monitor-z) (vptr monitor-b monitor-o ∷ [])) ∷ ‵ (flft κ2 q2) ∷ ‵ (MutSlice (named 2) κ2 (Array u64 2) .own (lent-at keys-b keys-o keys-γ keys-z) (sliced keys-b keys-o (length keys-x))) ∷ ‵ (flft κ3 q3) ∷ ‵ (MutSlice (named 3) κ3 (Array u64 3) .own (lent-at slots-b slots-o slots-γ slots-z) (sliced slots-b slots-o (length slots-x))) ∷ ‵ (flft κ4 q4) ∷ ‵ (MutSlice (named 4) κ4 (Array u64 4) .own (lent-at probes-b probes-o probes-γ probes-z) (sliced probes-b probes-o (length probes-x))) ∷ ‵ (flft κ5 q5) ∷ ‵ (MutSlice (named 5) κ5 (Array u16 8) .own (lent-at links-b links-o links-γ links-z) (sliced links-b links-o (length links-x))) ∷ ‵ (flft κ6 q6) ∷ ‵ (MutSlice (named 6) κ6 QueuedProbe-row.the-row .own (lent-at queue-b queue-o queue-γ queue-z) (sliced queue-b queue-o (length queue-x))) ∷ ‵ (flft κ7 q7) ∷ ‵ (flft κ8 q8) ∷ ‵ (MutSlice (named 8) κ8 (Array u64 7) .own (lent-at answers-b answers-o answers-γ answers-z) (sliced answers-b answers-o (length answers-x))) ∷ []) ∵ suffices ! _ (ends-at 𝓤 H A f.ended stayed (f.clauses 𝓤 H A mem run) W (((κ0, (κ1, (κ2, (κ3, (κ4, (κ5, (κ6, (κ7, (κ8, tt))))))))), (q0, (q1, (q2, (q3, (q4, (q5, (q6, (q7, (q8, tt))))))))), tt, (lent-at ledger-b ledger-o ledger-γ ledger-x, (lent-at monitor-b monitor-o monitor-γ monitor-x, (lent-at keys-b keys-o keys-γ keys-x, (lent-at slots-b slots-o slots-γ slots-x, (lent-at probes-b probes-o probes-γ probes-x, (lent-at links-b links-o links-γ links-x, (lent-at queue-b queue-o queue-γ queue-x, (lent-at entries-b entries-o entries-γ entries-x, (count-x, (lent-at answers-b answers-o answers-γ answers-x, (refusal-x, tt))))))))))), vals), tt) v r (ledger-z, (monitor-z, (keys-z, (slots-z, (probes-z, (links-z, (queue-z, (tt, (tt, (answers-z, (tt, tt))))))))))) (tt, (tt, (keys-l, (slots-l, (probes-l, (links-l, (queue-l, (tt, (tt, (answers-l, (tt, tt)))))))))))) $ holds ! so $ nothing ! $ move ! (16 ∷ []) $ join ! $ move ! (15 ∷ []) $ join ! $ move ! (13 ∷ []) $ join ! $ move ! (11 ∷ []) $ join ! $ move ! (9 ∷ []) $ join ! $ move ! (7 ∷ []) $ join ! $ move ! (5 ∷ []) $ join ! $ move ! (3 ∷ []) $ join ! $ move ! (1 ∷ []) $ join ! $ frame ! $ nothing ! $ owned ! u8 (Is u8) (uint-makes 𝓤 H A W w8) refusal-x _ refusal-is $ fjoin ! $ move ! (8 ∷ []) $ fjoin ! $ owned ! u64 (Is u64) (uint-makes 𝓤 H A W w64) count-x _ count-is $ fjoin ! $ nothing ! $ fjoin ! $ move ! (7 ∷ []) $ fjoin ! $ move ! (6 ∷ []) $ fjoin ! $ move ! (5 ∷ []) $ fjoin ! $ move ! (4 ∷ []) $ fjoin ! $ move ! (3 ∷ []) $ fjoin ! $ move ! (2 ∷ []) $ fjoin ! $ move ! (1 ∷ []) $ fjoin ! $ frame ! $ owned ! u8 (Is u8) (uint-makes 𝓤 H A W w8) r _ is $ done !
 
   -- ---- what is passed to each callee
   abbrev to-reply : (i-x : ℕ) (i-v : Val) → reply-at-call 𝓤 H A mem run .Ghost
@@ -189,11 +189,11 @@ module _ {X : Type 1} (𝓤 : URA X) (H : Heap 𝓤) (A : Atoms 𝓤) (W : Given
   ask-watch : (ν1 : ℕ) (δ1 : GName) (monitor-now : (List ℕ)) → ent 𝓤 (⋆ 𝓤 H A (‵ (flft (ν1 ∷ []) fullShare) ∷ ‵ (ShrRef (named 0) (ν1 ∷ []) (Array u64 12) .own (lent-at monitor-b monitor-o δ1 monitor-now) (vptr monitor-b monitor-o ∷ [])) ∷ [])) (load2-call 𝓤 H A mem run .pre (to-watch ν1 δ1 monitor-now))
   ask-watch ν1 δ1 monitor-now = qed W (‵ (flft (ν1 ∷ []) fullShare) ∷ ‵ (ShrRef (named 0) (ν1 ∷ []) (Array u64 12) .own (lent-at monitor-b monitor-o δ1 monitor-now) (vptr monitor-b monitor-o ∷ [])) ∷ []) ∵ nothing ! $ move ! (1 ∷ []) $ join ! $ nothing ! $ move ! (2 ∷ []) $ fjoin ! $ move ! (1 ∷ []) $ join ! $ nothing ! $ move ! (1 ∷ 0 ∷ []) $ done !
 
-  abbrev to-given : (ν1 : ℕ) (δ1 : GName) (ν2 : ℕ) (δ2 : GName) (ν3 : ℕ) (δ3 : GName) (ν4 : ℕ) (δ4 : GName) (ν5 : ℕ) (δ5 : GName) (state-x : Ledger) (state-v : Val) (watch-x : Monitor) (watch-v : Val) (keys-now : List (List ℕ)) (slots-now : List (List ℕ)) (probes-now : List (List ℕ)) (links-now : List (List ℕ)) (queue-now : List Probe) (reply-x : Reply) (reply-v : Val) → accept-call 𝓤 H A mem run .Ghost
+  abbrev to-given : (ν1 : ℕ) (δ1 : GName) (ν2 : ℕ) (δ2 : GName) (ν3 : ℕ) (δ3 : GName) (ν4 : ℕ) (δ4 : GName) (ν5 : ℕ) (δ5 : GName) (state-x : Ledger) (state-v : Val) (watch-x : Monitor) (watch-v : Val) (keys-now : List (List ℕ)) (slots-now : List (List ℕ)) (probes-now : List (List ℕ)) (links-now : List (List ℕ)) (queue-now : List QueuedProbe) (reply-x : Reply) (reply-v : Val) → accept-call 𝓤 H A mem run .Ghost
   to-given ν1 δ1 ν2 δ2 ν3 δ3 ν4 δ4 ν5 δ5 state-x state-v watch-x watch-v keys-now slots-now probes-now links-now queue-now reply-x reply-v = (((ν1 ∷ [], (ν2 ∷ [], (ν3 ∷ [], (ν4 ∷ [], (ν5 ∷ [], tt))))), (fullShare, (fullShare, (fullShare, (fullShare, (fullShare, tt))))), tt, (state-x, (watch-x, (lent-at keys-b keys-o δ1 keys-now, (lent-at slots-b slots-o δ2 slots-now, (lent-at probes-b probes-o δ3 probes-now, (lent-at links-b links-o δ4 links-now, (lent-at queue-b queue-o δ5 queue-now, (reply-x, tt)))))))), (state-v ∷ [], (watch-v ∷ [], ((sliced keys-b keys-o (length keys-x)), ((sliced slots-b slots-o (length slots-x)), ((sliced probes-b probes-o (length probes-x)), ((sliced links-b links-o (length links-x)), ((sliced queue-b queue-o (length queue-x)), (reply-v ∷ [], tt))))))))), tt)
 
-  ask-given : (ν1 : ℕ) (δ1 : GName) (ν2 : ℕ) (δ2 : GName) (ν3 : ℕ) (δ3 : GName) (ν4 : ℕ) (δ4 : GName) (ν5 : ℕ) (δ5 : GName) (state-x : Ledger) (state-v : Val) (state-is : Is Ledger-row.the-row state-x (state-v ∷ [])) (watch-x : Monitor) (watch-v : Val) (watch-is : Is Monitor-row.the-row watch-x (watch-v ∷ [])) (keys-now : List (List ℕ)) (slots-now : List (List ℕ)) (probes-now : List (List ℕ)) (links-now : List (List ℕ)) (queue-now : List Probe) (reply-x : Reply) (reply-v : Val) (reply-is : Is Reply-row.the-row reply-x (reply-v ∷ [])) → ent 𝓤 (⋆ 𝓤 H A (‵ (flft (ν1 ∷ []) fullShare) ∷ ‵ (flft (ν2 ∷ []) fullShare) ∷ ‵ (flft (ν3 ∷ []) fullShare) ∷ ‵ (flft (ν4 ∷ []) fullShare) ∷ ‵ (flft (ν5 ∷ []) fullShare) ∷ ‵ (MutSlice (named 0) (ν1 ∷ []) (Array u64 2) .own (lent-at keys-b keys-o δ1 keys-now) (sliced keys-b keys-o (length keys-x))) ∷ ‵ (MutSlice (named 1) (ν2 ∷ []) (Array u64 3) .own (lent-at slots-b slots-o δ2 slots-now) (sliced slots-b slots-o (length slots-x))) ∷ ‵ (MutSlice (named 2) (ν3 ∷ []) (Array u64 4) .own (lent-at probes-b probes-o δ3 probes-now) (sliced probes-b probes-o (length probes-x))) ∷ ‵ (MutSlice (named 3) (ν4 ∷ []) (Array u16 8) .own (lent-at links-b links-o δ4 links-now) (sliced links-b links-o (length links-x))) ∷ ‵ (MutSlice (named 4) (ν5 ∷ []) Probe-row.the-row .own (lent-at queue-b queue-o δ5 queue-now) (sliced queue-b queue-o (length queue-x))) ∷ [])) (accept-call 𝓤 H A mem run .pre (to-given ν1 δ1 ν2 δ2 ν3 δ3 ν4 δ4 ν5 δ5 state-x state-v watch-x watch-v keys-now slots-now probes-now links-now queue-now reply-x reply-v))
-  ask-given ν1 δ1 ν2 δ2 ν3 δ3 ν4 δ4 ν5 δ5 state-x state-v state-is watch-x watch-v watch-is keys-now slots-now probes-now links-now queue-now reply-x reply-v reply-is = qed W (‵ (flft (ν1 ∷ []) fullShare) ∷ ‵ (flft (ν2 ∷ []) fullShare) ∷ ‵ (flft (ν3 ∷ []) fullShare) ∷ ‵ (flft (ν4 ∷ []) fullShare) ∷ ‵ (flft (ν5 ∷ []) fullShare) ∷ ‵ (MutSlice (named 0) (ν1 ∷ []) (Array u64 2) .own (lent-at keys-b keys-o δ1 keys-now) (sliced keys-b keys-o (length keys-x))) ∷ ‵ (MutSlice (named 1) (ν2 ∷ []) (Array u64 3) .own (lent-at slots-b slots-o δ2 slots-now) (sliced slots-b slots-o (length slots-x))) ∷ ‵ (MutSlice (named 2) (ν3 ∷ []) (Array u64 4) .own (lent-at probes-b probes-o δ3 probes-now) (sliced probes-b probes-o (length probes-x))) ∷ ‵ (MutSlice (named 3) (ν4 ∷ []) (Array u16 8) .own (lent-at links-b links-o δ4 links-now) (sliced links-b links-o (length links-x))) ∷ ‵ (MutSlice (named 4) (ν5 ∷ []) Probe-row.the-row .own (lent-at queue-b queue-o δ5 queue-now) (sliced queue-b queue-o (length queue-x))) ∷ []) ∵ nothing ! $ move ! (5 ∷ []) $ join ! $ move ! (4 ∷ []) $ join ! $ move ! (3 ∷ []) $ join ! $ move ! (2 ∷ []) $ join ! $ move ! (1 ∷ []) $ join ! $ nothing ! $ owned ! Reply-row.the-row (Is Reply-row.the-row) (LL.makes Reply-row.the-type Reply-laws.the-plain 𝓤 H A) reply-x _ reply-is $ fjoin ! $ move ! (6 ∷ []) $ fjoin ! $ move ! (5 ∷ []) $ fjoin ! $ move ! (4 ∷ []) $ fjoin ! $ move ! (3 ∷ []) $ fjoin ! $ move ! (2 ∷ []) $ fjoin ! $ owned ! Monitor-row.the-row (Is Monitor-row.the-row) (LL.makes Monitor-row.the-type Monitor-laws.the-plain 𝓤 H A) watch-x _ watch-is $ fjoin ! $ owned ! Ledger-row.the-row (Is Ledger-row.the-row) (LL.makes Ledger-row.the-type Ledger-laws.the-plain 𝓤 H A) state-x _ state-is $ fjoin ! $ move ! (1 ∷ []) $ join ! $ nothing ! $ move ! (1 ∷ 0 ∷ []) $ done !
+  ask-given : (ν1 : ℕ) (δ1 : GName) (ν2 : ℕ) (δ2 : GName) (ν3 : ℕ) (δ3 : GName) (ν4 : ℕ) (δ4 : GName) (ν5 : ℕ) (δ5 : GName) (state-x : Ledger) (state-v : Val) (state-is : Is Ledger-row.the-row state-x (state-v ∷ [])) (watch-x : Monitor) (watch-v : Val) (watch-is : Is Monitor-row.the-row watch-x (watch-v ∷ [])) (keys-now : List (List ℕ)) (slots-now : List (List ℕ)) (probes-now : List (List ℕ)) (links-now : List (List ℕ)) (queue-now : List QueuedProbe) (reply-x : Reply) (reply-v : Val) (reply-is : Is Reply-row.the-row reply-x (reply-v ∷ [])) → ent 𝓤 (⋆ 𝓤 H A (‵ (flft (ν1 ∷ []) fullShare) ∷ ‵ (flft (ν2 ∷ []) fullShare) ∷ ‵ (flft (ν3 ∷ []) fullShare) ∷ ‵ (flft (ν4 ∷ []) fullShare) ∷ ‵ (flft (ν5 ∷ []) fullShare) ∷ ‵ (MutSlice (named 0) (ν1 ∷ []) (Array u64 2) .own (lent-at keys-b keys-o δ1 keys-now) (sliced keys-b keys-o (length keys-x))) ∷ ‵ (MutSlice (named 1) (ν2 ∷ []) (Array u64 3) .own (lent-at slots-b slots-o δ2 slots-now) (sliced slots-b slots-o (length slots-x))) ∷ ‵ (MutSlice (named 2) (ν3 ∷ []) (Array u64 4) .own (lent-at probes-b probes-o δ3 probes-now) (sliced probes-b probes-o (length probes-x))) ∷ ‵ (MutSlice (named 3) (ν4 ∷ []) (Array u16 8) .own (lent-at links-b links-o δ4 links-now) (sliced links-b links-o (length links-x))) ∷ ‵ (MutSlice (named 4) (ν5 ∷ []) QueuedProbe-row.the-row .own (lent-at queue-b queue-o δ5 queue-now) (sliced queue-b queue-o (length queue-x))) ∷ [])) (accept-call 𝓤 H A mem run .pre (to-given ν1 δ1 ν2 δ2 ν3 δ3 ν4 δ4 ν5 δ5 state-x state-v watch-x watch-v keys-now slots-now probes-now links-now queue-now reply-x reply-v))
+  ask-given ν1 δ1 ν2 δ2 ν3 δ3 ν4 δ4 ν5 δ5 state-x state-v state-is watch-x watch-v watch-is keys-now slots-now probes-now links-now queue-now reply-x reply-v reply-is = qed W (‵ (flft (ν1 ∷ []) fullShare) ∷ ‵ (flft (ν2 ∷ []) fullShare) ∷ ‵ (flft (ν3 ∷ []) fullShare) ∷ ‵ (flft (ν4 ∷ []) fullShare) ∷ ‵ (flft (ν5 ∷ []) fullShare) ∷ ‵ (MutSlice (named 0) (ν1 ∷ []) (Array u64 2) .own (lent-at keys-b keys-o δ1 keys-now) (sliced keys-b keys-o (length keys-x))) ∷ ‵ (MutSlice (named 1) (ν2 ∷ []) (Array u64 3) .own (lent-at slots-b slots-o δ2 slots-now) (sliced slots-b slots-o (length slots-x))) ∷ ‵ (MutSlice (named 2) (ν3 ∷ []) (Array u64 4) .own (lent-at probes-b probes-o δ3 probes-now) (sliced probes-b probes-o (length probes-x))) ∷ ‵ (MutSlice (named 3) (ν4 ∷ []) (Array u16 8) .own (lent-at links-b links-o δ4 links-now) (sliced links-b links-o (length links-x))) ∷ ‵ (MutSlice (named 4) (ν5 ∷ []) QueuedProbe-row.the-row .own (lent-at queue-b queue-o δ5 queue-now) (sliced queue-b queue-o (length queue-x))) ∷ []) ∵ nothing ! $ move ! (5 ∷ []) $ join ! $ move ! (4 ∷ []) $ join ! $ move ! (3 ∷ []) $ join ! $ move ! (2 ∷ []) $ join ! $ move ! (1 ∷ []) $ join ! $ nothing ! $ owned ! Reply-row.the-row (Is Reply-row.the-row) (LL.makes Reply-row.the-type Reply-laws.the-plain 𝓤 H A) reply-x _ reply-is $ fjoin ! $ move ! (6 ∷ []) $ fjoin ! $ move ! (5 ∷ []) $ fjoin ! $ move ! (4 ∷ []) $ fjoin ! $ move ! (3 ∷ []) $ fjoin ! $ move ! (2 ∷ []) $ fjoin ! $ owned ! Monitor-row.the-row (Is Monitor-row.the-row) (LL.makes Monitor-row.the-type Monitor-laws.the-plain 𝓤 H A) watch-x _ watch-is $ fjoin ! $ owned ! Ledger-row.the-row (Is Ledger-row.the-row) (LL.makes Ledger-row.the-type Ledger-laws.the-plain 𝓤 H A) state-x _ state-is $ fjoin ! $ move ! (1 ∷ []) $ join ! $ nothing ! $ move ! (1 ∷ 0 ∷ []) $ done !
 
   abbrev to-store-given : (ν1 : ℕ) (δ1 : GName) (ν2 : ℕ) (δ2 : GName) (ledger-now : (List ℕ)) (monitor-now : (List ℕ)) (given-x : WatchedAccept) (given-v : Val) → store-given-call 𝓤 H A mem run .Ghost
   to-store-given ν1 δ1 ν2 δ2 ledger-now monitor-now given-x given-v = (((ν1 ∷ [], (ν2 ∷ [], tt)), (fullShare, (fullShare, tt)), tt, (lent-at ledger-b ledger-o δ1 ledger-now, (lent-at monitor-b monitor-o δ2 monitor-now, (given-x, tt))), ((vptr ledger-b ledger-o ∷ []), ((vptr monitor-b monitor-o ∷ []), (given-v ∷ [], tt)))), tt)
@@ -228,7 +228,7 @@ module _ {X : Type 1} (𝓤 : URA X) (H : Heap 𝓤) (A : Atoms 𝓤) (W : Given
   module _ (Reply-τ Ledger-τ Monitor-τ WatchedAccept-τ : Ty) (Reply-typed : (x : Reply) (v : Val) → Is Reply-row.the-row x (v ∷ []) → T (hasTy Reply-τ v) × WT v) (Ledger-typed : (x : Ledger) (v : Val) → Is Ledger-row.the-row x (v ∷ []) → T (hasTy Ledger-τ v) × WT v) (Monitor-typed : (x : Monitor) (v : Val) → Is Monitor-row.the-row x (v ∷ []) → T (hasTy Monitor-τ v) × WT v) (WatchedAccept-typed : (x : WatchedAccept) (v : Val) → Is WatchedAccept-row.the-row x (v ∷ []) → T (hasTy WatchedAccept-τ v) × WT v) (𝓣 : Tables 𝓤 H) (known : Known 𝓤 H A mem run (𝓣 .C)) where
     -- ---- the loop
     abbrev State : Type 0
-    State = ((i-x : ℕ) × ((i-most : i-x ≤ count-x) × ((ledger-z : (List ℕ)) × ((monitor-z : (List ℕ)) × ((keys-z : List (List ℕ)) × ((keys-l : length keys-z ≡ length keys-x) × ((slots-z : List (List ℕ)) × ((slots-l : length slots-z ≡ length slots-x) × ((probes-z : List (List ℕ)) × ((probes-l : length probes-z ≡ length probes-x) × ((links-z : List (List ℕ)) × ((links-l : length links-z ≡ length links-x) × ((queue-z : List Probe) × ((queue-l : length queue-z ≡ length queue-x) × ((answers-z : List (List ℕ)) × ((answers-l : length answers-z ≡ length answers-x) × (Serves ledger-x monitor-x keys-x slots-x probes-x links-x queue-x entries-x count-x answers-x refusal-x i-x ledger-z monitor-z keys-z slots-z probes-z links-z queue-z answers-z)))))))))))))))))
+    State = ((i-x : ℕ) × ((i-most : i-x ≤ count-x) × ((ledger-z : (List ℕ)) × ((monitor-z : (List ℕ)) × ((keys-z : List (List ℕ)) × ((keys-l : length keys-z ≡ length keys-x) × ((slots-z : List (List ℕ)) × ((slots-l : length slots-z ≡ length slots-x) × ((probes-z : List (List ℕ)) × ((probes-l : length probes-z ≡ length probes-x) × ((links-z : List (List ℕ)) × ((links-l : length links-z ≡ length links-x) × ((queue-z : List QueuedProbe) × ((queue-l : length queue-z ≡ length queue-x) × ((answers-z : List (List ℕ)) × ((answers-l : length answers-z ≡ length answers-x) × (Serves ledger-x monitor-x keys-x slots-x probes-x links-x queue-x entries-x count-x answers-x refusal-x i-x ledger-z monitor-z keys-z slots-z probes-z links-z queue-z answers-z)))))))))))))))))
 
     abbrev Nearer : State → State → Type 0
     Nearer s t = count-x - s .0 < count-x - t .0
@@ -241,12 +241,12 @@ module _ {X : Type 1} (𝓤 : URA X) (H : Heap 𝓤) (A : Atoms 𝓤) (W : Given
       En = ((typeOf (localAt 0)), a0) ∷ ((typeOf (localAt 1)), a1) ∷ ((typeOf (localAt 2)), a2) ∷ ((typeOf (localAt 3)), a3) ∷ ((typeOf (localAt 4)), a4) ∷ ((typeOf (localAt 5)), a5) ∷ ((typeOf (localAt 6)), a6) ∷ ((typeOf (localAt 7)), a7) ∷ ((typeOf (localAt 8)), a8) ∷ ((typeOf (localAt 9)), a9) ∷ ((typeOf (localAt 10)), a10) ∷ ((typeOf (localAt 11)), a11) ∷ ((typeOf (localAt 12)), a12) ∷ (Reply-τ, a13) ∷ (Ledger-τ, a14) ∷ (Monitor-τ, a15) ∷ (WatchedAccept-τ, a16) ∷ ((typeOf (localAt 17)), a17) ∷ ((typeOf (localAt 18)), a18) ∷ ((typeOf (localAt 19)), a19) ∷ ((typeOf (localAt 20)), a20) ∷ ((typeOf (localAt 21)), a21) ∷ ((typeOf (localAt 22)), a22) ∷ ((typeOf (localAt 23)), a23) ∷ ((typeOf (localAt 24)), a24) ∷ ((typeOf (localAt 25)), a25) ∷ ((typeOf (localAt 26)), a26) ∷ ((typeOf (localAt 27)), a27) ∷ ((typeOf (localAt 28)), a28) ∷ ((typeOf (localAt 29)), a29) ∷ ((typeOf (localAt 30)), a30) ∷ ((typeOf (localAt 31)), a31) ∷ ((typeOf (localAt 32)), a32) ∷ ((typeOf (localAt 33)), a33) ∷ ((typeOf (localAt 34)), a34) ∷ ((typeOf (localAt 35)), a35) ∷ ((typeOf (localAt 36)), a36) ∷ []
 
       abbrev At : State → List (Item 𝓤)
-      At s = ‵ (MutSlice (named 8) κ8 (Array u64 7) .own (lent-at answers-b answers-o answers-γ (s .1 .1 .1 .1 .1 .1 .1 .1 .1 .1 .1 .1 .1 .1 .0)) (sliced answers-b answers-o (length answers-x))) ∷ ‵ (ShrSlice (named 7) κ7 (Array u64 5) .own (lent-at entries-b entries-o entries-γ entries-x) (sliced entries-b entries-o (length entries-x))) ∷ ‵ (MutSlice (named 6) κ6 Probe-row.the-row .own (lent-at queue-b queue-o queue-γ (s .1 .1 .1 .1 .1 .1 .1 .1 .1 .1 .1 .1 .0)) (sliced queue-b queue-o (length queue-x))) ∷ ‵ (MutSlice (named 5) κ5 (Array u16 8) .own (lent-at links-b links-o links-γ (s .1 .1 .1 .1 .1 .1 .1 .1 .1 .1 .0)) (sliced links-b links-o (length links-x))) ∷ ‵ (MutSlice (named 4) κ4 (Array u64 4) .own (lent-at probes-b probes-o probes-γ (s .1 .1 .1 .1 .1 .1 .1 .1 .0)) (sliced probes-b probes-o (length probes-x))) ∷ ‵ (MutSlice (named 3) κ3 (Array u64 3) .own (lent-at slots-b slots-o slots-γ (s .1 .1 .1 .1 .1 .1 .0)) (sliced slots-b slots-o (length slots-x))) ∷ ‵ (MutSlice (named 2) κ2 (Array u64 2) .own (lent-at keys-b keys-o keys-γ (s .1 .1 .1 .1 .0)) (sliced keys-b keys-o (length keys-x))) ∷ ‵ (MutRef (named 1) κ1 (Array u64 12) .own (lent-at monitor-b monitor-o monitor-γ (s .1 .1 .1 .0)) (vptr monitor-b monitor-o ∷ [])) ∷ ‵ (MutRef (named 0) κ0 (Array u64 80) .own (lent-at ledger-b ledger-o ledger-γ (s .1 .1 .0)) (vptr ledger-b ledger-o ∷ [])) ∷ ‵ (flft κ8 q8) ∷ ‵ (flft κ7 q7) ∷ ‵ (flft κ6 q6) ∷ ‵ (flft κ5 q5) ∷ ‵ (flft κ4 q4) ∷ ‵ (flft κ3 q3) ∷ ‵ (flft κ2 q2) ∷ ‵ (flft κ1 q1) ∷ ‵ (flft κ0 q0) ∷ ‵ (froom (typeOf (localAt 36)) a36 0) ∷ ‵ (fdies (typeOf (localAt 36)) a36) ∷ ‵ (froom (typeOf (localAt 35)) a35 0) ∷ ‵ (fdies (typeOf (localAt 35)) a35) ∷ ‵ (froom (typeOf (localAt 34)) a34 0) ∷ ‵ (fdies (typeOf (localAt 34)) a34) ∷ ‵ (froom (typeOf (localAt 33)) a33 0) ∷ ‵ (fdies (typeOf (localAt 33)) a33) ∷ ‵ (froom (typeOf (localAt 32)) a32 0) ∷ ‵ (fdies (typeOf (localAt 32)) a32) ∷ ‵ (froom (typeOf (localAt 31)) a31 0) ∷ ‵ (fdies (typeOf (localAt 31)) a31) ∷ ‵ (froom (typeOf (localAt 30)) a30 0) ∷ ‵ (fdies (typeOf (localAt 30)) a30) ∷ ‵ (froom (typeOf (localAt 29)) a29 0) ∷ ‵ (fdies (typeOf (localAt 29)) a29) ∷ ‵ (froom (typeOf (localAt 28)) a28 0) ∷ ‵ (fdies (typeOf (localAt 28)) a28) ∷ ‵ (froom (typeOf (localAt 27)) a27 0) ∷ ‵ (fdies (typeOf (localAt 27)) a27) ∷ ‵ (froom (typeOf (localAt 26)) a26 0) ∷ ‵ (fdies (typeOf (localAt 26)) a26) ∷ ‵ (froom (typeOf (localAt 25)) a25 0) ∷ ‵ (fdies (typeOf (localAt 25)) a25) ∷ ‵ (froom (typeOf (localAt 24)) a24 0) ∷ ‵ (fdies (typeOf (localAt 24)) a24) ∷ ‵ (froom (typeOf (localAt 23)) a23 0) ∷ ‵ (fdies (typeOf (localAt 23)) a23) ∷ ‵ (froom (typeOf (localAt 22)) a22 0) ∷ ‵ (fdies (typeOf (localAt 22)) a22) ∷ ‵ (froom (typeOf (localAt 21)) a21 0) ∷ ‵ (fdies (typeOf (localAt 21)) a21) ∷ ‵ (froom (typeOf (localAt 20)) a20 0) ∷ ‵ (fdies (typeOf (localAt 20)) a20) ∷ ‵ (froom (typeOf (localAt 19)) a19 0) ∷ ‵ (fdies (typeOf (localAt 19)) a19) ∷ ‵ (froom (typeOf (localAt 18)) a18 0) ∷ ‵ (fdies (typeOf (localAt 18)) a18) ∷ ‵ (froom (typeOf (localAt 17)) a17 0) ∷ ‵ (fdies (typeOf (localAt 17)) a17) ∷ ‵ (froom WatchedAccept-τ a16 0) ∷ ‵ (fdies WatchedAccept-τ a16) ∷ ‵ (froom Monitor-τ a15 0) ∷ ‵ (fdies Monitor-τ a15) ∷ ‵ (froom Ledger-τ a14 0) ∷ ‵ (fdies Ledger-τ a14) ∷ ‵ (froom Reply-τ a13 0) ∷ ‵ (fdies Reply-τ a13) ∷ ‵ (fat fullShare (typeOf (localAt 12)) a12 0 (vint w64 (s .0))) ∷ ‵ (fdies (typeOf (localAt 12)) a12) ∷ ‵ (fat fullShare (typeOf (localAt 11)) a11 0 (vint w8 refusal-x)) ∷ ‵ (fdies (typeOf (localAt 11)) a11) ∷ ‵ (fat fullShare (typeOf (localAt 10)) a10 0 (sliceVal (answers-b, answers-o) (length answers-x))) ∷ ‵ (fdies (typeOf (localAt 10)) a10) ∷ ‵ (fat fullShare (typeOf (localAt 9)) a9 0 (vint w64 count-x)) ∷ ‵ (fdies (typeOf (localAt 9)) a9) ∷ ‵ (fat fullShare (typeOf (localAt 8)) a8 0 (sliceVal (entries-b, entries-o) (length entries-x))) ∷ ‵ (fdies (typeOf (localAt 8)) a8) ∷ ‵ (fat fullShare (typeOf (localAt 7)) a7 0 (sliceVal (queue-b, queue-o) (length queue-x))) ∷ ‵ (fdies (typeOf (localAt 7)) a7) ∷ ‵ (fat fullShare (typeOf (localAt 6)) a6 0 (sliceVal (links-b, links-o) (length links-x))) ∷ ‵ (fdies (typeOf (localAt 6)) a6) ∷ ‵ (fat fullShare (typeOf (localAt 5)) a5 0 (sliceVal (probes-b, probes-o) (length probes-x))) ∷ ‵ (fdies (typeOf (localAt 5)) a5) ∷ ‵ (fat fullShare (typeOf (localAt 4)) a4 0 (sliceVal (slots-b, slots-o) (length slots-x))) ∷ ‵ (fdies (typeOf (localAt 4)) a4) ∷ ‵ (fat fullShare (typeOf (localAt 3)) a3 0 (sliceVal (keys-b, keys-o) (length keys-x))) ∷ ‵ (fdies (typeOf (localAt 3)) a3) ∷ ‵ (fat fullShare (typeOf (localAt 2)) a2 0 (vptr monitor-b monitor-o)) ∷ ‵ (fdies (typeOf (localAt 2)) a2) ∷ ‵ (fat fullShare (typeOf (localAt 1)) a1 0 (vptr ledger-b ledger-o)) ∷ ‵ (fdies (typeOf (localAt 1)) a1) ∷ ‵ (froom (typeOf (localAt 0)) a0 0) ∷ ‵ (fdies (typeOf (localAt 0)) a0) ∷ []
+      At s = ‵ (MutSlice (named 8) κ8 (Array u64 7) .own (lent-at answers-b answers-o answers-γ (s .1 .1 .1 .1 .1 .1 .1 .1 .1 .1 .1 .1 .1 .1 .0)) (sliced answers-b answers-o (length answers-x))) ∷ ‵ (ShrSlice (named 7) κ7 (Array u64 5) .own (lent-at entries-b entries-o entries-γ entries-x) (sliced entries-b entries-o (length entries-x))) ∷ ‵ (MutSlice (named 6) κ6 QueuedProbe-row.the-row .own (lent-at queue-b queue-o queue-γ (s .1 .1 .1 .1 .1 .1 .1 .1 .1 .1 .1 .1 .0)) (sliced queue-b queue-o (length queue-x))) ∷ ‵ (MutSlice (named 5) κ5 (Array u16 8) .own (lent-at links-b links-o links-γ (s .1 .1 .1 .1 .1 .1 .1 .1 .1 .1 .0)) (sliced links-b links-o (length links-x))) ∷ ‵ (MutSlice (named 4) κ4 (Array u64 4) .own (lent-at probes-b probes-o probes-γ (s .1 .1 .1 .1 .1 .1 .1 .1 .0)) (sliced probes-b probes-o (length probes-x))) ∷ ‵ (MutSlice (named 3) κ3 (Array u64 3) .own (lent-at slots-b slots-o slots-γ (s .1 .1 .1 .1 .1 .1 .0)) (sliced slots-b slots-o (length slots-x))) ∷ ‵ (MutSlice (named 2) κ2 (Array u64 2) .own (lent-at keys-b keys-o keys-γ (s .1 .1 .1 .1 .0)) (sliced keys-b keys-o (length keys-x))) ∷ ‵ (MutRef (named 1) κ1 (Array u64 12) .own (lent-at monitor-b monitor-o monitor-γ (s .1 .1 .1 .0)) (vptr monitor-b monitor-o ∷ [])) ∷ ‵ (MutRef (named 0) κ0 (Array u64 80) .own (lent-at ledger-b ledger-o ledger-γ (s .1 .1 .0)) (vptr ledger-b ledger-o ∷ [])) ∷ ‵ (flft κ8 q8) ∷ ‵ (flft κ7 q7) ∷ ‵ (flft κ6 q6) ∷ ‵ (flft κ5 q5) ∷ ‵ (flft κ4 q4) ∷ ‵ (flft κ3 q3) ∷ ‵ (flft κ2 q2) ∷ ‵ (flft κ1 q1) ∷ ‵ (flft κ0 q0) ∷ ‵ (froom (typeOf (localAt 36)) a36 0) ∷ ‵ (fdies (typeOf (localAt 36)) a36) ∷ ‵ (froom (typeOf (localAt 35)) a35 0) ∷ ‵ (fdies (typeOf (localAt 35)) a35) ∷ ‵ (froom (typeOf (localAt 34)) a34 0) ∷ ‵ (fdies (typeOf (localAt 34)) a34) ∷ ‵ (froom (typeOf (localAt 33)) a33 0) ∷ ‵ (fdies (typeOf (localAt 33)) a33) ∷ ‵ (froom (typeOf (localAt 32)) a32 0) ∷ ‵ (fdies (typeOf (localAt 32)) a32) ∷ ‵ (froom (typeOf (localAt 31)) a31 0) ∷ ‵ (fdies (typeOf (localAt 31)) a31) ∷ ‵ (froom (typeOf (localAt 30)) a30 0) ∷ ‵ (fdies (typeOf (localAt 30)) a30) ∷ ‵ (froom (typeOf (localAt 29)) a29 0) ∷ ‵ (fdies (typeOf (localAt 29)) a29) ∷ ‵ (froom (typeOf (localAt 28)) a28 0) ∷ ‵ (fdies (typeOf (localAt 28)) a28) ∷ ‵ (froom (typeOf (localAt 27)) a27 0) ∷ ‵ (fdies (typeOf (localAt 27)) a27) ∷ ‵ (froom (typeOf (localAt 26)) a26 0) ∷ ‵ (fdies (typeOf (localAt 26)) a26) ∷ ‵ (froom (typeOf (localAt 25)) a25 0) ∷ ‵ (fdies (typeOf (localAt 25)) a25) ∷ ‵ (froom (typeOf (localAt 24)) a24 0) ∷ ‵ (fdies (typeOf (localAt 24)) a24) ∷ ‵ (froom (typeOf (localAt 23)) a23 0) ∷ ‵ (fdies (typeOf (localAt 23)) a23) ∷ ‵ (froom (typeOf (localAt 22)) a22 0) ∷ ‵ (fdies (typeOf (localAt 22)) a22) ∷ ‵ (froom (typeOf (localAt 21)) a21 0) ∷ ‵ (fdies (typeOf (localAt 21)) a21) ∷ ‵ (froom (typeOf (localAt 20)) a20 0) ∷ ‵ (fdies (typeOf (localAt 20)) a20) ∷ ‵ (froom (typeOf (localAt 19)) a19 0) ∷ ‵ (fdies (typeOf (localAt 19)) a19) ∷ ‵ (froom (typeOf (localAt 18)) a18 0) ∷ ‵ (fdies (typeOf (localAt 18)) a18) ∷ ‵ (froom (typeOf (localAt 17)) a17 0) ∷ ‵ (fdies (typeOf (localAt 17)) a17) ∷ ‵ (froom WatchedAccept-τ a16 0) ∷ ‵ (fdies WatchedAccept-τ a16) ∷ ‵ (froom Monitor-τ a15 0) ∷ ‵ (fdies Monitor-τ a15) ∷ ‵ (froom Ledger-τ a14 0) ∷ ‵ (fdies Ledger-τ a14) ∷ ‵ (froom Reply-τ a13 0) ∷ ‵ (fdies Reply-τ a13) ∷ ‵ (fat fullShare (typeOf (localAt 12)) a12 0 (vint w64 (s .0))) ∷ ‵ (fdies (typeOf (localAt 12)) a12) ∷ ‵ (fat fullShare (typeOf (localAt 11)) a11 0 (vint w8 refusal-x)) ∷ ‵ (fdies (typeOf (localAt 11)) a11) ∷ ‵ (fat fullShare (typeOf (localAt 10)) a10 0 (sliceVal (answers-b, answers-o) (length answers-x))) ∷ ‵ (fdies (typeOf (localAt 10)) a10) ∷ ‵ (fat fullShare (typeOf (localAt 9)) a9 0 (vint w64 count-x)) ∷ ‵ (fdies (typeOf (localAt 9)) a9) ∷ ‵ (fat fullShare (typeOf (localAt 8)) a8 0 (sliceVal (entries-b, entries-o) (length entries-x))) ∷ ‵ (fdies (typeOf (localAt 8)) a8) ∷ ‵ (fat fullShare (typeOf (localAt 7)) a7 0 (sliceVal (queue-b, queue-o) (length queue-x))) ∷ ‵ (fdies (typeOf (localAt 7)) a7) ∷ ‵ (fat fullShare (typeOf (localAt 6)) a6 0 (sliceVal (links-b, links-o) (length links-x))) ∷ ‵ (fdies (typeOf (localAt 6)) a6) ∷ ‵ (fat fullShare (typeOf (localAt 5)) a5 0 (sliceVal (probes-b, probes-o) (length probes-x))) ∷ ‵ (fdies (typeOf (localAt 5)) a5) ∷ ‵ (fat fullShare (typeOf (localAt 4)) a4 0 (sliceVal (slots-b, slots-o) (length slots-x))) ∷ ‵ (fdies (typeOf (localAt 4)) a4) ∷ ‵ (fat fullShare (typeOf (localAt 3)) a3 0 (sliceVal (keys-b, keys-o) (length keys-x))) ∷ ‵ (fdies (typeOf (localAt 3)) a3) ∷ ‵ (fat fullShare (typeOf (localAt 2)) a2 0 (vptr monitor-b monitor-o)) ∷ ‵ (fdies (typeOf (localAt 2)) a2) ∷ ‵ (fat fullShare (typeOf (localAt 1)) a1 0 (vptr ledger-b ledger-o)) ∷ ‵ (fdies (typeOf (localAt 1)) a1) ∷ ‵ (froom (typeOf (localAt 0)) a0 0) ∷ ‵ (fdies (typeOf (localAt 0)) a0) ∷ []
 
       abbrev Turned : State → Out → SProp 𝓤
       Turned s = afterTurn 𝓤 H (Below 𝓤 H A Nearer At s) (afterBlock 𝓤 H (afterSeq 𝓤 H (Wp 𝓤 H (𝓣 .C) (𝓣 .Λ) En code-mir.t-3 (atReturn 𝓤 H En Post)) (atReturn 𝓤 H En Post)))
 
-      turn : (i-x : ℕ) (i-most : i-x ≤ count-x) (ledger-z : (List ℕ)) (monitor-z : (List ℕ)) (keys-z : List (List ℕ)) (keys-l : length keys-z ≡ length keys-x) (slots-z : List (List ℕ)) (slots-l : length slots-z ≡ length slots-x) (probes-z : List (List ℕ)) (probes-l : length probes-z ≡ length probes-x) (links-z : List (List ℕ)) (links-l : length links-z ≡ length links-x) (queue-z : List Probe) (queue-l : length queue-z ≡ length queue-x) (answers-z : List (List ℕ)) (answers-l : length answers-z ≡ length answers-x) (i-inv : Serves ledger-x monitor-x keys-x slots-x probes-x links-x queue-x entries-x count-x answers-x refusal-x i-x ledger-z monitor-z keys-z slots-z probes-z links-z queue-z answers-z) → Sq W (At (i-x, (i-most, (ledger-z, (monitor-z, (keys-z, (keys-l, (slots-z, (slots-l, (probes-z, (probes-l, (links-z, (links-l, (queue-z, (queue-l, (answers-z, (answers-l, (i-inv)))))))))))))))))) (runs (𝓣 .C) (𝓣 .Λ) En code-mir.turn-1 (anyQ (Turned (i-x, (i-most, (ledger-z, (monitor-z, (keys-z, (keys-l, (slots-z, (slots-l, (probes-z, (probes-l, (links-z, (links-l, (queue-z, (queue-l, (answers-z, (answers-l, (i-inv))))))))))))))))))))
+      turn : (i-x : ℕ) (i-most : i-x ≤ count-x) (ledger-z : (List ℕ)) (monitor-z : (List ℕ)) (keys-z : List (List ℕ)) (keys-l : length keys-z ≡ length keys-x) (slots-z : List (List ℕ)) (slots-l : length slots-z ≡ length slots-x) (probes-z : List (List ℕ)) (probes-l : length probes-z ≡ length probes-x) (links-z : List (List ℕ)) (links-l : length links-z ≡ length links-x) (queue-z : List QueuedProbe) (queue-l : length queue-z ≡ length queue-x) (answers-z : List (List ℕ)) (answers-l : length answers-z ≡ length answers-x) (i-inv : Serves ledger-x monitor-x keys-x slots-x probes-x links-x queue-x entries-x count-x answers-x refusal-x i-x ledger-z monitor-z keys-z slots-z probes-z links-z queue-z answers-z) → Sq W (At (i-x, (i-most, (ledger-z, (monitor-z, (keys-z, (keys-l, (slots-z, (slots-l, (probes-z, (probes-l, (links-z, (links-l, (queue-z, (queue-l, (answers-z, (answers-l, (i-inv)))))))))))))))))) (runs (𝓣 .C) (𝓣 .Λ) En code-mir.turn-1 (anyQ (Turned (i-x, (i-most, (ledger-z, (monitor-z, (keys-z, (keys-l, (slots-z, (slots-l, (probes-z, (probes-l, (links-z, (links-l, (queue-z, (queue-l, (answers-z, (answers-l, (i-inv))))))))))))))))))))
       unfolding afterTurn
       turn i-x i-most ledger-z monitor-z keys-z keys-l slots-z slots-l probes-z probes-l links-z links-l queue-z queue-l answers-z answers-l i-inv =
           assigns ! (bin ! (load ! (from ! (stop !)) (look ! 66 refl)) (load ! (from ! (stop !)) (look ! 72 refl)) tt) (from ! (stop !)) (init ! 52 refl (tt, tt)) $
@@ -287,7 +287,7 @@ module _ {X : Type 1} (𝓤 : URA X) (H : Heap 𝓤) (A : Atoms 𝓤) (W : Given
           move ! (18 ∷ 13 ∷ []) $ slice-to ! tt (named 3) (named 1) (Array u64 3) slots-b slots-o (length slots-x) slots-z slots-l (λ ν2 δ2.
           move ! (19 ∷ 15 ∷ []) $ slice-to ! tt (named 4) (named 2) (Array u64 4) probes-b probes-o (length probes-x) probes-z probes-l (λ ν3 δ3.
           move ! (20 ∷ 17 ∷ []) $ slice-to ! tt (named 5) (named 3) (Array u16 8) links-b links-o (length links-x) links-z links-l (λ ν4 δ4.
-          move ! (21 ∷ 19 ∷ []) $ slice-to ! tt (named 6) (named 4) Probe-row.the-row queue-b queue-o (length queue-x) queue-z queue-l (λ ν5 δ5.
+          move ! (21 ∷ 19 ∷ []) $ slice-to ! tt (named 6) (named 4) QueuedProbe-row.the-row queue-b queue-o (length queue-x) queue-z queue-l (λ ν5 δ5.
           move ! (12 ∷ 9 ∷ 6 ∷ 3 ∷ 0 ∷ 13 ∷ 10 ∷ 7 ∷ 4 ∷ 1 ∷ []) $ group ! 10 $
           calls-gave ! (fmOf 𝓤 H (W .laws) 𝓣) accept-fn.ended (accept-fn.clauses 𝓤 H A mem run) (known .1 .1 .1 .0) (to-given ν1 δ1 ν2 δ2 ν3 δ3 ν4 δ4 ν5 δ5 state-x state-v watch-x watch-v keys-z slots-z probes-z links-z queue-z reply-x reply-v) (‵ (flft (ν1 ∷ []) fullShare) ⊛ (‵ (flft (ν2 ∷ []) fullShare) ⊛ (‵ (flft (ν3 ∷ []) fullShare) ⊛ (‵ (flft (ν4 ∷ []) fullShare) ⊛ (‵ (flft (ν5 ∷ []) fullShare) ⊛ (‵ ftrue)))))) (ask-given ν1 δ1 ν2 δ2 ν3 δ3 ν4 δ4 ν5 δ5 state-x state-v state-is watch-x watch-v watch-is keys-z slots-z probes-z links-z queue-z reply-x reply-v reply-is) (id⊢ 𝓤 _) _ (λ r ws. id⊢ 𝓤 _) (and-then ! (load ! (from ! (stop !)) (look ! 58 refl)) (and-then ! (load ! (from ! (stop !)) (look ! 56 refl)) (and-then ! (load ! (from ! (stop !)) (look ! 40 refl)) (and-then ! (load ! (from ! (stop !)) (look ! 36 refl)) (and-then ! (load ! (from ! (stop !)) (look ! 32 refl)) (and-then ! (load ! (from ! (stop !)) (look ! 28 refl)) (and-then ! (load ! (from ! (stop !)) (look ! 24 refl)) (and-then ! (load ! (from ! (stop !)) (look ! 60 refl)) (no-more !))))))))) (λ given-x given-v given-ws given-e given-is.
           split ! $ move ! (1 ∷ []) $ split ! $ move ! (1 ∷ []) $ split ! $ move ! (1 ∷ []) $ split ! $ move ! (1 ∷ []) $ split ! $ move ! (1 ∷ []) $ drop ! $
@@ -296,7 +296,7 @@ module _ {X : Type 1} (𝓤 : URA X) (H : Heap 𝓤) (A : Atoms 𝓤) (W : Given
           move ! (9 ∷ 13 ∷ 5 ∷ []) $ slice-back ! tt (named 3) (Array u64 3) slots-b slots-o slots-z (given-ws .1 .1 .1 .0) slots-room slots-l given-slots-l $
           move ! (9 ∷ 12 ∷ 6 ∷ []) $ slice-back ! tt (named 4) (Array u64 4) probes-b probes-o probes-z (given-ws .1 .1 .1 .1 .0) probes-room probes-l given-probes-l $
           move ! (9 ∷ 11 ∷ 7 ∷ []) $ slice-back ! tt (named 5) (Array u16 8) links-b links-o links-z (given-ws .1 .1 .1 .1 .1 .0) links-room links-l given-links-l $
-          move ! (9 ∷ 10 ∷ 8 ∷ []) $ slice-back ! tt (named 6) Probe-row.the-row queue-b queue-o queue-z (given-ws .1 .1 .1 .1 .1 .1 .0) queue-room queue-l given-queue-l $
+          move ! (9 ∷ 10 ∷ 8 ∷ []) $ slice-back ! tt (named 6) QueuedProbe-row.the-row queue-b queue-o queue-z (given-ws .1 .1 .1 .1 .1 .1 .0) queue-room queue-l given-queue-l $
           land ! (from ! (stop !)) (init ! 58 refl (WatchedAccept-typed given-x _ given-is)) $
           assigns ! (addr ! (from ! (hop ! (look ! 88 refl) (stop !)))) (from ! (stop !)) (init ! 24 refl (tt, tt)) $
           assigns ! (addr ! (from ! (hop ! (look ! 86 refl) (stop !)))) (from ! (stop !)) (init ! 22 refl (tt, tt)) $
@@ -339,7 +339,7 @@ module _ {X : Type 1} (𝓤 : URA X) (H : Heap 𝓤) (A : Atoms 𝓤) (W : Given
 
     walk : ent 𝓤 (onEntry 𝓤 H A f.signature (κ0, (κ1, (κ2, (κ3, (κ4, (κ5, (κ6, (κ7, (κ8, tt))))))))) (q0, (q1, (q2, (q3, (q4, (q5, (q6, (q7, (q8, tt))))))))) (lent-at ledger-b ledger-o ledger-γ ledger-x, (lent-at monitor-b monitor-o monitor-γ monitor-x, (lent-at keys-b keys-o keys-γ keys-x, (lent-at slots-b slots-o slots-γ slots-x, (lent-at probes-b probes-o probes-γ probes-x, (lent-at links-b links-o links-γ links-x, (lent-at queue-b queue-o queue-γ queue-x, (lent-at entries-b entries-o entries-γ entries-x, (count-x, (lent-at answers-b answers-o answers-γ answers-x, (refusal-x, tt))))))))))) vals) (WpFn 𝓤 H (𝓣 .C) (𝓣 .Λ) (over Reply-τ Ledger-τ Monitor-τ WatchedAccept-τ) (vptr ledger-b ledger-o ∷ vptr monitor-b monitor-o ∷ sliceVal (keys-b, keys-o) (length keys-x) ∷ sliceVal (slots-b, slots-o) (length slots-x) ∷ sliceVal (probes-b, probes-o) (length probes-x) ∷ sliceVal (links-b, links-o) (length links-x) ∷ sliceVal (queue-b, queue-o) (length queue-x) ∷ sliceVal (entries-b, entries-o) (length entries-x) ∷ (vint w64 count-x) ∷ sliceVal (answers-b, answers-o) (length answers-x) ∷ (vint w8 refusal-x) ∷ []) Post)
     walk =
-        qed W ((‵ (flft κ0 q0) ⊛ (‵ (flft κ1 q1) ⊛ (‵ (flft κ2 q2) ⊛ (‵ (flft κ3 q3) ⊛ (‵ (flft κ4 q4) ⊛ (‵ (flft κ5 q5) ⊛ (‵ (flft κ6 q6) ⊛ (‵ (flft κ7 q7) ⊛ (‵ (flft κ8 q8) ⊛ (‵ ftrue)))))))))) ∷ ‵ (owns (MutRef (named 0) κ0 (Array u64 80) ∷ MutRef (named 1) κ1 (Array u64 12) ∷ MutSlice (named 2) κ2 (Array u64 2) ∷ MutSlice (named 3) κ3 (Array u64 3) ∷ MutSlice (named 4) κ4 (Array u64 4) ∷ MutSlice (named 5) κ5 (Array u16 8) ∷ MutSlice (named 6) κ6 Probe-row.the-row ∷ ShrSlice (named 7) κ7 (Array u64 5) ∷ u64 ∷ MutSlice (named 8) κ8 (Array u64 7) ∷ u8 ∷ []) (lent-at ledger-b ledger-o ledger-γ ledger-x, (lent-at monitor-b monitor-o monitor-γ monitor-x, (lent-at keys-b keys-o keys-γ keys-x, (lent-at slots-b slots-o slots-γ slots-x, (lent-at probes-b probes-o probes-γ probes-x, (lent-at links-b links-o links-γ links-x, (lent-at queue-b queue-o queue-γ queue-x, (lent-at entries-b entries-o entries-γ entries-x, (count-x, (lent-at answers-b answers-o answers-γ answers-x, (refusal-x, tt))))))))))) vals) ∷ []) ∵
+        qed W ((‵ (flft κ0 q0) ⊛ (‵ (flft κ1 q1) ⊛ (‵ (flft κ2 q2) ⊛ (‵ (flft κ3 q3) ⊛ (‵ (flft κ4 q4) ⊛ (‵ (flft κ5 q5) ⊛ (‵ (flft κ6 q6) ⊛ (‵ (flft κ7 q7) ⊛ (‵ (flft κ8 q8) ⊛ (‵ ftrue)))))))))) ∷ ‵ (owns (MutRef (named 0) κ0 (Array u64 80) ∷ MutRef (named 1) κ1 (Array u64 12) ∷ MutSlice (named 2) κ2 (Array u64 2) ∷ MutSlice (named 3) κ3 (Array u64 3) ∷ MutSlice (named 4) κ4 (Array u64 4) ∷ MutSlice (named 5) κ5 (Array u16 8) ∷ MutSlice (named 6) κ6 QueuedProbe-row.the-row ∷ ShrSlice (named 7) κ7 (Array u64 5) ∷ u64 ∷ MutSlice (named 8) κ8 (Array u64 7) ∷ u8 ∷ []) (lent-at ledger-b ledger-o ledger-γ ledger-x, (lent-at monitor-b monitor-o monitor-γ monitor-x, (lent-at keys-b keys-o keys-γ keys-x, (lent-at slots-b slots-o slots-γ slots-x, (lent-at probes-b probes-o probes-γ probes-x, (lent-at links-b links-o links-γ links-x, (lent-at queue-b queue-o queue-γ queue-x, (lent-at entries-b entries-o entries-γ entries-x, (count-x, (lent-at answers-b answers-o answers-γ answers-x, (refusal-x, tt))))))))))) vals) ∷ []) ∵
         enter ! (𝓣 .C) (𝓣 .Λ) (over Reply-τ Ledger-τ Monitor-τ WatchedAccept-τ) (vptr ledger-b ledger-o ∷ vptr monitor-b monitor-o ∷ sliceVal (keys-b, keys-o) (length keys-x) ∷ sliceVal (slots-b, slots-o) (length slots-x) ∷ sliceVal (probes-b, probes-o) (length probes-x) ∷ sliceVal (links-b, links-o) (length links-x) ∷ sliceVal (queue-b, queue-o) (length queue-x) ∷ sliceVal (entries-b, entries-o) (length entries-x) ∷ (vint w64 count-x) ∷ sliceVal (answers-b, answers-o) (length answers-x) ∷ (vint w8 refusal-x) ∷ []) _ $
         alloc1 ! (λ a0. alloc1 ! (λ a1. alloc1 ! (λ a2. alloc1 ! (λ a3. alloc1 ! (λ a4. alloc1 ! (λ a5. alloc1 ! (λ a6. alloc1 ! (λ a7. alloc1 ! (λ a8. alloc1 ! (λ a9. alloc1 ! (λ a10. alloc1 ! (λ a11. alloc1 ! (λ a12. alloc1 ! (λ a13. alloc1 ! (λ a14. alloc1 ! (λ a15. alloc1 ! (λ a16. alloc1 ! (λ a17. alloc1 ! (λ a18. alloc1 ! (λ a19. alloc1 ! (λ a20. alloc1 ! (λ a21. alloc1 ! (λ a22. alloc1 ! (λ a23. alloc1 ! (λ a24. alloc1 ! (λ a25. alloc1 ! (λ a26. alloc1 ! (λ a27. alloc1 ! (λ a28. alloc1 ! (λ a29. alloc1 ! (λ a30. alloc1 ! (λ a31. alloc1 ! (λ a32. alloc1 ! (λ a33. alloc1 ! (λ a34. alloc1 ! (λ a35. alloc1 ! (λ a36. alloc0 ! $ params1 ! $
         pass1 ! (init ! 70 refl (tt, tt)) $ pass1 ! (init ! 68 refl (tt, tt)) $ pass1 ! (init ! 66 refl (tt, (tt, (record { fits = keys-room .0 }, tt)))) $ pass1 ! (init ! 64 refl (tt, (tt, (record { fits = slots-room .0 }, tt)))) $ pass1 ! (init ! 62 refl (tt, (tt, (record { fits = probes-room .0 }, tt)))) $ pass1 ! (init ! 60 refl (tt, (tt, (record { fits = links-room .0 }, tt)))) $ pass1 ! (init ! 58 refl (tt, (tt, (record { fits = queue-room .0 }, tt)))) $ pass1 ! (init ! 56 refl (tt, (tt, (record { fits = entries-room .0 }, tt)))) $ pass1 ! (init ! 54 refl (uint-lawful 𝓤 H A W w64 .typed count-x _ count-is .0)) $ pass1 ! (init ! 52 refl (tt, (tt, (record { fits = answers-room .0 }, tt)))) $ pass1 ! (init ! 50 refl (uint-lawful 𝓤 H A W w8 .typed refusal-x _ refusal-is .0)) $ pass0 ! $
@@ -364,11 +364,11 @@ module _ {X : Type 1} (𝓤 : URA X) (H : Heap 𝓤) (A : Atoms 𝓤) (W : Given
   walks : (𝓣 : Tables 𝓤 H) → Known 𝓤 H A mem run (𝓣 .C) → Walks 𝓤 H A f.ended stayed (WpFn 𝓤 H (𝓣 .C) (𝓣 .Λ) code.function) (f.clauses 𝓤 H A mem run)
   walks 𝓣 known = walked 𝓤 H A f.ended stayed (f.clauses 𝓤 H A mem run) (WpFn 𝓤 H (𝓣 .C) (𝓣 .Λ) code.function)
       (λ κs. (ptr-vals, (ptr-vals, (slice-vals, (slice-vals, (slice-vals, (slice-vals, (slice-vals, (slice-vals, (uint-vals w64, (slice-vals, (uint-vals w8, tt))))))))))))
-      (λ κs. (mut-tells (named 0) (κs .0) (Array u64 80), (mut-tells (named 1) (κs .1 .0) (Array u64 12), (mut-slice-tells (named 2) (κs .1 .1 .0) (Array u64 2), (mut-slice-tells (named 3) (κs .1 .1 .1 .0) (Array u64 3), (mut-slice-tells (named 4) (κs .1 .1 .1 .1 .0) (Array u64 4), (mut-slice-tells (named 5) (κs .1 .1 .1 .1 .1 .0) (Array u16 8), (mut-slice-tells (named 6) (κs .1 .1 .1 .1 .1 .1 .0) Probe-row.the-row, (shr-slice-tells (named 7) (κs .1 .1 .1 .1 .1 .1 .1 .0) (Array u64 5), (uint-tells w64, (mut-slice-tells (named 8) (κs .1 .1 .1 .1 .1 .1 .1 .1 .0) (Array u64 7), (uint-tells w8, tt))))))))))))
+      (λ κs. (mut-tells (named 0) (κs .0) (Array u64 80), (mut-tells (named 1) (κs .1 .0) (Array u64 12), (mut-slice-tells (named 2) (κs .1 .1 .0) (Array u64 2), (mut-slice-tells (named 3) (κs .1 .1 .1 .0) (Array u64 3), (mut-slice-tells (named 4) (κs .1 .1 .1 .1 .0) (Array u64 4), (mut-slice-tells (named 5) (κs .1 .1 .1 .1 .1 .0) (Array u16 8), (mut-slice-tells (named 6) (κs .1 .1 .1 .1 .1 .1 .0) QueuedProbe-row.the-row, (shr-slice-tells (named 7) (κs .1 .1 .1 .1 .1 .1 .1 .0) (Array u64 5), (uint-tells w64, (mut-slice-tells (named 8) (κs .1 .1 .1 .1 .1 .1 .1 .1 .0) (Array u64 7), (uint-tells w8, tt))))))))))))
       (λ κs qs bounds a g are. via 𝓤 _ (fst∗ 𝓤 _ (emp 𝓤)) (walk 𝓤 H A W mem run (κs .0) (κs .1 .0) (κs .1 .1 .0) (κs .1 .1 .1 .0) (κs .1 .1 .1 .1 .0) (κs .1 .1 .1 .1 .1 .0) (κs .1 .1 .1 .1 .1 .1 .0) (κs .1 .1 .1 .1 .1 .1 .1 .0) (κs .1 .1 .1 .1 .1 .1 .1 .1 .0) (qs .0) (qs .1 .0) (qs .1 .1 .0) (qs .1 .1 .1 .0) (qs .1 .1 .1 .1 .0) (qs .1 .1 .1 .1 .1 .0) (qs .1 .1 .1 .1 .1 .1 .0) (qs .1 .1 .1 .1 .1 .1 .1 .0) (qs .1 .1 .1 .1 .1 .1 .1 .1 .0) (a .0 .ptr .0) (a .0 .ptr .1) (a .0 .name) (a .0 .now) (a .1 .0 .ptr .0) (a .1 .0 .ptr .1) (a .1 .0 .name) (a .1 .0 .now) (a .1 .1 .0 .ptr .0) (a .1 .1 .0 .ptr .1) (a .1 .1 .0 .name) (a .1 .1 .0 .now) (a .1 .1 .1 .0 .ptr .0) (a .1 .1 .1 .0 .ptr .1) (a .1 .1 .1 .0 .name) (a .1 .1 .1 .0 .now) (a .1 .1 .1 .1 .0 .ptr .0) (a .1 .1 .1 .1 .0 .ptr .1) (a .1 .1 .1 .1 .0 .name) (a .1 .1 .1 .1 .0 .now) (a .1 .1 .1 .1 .1 .0 .ptr .0) (a .1 .1 .1 .1 .1 .0 .ptr .1) (a .1 .1 .1 .1 .1 .0 .name) (a .1 .1 .1 .1 .1 .0 .now) (a .1 .1 .1 .1 .1 .1 .0 .ptr .0) (a .1 .1 .1 .1 .1 .1 .0 .ptr .1) (a .1 .1 .1 .1 .1 .1 .0 .name) (a .1 .1 .1 .1 .1 .1 .0 .now) (a .1 .1 .1 .1 .1 .1 .1 .0 .ptr .0) (a .1 .1 .1 .1 .1 .1 .1 .0 .ptr .1) (a .1 .1 .1 .1 .1 .1 .1 .0 .name) (a .1 .1 .1 .1 .1 .1 .1 .0 .now) (a .1 .1 .1 .1 .1 .1 .1 .1 .0) (a .1 .1 .1 .1 .1 .1 .1 .1 .1 .0 .ptr .0) (a .1 .1 .1 .1 .1 .1 .1 .1 .1 .0 .ptr .1) (a .1 .1 .1 .1 .1 .1 .1 .1 .1 .0 .name) (a .1 .1 .1 .1 .1 .1 .1 .1 .1 .0 .now) (a .1 .1 .1 .1 .1 .1 .1 .1 .1 .1 .0) (are .1 .1 .0 .0 .1) (are .1 .1 .1 .0 .0 .1) (are .1 .1 .1 .1 .0 .0 .1) (are .1 .1 .1 .1 .1 .0 .0 .1) (are .1 .1 .1 .1 .1 .1 .0 .0 .1) (are .1 .1 .1 .1 .1 .1 .1 .0 .0 .1) (are .1 .1 .1 .1 .1 .1 .1 .1 .1 .0 .0 .1) (are .1 .1 .1 .1 .1 .1 .1 .1 .0) (are .1 .1 .1 .1 .1 .1 .1 .1 .1 .1 .0) (typeOf (localAt 13)) (typeOf (localAt 14)) (typeOf (localAt 15)) (typeOf (localAt 16)) Reply-typed Ledger-typed Monitor-typed WatchedAccept-typed 𝓣 known))
 
   goes-on : AllGo 𝓤 H A W 9 (f.signature .params) (f.ended .kept) stayed
-  goes-on = (goes-ref 𝓤 H A W 9 0 tt (ArrayOf (plain (λ _. u64)) (λ _. tt) 80), (goes-ref 𝓤 H A W 9 1 tt (ArrayOf (plain (λ _. u64)) (λ _. tt) 12), (goes-slice 𝓤 H A W 9 2 tt (ArrayOf (plain (λ _. u64)) (λ _. tt) 2), (goes-slice 𝓤 H A W 9 3 tt (ArrayOf (plain (λ _. u64)) (λ _. tt) 3), (goes-slice 𝓤 H A W 9 4 tt (ArrayOf (plain (λ _. u64)) (λ _. tt) 4), (goes-slice 𝓤 H A W 9 5 tt (ArrayOf (plain (λ _. u16)) (λ _. tt) 8), (goes-slice 𝓤 H A W 9 6 tt (plain (λ _. Probe-row.the-row)), (goes-dropped 𝓤 H A W 9 (shrSliceOf (7 ∷ []) tt (ArrayOf (plain (λ _. u64)) (λ _. tt) 5)) yes (λ κs x f. refl), (goes-none 𝓤 H A W 9 (λ _. u64) yes (λ κs x f. refl), (goes-slice 𝓤 H A W 9 8 tt (ArrayOf (plain (λ _. u64)) (λ _. tt) 7), (goes-none 𝓤 H A W 9 (λ _. u8) yes (λ κs x f. refl), tt)))))))))))
+  goes-on = (goes-ref 𝓤 H A W 9 0 tt (ArrayOf (plain (λ _. u64)) (λ _. tt) 80), (goes-ref 𝓤 H A W 9 1 tt (ArrayOf (plain (λ _. u64)) (λ _. tt) 12), (goes-slice 𝓤 H A W 9 2 tt (ArrayOf (plain (λ _. u64)) (λ _. tt) 2), (goes-slice 𝓤 H A W 9 3 tt (ArrayOf (plain (λ _. u64)) (λ _. tt) 3), (goes-slice 𝓤 H A W 9 4 tt (ArrayOf (plain (λ _. u64)) (λ _. tt) 4), (goes-slice 𝓤 H A W 9 5 tt (ArrayOf (plain (λ _. u16)) (λ _. tt) 8), (goes-slice 𝓤 H A W 9 6 tt (plain (λ _. QueuedProbe-row.the-row)), (goes-dropped 𝓤 H A W 9 (shrSliceOf (7 ∷ []) tt (ArrayOf (plain (λ _. u64)) (λ _. tt) 5)) yes (λ κs x f. refl), (goes-none 𝓤 H A W 9 (λ _. u64) yes (λ κs x f. refl), (goes-slice 𝓤 H A W 9 8 tt (ArrayOf (plain (λ _. u64)) (λ _. tt) 7), (goes-none 𝓤 H A W 9 (λ _. u8) yes (λ κs x f. refl), tt)))))))))))
 
 meets : {X : Type 1} (𝓤 : URA X) (H : Heap 𝓤) (A : Atoms 𝓤) → Given 𝓤 H A → (mem : Memory → SProp 𝓤) (run : Routine → Fun 𝓤) (𝓣 : Tables 𝓤 H) → Known 𝓤 H A mem run (𝓣 .C)
     → Meets 𝓤 H A f.signature (WpFn 𝓤 H (𝓣 .C) (𝓣 .Λ) code.function) (f.spec 𝓤 H A mem run)

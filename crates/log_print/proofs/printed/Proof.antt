@@ -1,15 +1,15 @@
 -- `log_print::printed` meets its contract. Assumes nothing.
 use mathlib.Core.Path.{sym, ap, _∙_}
 use denote.Ref.{now}
-use Rattle.report.specs.declared.Answer.{Answer}
-use Rattle.link_log.specs.declared.Log.{Log}
+use Rattle.report.specs.declared.ReportAnswer.{ReportAnswer}
+use Rattle.log_whole.specs.declared.Log.{Log}
 use Rattle.log_print.specs.Printed.{refusedIn, printedIn}
 use borrow.Author.Needs.{needs}
 use Rattle.log_print.proofs.printed.Statement.{statement}
 use Rattle.log_print.proofs.printed.Tie as tie
 use Rattle.log_print.proofs.printed.Reads as reads
 use Rattle.log_print.proofs.printed.Lts as lts
-use Rattle.link_log.proofs.check.Reads as check-reads
+use Rattle.log_whole.proofs.check.Reads as check-reads
 use Rattle.log_print.proofs.put_refused.Reads as put-refused-reads
 
 enum-known-answer : tie.Need-enum-known-answer
@@ -26,7 +26,7 @@ put-refused-requires c κs = search needs
 
 returns : tie.Need-returns
 unfolding printedIn
-returns c = let a = c .before .before .before .before .before .args in ap (λ (x : Answer). printedIn (now (a .log)) x (now (a .text))) (sym (c .before .answer .given .1))
+returns c = let a = c .before .before .before .before .before .args in ap (λ (x : ReportAnswer). printedIn (now (a .log)) x (now (a .text))) (sym (c .before .answer .given .1))
 
 same-length : tie.Need-same-length
 same-length c = search needs
@@ -35,7 +35,7 @@ returns-2 : tie.Need-returns-2
 unfolding printedIn
 returns-2 c =
     let a = c .before .before .before .before .before .before .before .before .before .args in
-    c .before .before .put-refused .ensures ∙ ap (λ (l : Log). refusedIn l (now (a .text))) (c .before .before .before .check .ensures) ∙ ap (λ (x : Answer). printedIn (now (a .log)) x (now (a .text))) (sym (c .before .before .before .before .before .enum-told .given .1))
+    c .before .before .put-refused .ensures ∙ ap (λ (l : Log). refusedIn l (now (a .text))) (c .before .before .before .check .ensures) ∙ ap (λ (x : ReportAnswer). printedIn (now (a .log)) x (now (a .text))) (sym (c .before .before .before .before .before .enum-told .given .1))
 
 pub printed-spec : {M : Type 1} → statement M
 printed-spec =

@@ -2,7 +2,7 @@
 use mathlib.Core.Path.{ap}
 use native.Mathlib.Omega.{arith}
 use lib.ListN.{take, drop, length-take, length-drop}
-use Rattle.link_log.proofs.Laws.{isGood, good-of-read}
+use Rattle.log_whole.proofs.Laws.{isGood, good-of-read}
 use borrow.Author.Needs.{needs}
 use Rattle.log_trim.proofs.good_at.Statement.{statement}
 use Rattle.log_trim.proofs.good_at.Tie as tie

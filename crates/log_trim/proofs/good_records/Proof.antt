@@ -6,8 +6,8 @@ use lib.ListN.{take, drop}
 use borrow.Author.Tests.{not-true, not-false}
 use Rattle.log_record.specs.Records.{good}
 use borrow.Author.Needs.{needs}
-use Rattle.link_log.specs.Logs.{firstBad}
-use Rattle.link_log.proofs.Laws.{bad-begin, bad-step, bad-stop, bad-end}
+use Rattle.log_whole.specs.Logs.{firstBad}
+use Rattle.log_whole.proofs.Laws.{bad-begin, bad-step, bad-stop, bad-end}
 use Rattle.log_trim.proofs.good_records.Statement.{statement}
 use Rattle.log_trim.proofs.good_records.Tie as tie
 

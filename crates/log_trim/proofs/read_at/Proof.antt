@@ -1,7 +1,7 @@
 -- `log_trim::read_at` meets its contract. Assumes nothing.
 use mathlib.Core.Path.{ap, _∙_}
 use Rattle.log_record.specs.Records.{readOf}
-use Rattle.link_log.proofs.Laws.{same-part}
+use Rattle.log_whole.proofs.Laws.{same-part}
 use borrow.Author.Needs.{needs}
 use Rattle.log_trim.proofs.read_at.Statement.{statement}
 use Rattle.log_trim.proofs.read_at.Tie as tie

@@ -40,12 +40,12 @@ use denote.Triple.Spec.{Meets, tripleOf}
 use denote.Triple.Table.{entered, cited}
 use denote.Triple.Walked.{says, Stays, stay-none, stay-none-slice, walkOf, AllGo, goes-none, goes-none-slice, Walks, ends-at, walked, walk-meets}
 use denote.Exit.{yes}
-use Rattle.probe_queue.specs.declared.Probe.{Probe}
+use Rattle.probe_queue.specs.declared.QueuedProbe.{QueuedProbe}
 use Rattle.probe_queue.specs.Queue.{nil}
 use Rattle.walking.proofs.Calls.{asks, calls-plain, unless}
 use Rattle.probe_queue.proofs.SliceCalls.{at-list, sliced-val}
-use Rattle.probe_queue.proofs.Probe as P
-use Rattle.probe_queue.proofs.Probe.Laws as P′
+use Rattle.probe_queue.proofs.QueuedProbe as P
+use Rattle.probe_queue.proofs.QueuedProbe.Laws as P′
 use Rattle.probe_queue.proofs.absent as absent
 use Rattle.probe_queue.proofs.absent.Symbol as absent-def
 use Rattle.probe_queue.proofs.absent.Symbol.{name as #probe-queue·absent}
@@ -62,7 +62,7 @@ stayed = (stay-none-slice (0 ∷ []) tt (plain (λ _. P.the-row)) yes, (stay-non
 abbrev sliced : Ty
 sliced = sliceTy (tyRef (named 0) imm (pointee (P.the-row .written)))
 
-getD-past : (xs : List Probe) (n : ℕ) → length xs ≤ n → getD xs n nil ≡ nil
+getD-past : (xs : List QueuedProbe) (n : ℕ) → length xs ≤ n → getD xs n nil ≡ nil
 getD-past [] n l = refl
 getD-past (y ∷ xs) zero l = absurd (not-suc-le-zero l)
 getD-past (y ∷ xs) (suc n) l = getD-past xs n (le-of-suc-le-suc l)
@@ -71,16 +71,16 @@ getD-past (y ∷ xs) (suc n) l = getD-past xs n (le-of-suc-le-suc l)
 abbrev Absent : {M : Type 1} (𝓤 : URA M) (H : Heap 𝓤) (A : Atoms 𝓤) (mem : Memory → SProp 𝓤) (run : Routine → Fun 𝓤) → Contract 𝓤
 Absent 𝓤 H A mem run = tripleOf 𝓤 H A absent.signature (absent.spec 𝓤 H A mem run)
 
-module _ {M : Type 1} (𝓤 : URA M) (H : Heap 𝓤) (A : Atoms 𝓤) (W : Given 𝓤 H A) (mem : Memory → SProp 𝓤) (run : Routine → Fun 𝓤) (κ : Lft) (q : Share) (b o : ℕ) (γ : GName) (ys : List Probe) (n : ℕ)
+module _ {M : Type 1} (𝓤 : URA M) (H : Heap 𝓤) (A : Atoms 𝓤) (W : Given 𝓤 H A) (mem : Memory → SProp 𝓤) (run : Routine → Fun 𝓤) (κ : Lft) (q : Share) (b o : ℕ) (γ : GName) (ys : List QueuedProbe) (n : ℕ)
     (room : Room P.the-row (length ys)) (n-fits : n < 2 ^ 64) where
-  abbrev x : RefT (List Probe)
+  abbrev x : RefT (List QueuedProbe)
   x = at-list b o γ ys
 
   abbrev vals : List Val × (List Val × Unit {0})
   vals = (sliced-val b o ys, (vint w64 n ∷ [], tt))
 
   -- the element
-  abbrev p : Probe
+  abbrev p : QueuedProbe
   p = getD ys n nil
 
   abbrev Own : Fml
@@ -92,7 +92,7 @@ module _ {M : Type 1} (𝓤 : URA M) (H : Heap 𝓤) (A : Atoms 𝓤) (W : Given
   abbrev Post : Val → SProp 𝓤
   Post = walkOf 𝓤 H A f.ended stayed (f.clauses 𝓤 H A mem run) .post (((κ, tt), (q, tt), tt, (x, (n, tt)), vals), tt)
 
-  typed : (d : Probe) → Is P.the-row d (P′.lowered d ∷ []) → T (hasTy P′.mir (P′.lowered d)) × WT (P′.lowered d)
+  typed : (d : QueuedProbe) → Is P.the-row d (P′.lowered d ∷ []) → T (hasTy P′.mir (P′.lowered d)) × WT (P′.lowered d)
   typed d d-is = LL.lawful P.the-type P′.the-laws 𝓤 H A W .typed d _ d-is .0
 
   exits : Is P.the-row p (P′.lowered p ∷ []) → ent 𝓤 (sep 𝓤 (A .lft κ q) (sem 𝓤 H A Own)) (Post (P′.lowered p))
@@ -128,7 +128,7 @@ module _ {M : Type 1} (𝓤 : URA M) (H : Heap 𝓤) (A : Atoms 𝓤) (W : Given
         alloc1 ! (λ l₀. alloc1 ! (λ l₁. alloc1 ! (λ l₂. alloc1 ! (λ l₃. alloc1 ! (λ l₄. alloc1 ! (λ l₅. alloc1 ! (λ l₆. alloc1 ! (λ l₇. alloc1 ! (λ l₈. alloc0 ! $ params1 ! $
         pass1 ! (init ! 14 refl (tt, (tt, (record { fits = room .0 }, tt)))) $ pass1 ! (init ! 12 refl (tt, record { fits = n-fits })) $ pass0 ! $
         move ! (18 ∷ []) $ use1 W (‵ (flft κ q) ⊛ ‵ Own) opened $ split ! $
-        calls-plain ! (fmOf 𝓤 H (W .laws) 𝓣) absent.ended (absent.clauses 𝓤 H A mem run) known to-absent (asks 𝓤 H A [] tt tt _ tt _ (id⊢ 𝓤 (emp 𝓤))) (λ (d : Probe) _. d ≡ nil) (λ d ws. id⊢ 𝓤 _) (no-more !) (λ d v _ ed is.
+        calls-plain ! (fmOf 𝓤 H (W .laws) 𝓣) absent.ended (absent.clauses 𝓤 H A mem run) known to-absent (asks 𝓤 H A [] tt tt _ tt _ (id⊢ 𝓤 (emp 𝓤))) (λ (d : QueuedProbe) _. d ≡ nil) (λ d ws. id⊢ 𝓤 _) (no-more !) (λ d v _ ed is.
         land ! (from ! (stop !)) (init ! 12 refl (LL.lawful P.the-type P′.the-laws 𝓤 H A W .typed d _ is .0)) $
         rewrite ! 12 (λ (w : Val). ‵ (fat fullShare P′.mir l₃ 0 w)) (ap only (LL.tells P.the-type P′.the-laws d (v ∷ []) is) ∙ ap P′.lowered ed) refl $
         assigns ! (of-opd ! (load ! (from ! (fld ! refl (stop !))) (look-in ! 16 (sub ! 1 refl (whole !))))) (from ! (stop !)) (init ! 10 refl (tt, record { fits = room .0 })) $
@@ -148,14 +148,14 @@ module _ {M : Type 1} (𝓤 : URA M) (H : Heap 𝓤) (A : Atoms 𝓤) (W : Given
         elem-back ! P.the-row q′ ys n nil (P′.lowered p ∷ []) b o (ltb→lt n (length ys) less) $ shuts-slice ! tt P.the-row q′ ys b o $
         move ! (1 ∷ []) $ drop ! $ forget ! 2 refl $ forget ! 4 refl $ forget ! 6 refl $ forget ! 8 refl $ forget ! 10 refl $ forget ! 14 refl $ forget ! 16 refl $ ends l₀ l₁ l₂ l₃ l₄ l₅ l₆ l₇ l₈ p-is)))
         (λ over.
-        rewrite ! 12 (λ (d′ : Probe). ‵ (fat fullShare P′.mir l₃ 0 (P′.lowered d′))) (sym (getD-past ys n (nltb→le n (length ys) over))) refl $
+        rewrite ! 12 (λ (d′ : QueuedProbe). ‵ (fat fullShare P′.mir l₃ 0 (P′.lowered d′))) (sym (getD-past ys n (nltb→le n (length ys) over))) refl $
         forget ! 8 refl $ forget ! 10 refl $ forget ! 14 refl $ forget ! 16 refl $ ends l₀ l₁ l₂ l₃ l₄ l₅ l₆ l₇ l₈ (same d v ed is (nltb→le n (length ys) over)))))))))))))
       where
         far : n < length ys → n * 24 < 2 ^ 64
         far within = omega (arith, room .1, within)
 
-        same : (d : Probe) (v : Val) → d ≡ nil → Is P.the-row d (v ∷ []) → length ys ≤ n → Is P.the-row p (P′.lowered p ∷ [])
-        same d v e is past = subst (λ (d′ : Probe). Is P.the-row d′ (P′.lowered d′ ∷ [])) (e ∙ sym (getD-past ys n past)) (subst (Is P.the-row d) (LL.tells P.the-type P′.the-laws d (v ∷ []) is) is)
+        same : (d : QueuedProbe) (v : Val) → d ≡ nil → Is P.the-row d (v ∷ []) → length ys ≤ n → Is P.the-row p (P′.lowered p ∷ [])
+        same d v e is past = subst (λ (d′ : QueuedProbe). Is P.the-row d′ (P′.lowered d′ ∷ [])) (e ∙ sym (getD-past ys n past)) (subst (Is P.the-row d) (LL.tells P.the-type P′.the-laws d (v ∷ []) is) is)
 
 module _ {M : Type 1} (𝓤 : URA M) (H : Heap 𝓤) (A : Atoms 𝓤) (W : Given 𝓤 H A) (mem : Memory → SProp 𝓤) (run : Routine → Fun 𝓤) where
   front-walks : (𝓣 : Tables 𝓤 H) → Triple 𝓤 (𝓣 .C #probe-queue·absent) (Absent 𝓤 H A mem run) → Walks 𝓤 H A f.ended stayed (WpFn 𝓤 H (𝓣 .C) (𝓣 .Λ) code.function) (f.clauses 𝓤 H A mem run)

@@ -45,16 +45,16 @@ use denote.Triple.Spec.{Meets, tripleOf}
 use denote.Triple.Table.{entered, cited}
 use denote.Triple.Walked.{says, needs, Stays, stay-none, stay-none-slice, walkOf, AllGo, goes-none, goes-none-slice, Walks, ends-at, walked, walk-meets}
 use denote.Exit.{yes}
-use Rattle.probe_queue.specs.declared.Probe.{Probe}
-use Rattle.probe_queue.specs.declared.Ring.{Ring}
+use Rattle.probe_queue.specs.declared.QueuedProbe.{QueuedProbe}
+use Rattle.probe_queue.specs.declared.QueueRing.{QueueRing}
 use Rattle.probe_queue.specs.declared.Rule.{Rule}
 use Rattle.probe_queue.specs.Queue.{nil, Held, place, at, passes, leading, queued}
 use Rattle.walking.proofs.Calls.{asks, calls-plain, calls-gave, whiles, unless}
 use Rattle.probe_queue.proofs.Leading.{leads}
-use Rattle.probe_queue.proofs.Probe as P
-use Rattle.probe_queue.proofs.Probe.Laws as P′
-use Rattle.probe_queue.proofs.Ring as G
-use Rattle.probe_queue.proofs.Ring.Laws as G′
+use Rattle.probe_queue.proofs.QueuedProbe as P
+use Rattle.probe_queue.proofs.QueuedProbe.Laws as P′
+use Rattle.probe_queue.proofs.QueueRing as G
+use Rattle.probe_queue.proofs.QueueRing.Laws as G′
 use Rattle.probe_queue.proofs.Rule as R
 use Rattle.probe_queue.proofs.Rule.Laws as R′
 use Rattle.probe_queue.proofs.place_of as place-of
@@ -103,9 +103,9 @@ module _ {M : Type 1} (𝓤 : URA M) (H : Heap 𝓤) (A : Atoms 𝓤) (mem : Mem
   abbrev Known : Calls 𝓤 H → Type 1
   Known C = Triple 𝓤 (C #probe-queue·place-of) PlaceOf × (Triple 𝓤 (C #probe-queue·front) Front × Triple 𝓤 (C #probe-queue·goes-on) GoesOn)
 
-module _ {M : Type 1} (𝓤 : URA M) (H : Heap 𝓤) (A : Atoms 𝓤) (W : Given 𝓤 H A) (mem : Memory → SProp 𝓤) (run : Routine → Fun 𝓤) (κ : Lft) (q : Share) (b o : ℕ) (γ : GName) (ys : List Probe) (ring : Ring) (rule : Rule)
+module _ {M : Type 1} (𝓤 : URA M) (H : Heap 𝓤) (A : Atoms 𝓤) (W : Given 𝓤 H A) (mem : Memory → SProp 𝓤) (run : Routine → Fun 𝓤) (κ : Lft) (q : Share) (b o : ℕ) (γ : GName) (ys : List QueuedProbe) (ring : QueueRing) (rule : Rule)
     (room : Room P.the-row (length ys)) (asked : Held ring) (ring-is : Is G.the-row ring (G′.lowered ring ∷ [])) (rule-is : Is R.the-row rule (EL.vals R.the-type R′.the-laws rule)) where
-  abbrev x : RefT (List Probe)
+  abbrev x : RefT (List QueuedProbe)
   x = record { ptr = (b, o); name = γ; now = ys }
 
   abbrev s : Val
@@ -115,7 +115,7 @@ module _ {M : Type 1} (𝓤 : URA M) (H : Heap 𝓤) (A : Atoms 𝓤) (W : Given
   rv = EL.val R.the-type R′.the-laws rule
 
   abbrev Arg : Type 0
-  Arg = RefT (List Probe) × (Ring × (Rule × Unit {0}))
+  Arg = RefT (List QueuedProbe) × (QueueRing × (Rule × Unit {0}))
 
   abbrev a : Arg
   a = (x, (ring, (rule, tt)))
@@ -156,7 +156,7 @@ module _ {M : Type 1} (𝓤 : URA M) (H : Heap 𝓤) (A : Atoms 𝓤) (W : Given
   abbrev to-front : ℕ → Front 𝓤 H A mem run .Ghost
   to-front n = (((κ, tt), (q, tt), tt, (x, (n, tt)), (s ∷ [], (vint w64 n ∷ [], tt))), tt)
 
-  abbrev to-on : Probe → GoesOn 𝓤 H A mem run .Ghost
+  abbrev to-on : QueuedProbe → GoesOn 𝓤 H A mem run .Ghost
   to-on p = ((tt, tt, tt, (p, (rule, tt)), (P′.lowered p ∷ [], (rv ∷ [], tt))), tt)
 
   ask-place : (i : ℕ) → i < ring .len → ent 𝓤 (emp 𝓤) (PlaceOf 𝓤 H A mem run .pre (to-place i))
@@ -166,7 +166,7 @@ module _ {M : Type 1} (𝓤 : URA M) (H : Heap 𝓤) (A : Atoms 𝓤) (W : Given
   ask-front n fits =
       qed W (‵ (flft κ q) ∷ ‵ Own ∷ []) ∵ nothing ! $ move ! (1 ∷ 0 ∷ []) $ join ! $ nothing ! $ owned ! usize (Is usize) (uint-makes 𝓤 H A W w64) n _ (refl, fits) $ fjoin ! $ move ! (2 ∷ 0 ∷ []) $ fjoin ! $ move ! (1 ∷ 0 ∷ []) $ join ! $ nothing ! $ move ! (1 ∷ 0 ∷ []) $ done !
 
-  ask-on : (p : Probe) → Is P.the-row p (P′.lowered p ∷ []) → ent 𝓤 (emp 𝓤) (GoesOn 𝓤 H A mem run .pre (to-on p))
+  ask-on : (p : QueuedProbe) → Is P.the-row p (P′.lowered p ∷ []) → ent 𝓤 (emp 𝓤) (GoesOn 𝓤 H A mem run .pre (to-on p))
   ask-on p is = asks 𝓤 H A (P.the-row ∷ R.the-row ∷ []) (LL.makes P.the-type P′.the-plain 𝓤 H A, (EL.makes R.the-type R′.the-plain 𝓤 H A, tt)) (p, (rule, tt)) _ (is, (rule-is, tt)) _ (id⊢ 𝓤 (emp 𝓤))
 
   -- ---- the loop
@@ -217,7 +217,7 @@ module _ {M : Type 1} (𝓤 : URA M) (H : Heap 𝓤) (A : Atoms 𝓤) (W : Given
           land ! (from ! (stop !)) (init ! 8 refl (uint-lawful 𝓤 H A W w64 .typed n _ is .0)) $ rewrite ! 8 (λ (w : Val). ‵ (fat fullShare (tyInt w64) l₆ 0 w)) (ap only (is .0)) refl $
           -- front(queue, at), with a copy of the slice
           move ! (1 ∷ []) $ use1 W (‵ Own ⊛ ‵ Own) (shr-slice-copy 𝓤 H A W (named 0) κ P.the-row .twice x (s ∷ [])) $ split ! $ move ! (2 ∷ 0 ∷ []) $ join ! $
-          calls-gave ! (fmOf 𝓤 H (W .laws) 𝓣) front.ended (front.clauses 𝓤 H A mem run) (known .1 .0) (to-front n) (‵ (flft κ q) ⊛ ‵ ftrue) (ask-front n (is .1)) (id⊢ 𝓤 _) (λ (p : Probe) _. p ≡ getD ys n nil) (λ p ws. id⊢ 𝓤 _)
+          calls-gave ! (fmOf 𝓤 H (W .laws) 𝓣) front.ended (front.clauses 𝓤 H A mem run) (known .1 .0) (to-front n) (‵ (flft κ q) ⊛ ‵ ftrue) (ask-front n (is .1)) (id⊢ 𝓤 _) (λ (p : QueuedProbe) _. p ≡ getD ys n nil) (λ p ws. id⊢ 𝓤 _)
           (and-then ! (load ! (from ! (stop !)) (look ! 18 refl)) (and-then ! (load ! (from ! (stop !)) (look ! 8 refl)) (no-more !))) (λ p v′ _ ep is′. move ! (1 ∷ []) $ drop ! $ split ! $ move ! (1 ∷ []) $ drop ! $
           land ! (from ! (stop !)) (init ! 6 refl (LL.lawful P.the-type P′.the-laws 𝓤 H A W .typed p _ is′ .0)) $ rewrite ! 6 (λ (w : Val). ‵ (fat fullShare P′.mir l₇ 0 w)) (ap only (LL.tells P.the-type P′.the-laws p (v′ ∷ []) is′)) refl $
           -- goes_on(probe, rule)
@@ -244,7 +244,7 @@ module _ {M : Type 1} (𝓤 : URA M) (H : Heap 𝓤) (A : Atoms 𝓤) (W : Given
           more : T (ltb (i .0) (ring .len)) → i .0 + 1 < 2 ^ 64
           more less = omega (arith, ltb→lt (i .0) (ring .len) less, asked .1)
 
-          read : (n : ℕ) (p : Probe) (t : Bool) → n ≡ place ring (i .0) → p ≡ getD ys n nil → t ≡ passes rule p → passes rule (at ys ring (i .0)) ≡ t
+          read : (n : ℕ) (p : QueuedProbe) (t : Bool) → n ≡ place ring (i .0) → p ≡ getD ys n nil → t ≡ passes rule p → passes rule (at ys ring (i .0)) ≡ t
           read n p t en ep et = sym (et ∙ ap (passes rule) (ep ∙ ap (λ (m : ℕ). getD ys m nil) en))
 
           next : T (ltb (i .0) (ring .len)) → passes rule (at ys ring (i .0)) ≡ true → Upto

@@ -41,16 +41,16 @@ use denote.Triple.Spec.{Meets, tripleOf}
 use denote.Triple.Table.{entered, cited}
 use denote.Triple.Walked.{says, needs, Stays, stay-none, stay-slice, walkOf, AllGo, goes-none, goes-slice, Walks, ends-at, walked, walk-meets}
 use denote.Exit.{yes}
-use Rattle.scope.specs.Limits.{capacity}
-use Rattle.probe_queue.specs.declared.Probe.{Probe}
-use Rattle.probe_queue.specs.declared.Ring.{Ring}
+use Rattle.limits.specs.Limits.{capacity}
+use Rattle.probe_queue.specs.declared.QueuedProbe.{QueuedProbe}
+use Rattle.probe_queue.specs.declared.QueueRing.{QueueRing}
 use Rattle.probe_queue.specs.Queue.{nil, Held, place, unmarked, popped}
 use Rattle.walking.proofs.Calls.{asks, calls-plain, whiles}
 use Rattle.probe_queue.proofs.SliceCalls.{at-list, sliced-val, calls-mut, calls-seen}
-use Rattle.probe_queue.proofs.Probe as P
-use Rattle.probe_queue.proofs.Probe.Laws as P′
-use Rattle.probe_queue.proofs.Ring as G
-use Rattle.probe_queue.proofs.Ring.Laws as G′
+use Rattle.probe_queue.proofs.QueuedProbe as P
+use Rattle.probe_queue.proofs.QueuedProbe.Laws as P′
+use Rattle.probe_queue.proofs.QueueRing as G
+use Rattle.probe_queue.proofs.QueueRing.Laws as G′
 use Rattle.probe_queue.proofs.place_of as place-of-fn
 use Rattle.probe_queue.proofs.place_of.Symbol as place-of-def
 use Rattle.probe_queue.proofs.place_of.Symbol.{name as #probe-queue·place-of}
@@ -97,16 +97,16 @@ module _ {M : Type 1} (𝓤 : URA M) (H : Heap 𝓤) (A : Atoms 𝓤) (mem : Mem
   abbrev Known : Calls 𝓤 H → Type 1
   Known C = Triple 𝓤 (C #probe-queue·place-of) PlaceOf × (Triple 𝓤 (C #probe-queue·front) Front × (Triple 𝓤 (C #probe-queue·unmark-queued) UnmarkQueued))
 
-module _ {M : Type 1} (𝓤 : URA M) (H : Heap 𝓤) (A : Atoms 𝓤) (W : Given 𝓤 H A) (mem : Memory → SProp 𝓤) (run : Routine → Fun 𝓤) (κ : Lft) (q : Share) (b o : ℕ) (γ : GName) (ys : List Probe) (ring rest : Ring) (count : ℕ)
+module _ {M : Type 1} (𝓤 : URA M) (H : Heap 𝓤) (A : Atoms 𝓤) (W : Given 𝓤 H A) (mem : Memory → SProp 𝓤) (run : Routine → Fun 𝓤) (κ : Lft) (q : Share) (b o : ℕ) (γ : GName) (ys : List QueuedProbe) (ring rest : QueueRing) (count : ℕ)
     (room : Room P.the-row (length ys)) (asked : Held ring × (Held rest × (count ≤ capacity))) (ring-is : Is G.the-row ring (G′.lowered ring ∷ [])) (rest-is : Is G.the-row rest (G′.lowered rest ∷ [])) (count-fits : count < 2 ^ 64) where
   abbrev vals : List Val × (List Val × (List Val × (List Val × Unit {0})))
   vals = (sliced-val b o ys, (G′.lowered ring ∷ [], (G′.lowered rest ∷ [], (vint w64 count ∷ [], tt))))
 
-  ring-typed : (g : Ring) → Is G.the-row g (G′.lowered g ∷ []) → T (hasTy G′.mir (G′.lowered g)) × WT (G′.lowered g)
+  ring-typed : (g : QueueRing) → Is G.the-row g (G′.lowered g ∷ []) → T (hasTy G′.mir (G′.lowered g)) × WT (G′.lowered g)
   ring-typed g is = LL.lawful G.the-type G′.the-laws 𝓤 H A W .typed g _ is .0
 
   -- the slice at the list l, as the machine value for the list k has it
-  abbrev Own : List Probe → List Probe → Fml
+  abbrev Own : List QueuedProbe → List QueuedProbe → Fml
   Own l k = MutSlice (named 0) κ P.the-row .own (at-list b o γ l) (sliced-val b o k)
 
   opened : ent 𝓤 (onEntry 𝓤 H A f.signature (κ, tt) (q, tt) (at-list b o γ ys, (ring, (rest, (count, tt)))) vals) (sep 𝓤 (A .lft κ q) (sem 𝓤 H A (Own ys ys)))
@@ -128,18 +128,18 @@ module _ {M : Type 1} (𝓤 : URA M) (H : Heap 𝓤) (A : Atoms 𝓤) (W : Given
   ask-place : (i : ℕ) → i < count → ent 𝓤 (emp 𝓤) (PlaceOf 𝓤 H A mem run .pre (to-place i))
   ask-place i l = asks 𝓤 H A (G.the-row ∷ usize ∷ []) (LL.makes G.the-type G′.the-plain 𝓤 H A, (uint-makes 𝓤 H A W w64, tt)) (ring, (i, tt)) _ (ring-is, ((refl, omega (arith, l, asked .1 .1)), tt)) _ (factI 𝓤 _ (emp 𝓤) (asked .0 .0, omega (arith, l, asked .1 .1)))
 
-  abbrev to-front : List Probe → ℕ → ℕ → GName → Front 𝓤 H A mem run .Ghost
+  abbrev to-front : List QueuedProbe → ℕ → ℕ → GName → Front 𝓤 H A mem run .Ghost
   to-front zs n ν δ = (((ν ∷ [], tt), (fullShare, tt), tt, (at-list b o δ zs, (n, tt)), (sliced-val b o zs, (vint w64 n ∷ [], tt))), tt)
 
-  ask-front : (zs : List Probe) (n : ℕ) → n < 2 ^ 64 → (ν : ℕ) (δ : GName) → ent 𝓤 (sep 𝓤 (A .lft (ν ∷ []) fullShare) (sem 𝓤 H A (ShrSlice (named 0) (ν ∷ []) P.the-row .own (at-list b o δ zs) (sliced-val b o zs)))) (Front 𝓤 H A mem run .pre (to-front zs n ν δ))
+  ask-front : (zs : List QueuedProbe) (n : ℕ) → n < 2 ^ 64 → (ν : ℕ) (δ : GName) → ent 𝓤 (sep 𝓤 (A .lft (ν ∷ []) fullShare) (sem 𝓤 H A (ShrSlice (named 0) (ν ∷ []) P.the-row .own (at-list b o δ zs) (sliced-val b o zs)))) (Front 𝓤 H A mem run .pre (to-front zs n ν δ))
   ask-front zs n fits ν δ =
       qed W (‵ (flft (ν ∷ []) fullShare) ∷ ‵ (ShrSlice (named 0) (ν ∷ []) P.the-row .own (at-list b o δ zs) (sliced-val b o zs)) ∷ []) ∵ nothing ! $ move ! (1 ∷ 0 ∷ []) $ join ! $
       nothing ! $ owned ! usize (Is usize) (uint-makes 𝓤 H A W w64) n _ (refl, fits) $ fjoin ! $ move ! (2 ∷ 0 ∷ []) $ fjoin ! $ move ! (1 ∷ 0 ∷ []) $ join ! $ nothing ! $ move ! (1 ∷ 0 ∷ []) $ done !
 
-  abbrev to-unmark : List Probe → ℕ → ℕ → GName → UnmarkQueued 𝓤 H A mem run .Ghost
+  abbrev to-unmark : List QueuedProbe → ℕ → ℕ → GName → UnmarkQueued 𝓤 H A mem run .Ghost
   to-unmark zs sq ν δ = (((ν ∷ [], tt), (fullShare, tt), tt, (at-list b o δ zs, (rest, (sq, tt))), (sliced-val b o zs, (G′.lowered rest ∷ [], (vint w32 sq ∷ [], tt)))), tt)
 
-  ask-unmark : (zs : List Probe) (sq : ℕ) → sq < 2 ^ 32 → (ν : ℕ) (δ : GName) → ent 𝓤 (sep 𝓤 (A .lft (ν ∷ []) fullShare) (sem 𝓤 H A (MutSlice (named 0) (ν ∷ []) P.the-row .own (at-list b o δ zs) (sliced-val b o zs)))) (UnmarkQueued 𝓤 H A mem run .pre (to-unmark zs sq ν δ))
+  ask-unmark : (zs : List QueuedProbe) (sq : ℕ) → sq < 2 ^ 32 → (ν : ℕ) (δ : GName) → ent 𝓤 (sep 𝓤 (A .lft (ν ∷ []) fullShare) (sem 𝓤 H A (MutSlice (named 0) (ν ∷ []) P.the-row .own (at-list b o δ zs) (sliced-val b o zs)))) (UnmarkQueued 𝓤 H A mem run .pre (to-unmark zs sq ν δ))
   ask-unmark zs sq fits ν δ =
       qed W (‵ (flft (ν ∷ []) fullShare) ∷ ‵ (MutSlice (named 0) (ν ∷ []) P.the-row .own (at-list b o δ zs) (sliced-val b o zs)) ∷ []) ∵ says ! (asked .1 .0) $ nothing ! $ move ! (1 ∷ 0 ∷ []) $ join ! $ frame ! $
       nothing ! $ owned ! u32 (Is u32) (uint-makes 𝓤 H A W w32) sq _ (refl, fits) $ fjoin ! $ owned ! G.the-row (Is G.the-row) (LL.makes G.the-type G′.the-plain 𝓤 H A) rest _ rest-is $ fjoin ! $ move ! (1 ∷ 0 ∷ []) $ fjoin ! $ done !
@@ -154,7 +154,7 @@ module _ {M : Type 1} (𝓤 : URA M) (H : Heap 𝓤) (A : Atoms 𝓤) (W : Given
   Nearer-wf : WellFounded Nearer
   Nearer-wf = InvImage·wf (λ (i : Upto). count - i .0) (Nat·lt-wfRel .wf)
 
-  abbrev left : ℕ → List Probe
+  abbrev left : ℕ → List QueuedProbe
   left i = popped ys ring rest i
 
   module _ (𝓣 : Tables 𝓤 H) (known : Known 𝓤 H A mem run (𝓣 .C)) where
@@ -188,7 +188,7 @@ module _ {M : Type 1} (𝓤 : URA M) (H : Heap 𝓤) (A : Atoms 𝓤) (W : Given
           -- front(queue, at)
           assigns ! (addr ! (from ! (fld ! refl (hop ! (look-in ! 28 (sub ! 0 refl (whole !))) (stop !))))) (from ! (stop !)) (init ! 10 refl (tt, tt)) $
           assigns ! (agg ! (and-then ! (load ! (from ! (stop !)) (look ! 10 refl)) (and-then ! (load ! (from ! (fld ! refl (stop !))) (look-in ! 28 (sub ! 1 refl (whole !)))) (no-more !)))) (from ! (stop !)) (init ! 8 refl (tt, (tt, (record { fits = here .0 }, tt)))) $
-          calls-seen ! (fmOf 𝓤 H (W .laws) 𝓣) front-fn.ended (front-fn.clauses 𝓤 H A mem run) (known .1 .0) P.the-row b o (left (i .0)) here (to-front (left (i .0)) n) (ask-front (left (i .0)) n (is .1)) (λ ν δ. fst∗ 𝓤 _ (emp 𝓤)) (λ ν δ (p : Probe). p ≡ getD (left (i .0)) n nil) (λ ν δ p e. id⊢ 𝓤 _)
+          calls-seen ! (fmOf 𝓤 H (W .laws) 𝓣) front-fn.ended (front-fn.clauses 𝓤 H A mem run) (known .1 .0) P.the-row b o (left (i .0)) here (to-front (left (i .0)) n) (ask-front (left (i .0)) n (is .1)) (λ ν δ. fst∗ 𝓤 _ (emp 𝓤)) (λ ν δ (p : QueuedProbe). p ≡ getD (left (i .0)) n nil) (λ ν δ p e. id⊢ 𝓤 _)
           (λ ν δ. (and-then ! (load ! (from ! (stop !)) (look ! 8 refl)) (and-then ! (load ! (from ! (stop !)) (look ! 18 refl)) (no-more !)))) (λ ν δ p v′ ep is′.
           land ! (from ! (stop !)) (init ! 16 refl (LL.lawful P.the-type P′.the-laws 𝓤 H A W .typed p _ is′ .0)) $ rewrite ! 16 (λ (w : Val). ‵ (fat fullShare P′.mir l₇ 0 w)) (ap only (LL.tells P.the-type P′.the-laws p (v′ ∷ []) is′)) refl $
           assigns ! (of-opd ! (load ! (from ! (fld ! refl (stop !))) (look-in ! 16 (sub ! 0 refl (whole !))))) (from ! (stop !)) (init ! 14 refl (tt, record { fits = LL.owed P.the-type P′.the-laws p _ is′ .0 .1 })) $
@@ -196,12 +196,12 @@ module _ {M : Type 1} (𝓤 : URA M) (H : Heap 𝓤) (A : Atoms 𝓤) (W : Given
           assigns ! (addr ! (from ! (fld ! refl (hop ! (look-in ! 28 (sub ! 0 refl (whole !))) (stop !))))) (from ! (stop !)) (init ! 4 refl (tt, tt)) $
           assigns ! (agg ! (and-then ! (load ! (from ! (stop !)) (look ! 4 refl)) (and-then ! (load ! (from ! (fld ! refl (stop !))) (look-in ! 28 (sub ! 1 refl (whole !)))) (no-more !)))) (from ! (stop !)) (init ! 2 refl (tt, (tt, (record { fits = here .0 }, tt)))) $
           calls-mut ! (fmOf 𝓤 H (W .laws) 𝓣) unmark-queued-fn.ended (unmark-queued-fn.clauses 𝓤 H A mem run) (known .1 .1) P.the-row b o (left (i .0)) here (to-unmark (left (i .0)) (p .sequence)) (ask-unmark (left (i .0)) (p .sequence) (LL.owed P.the-type P′.the-laws p _ is′ .0 .1)) (λ ν δ. fst∗ 𝓤 _ (emp 𝓤))
-          (λ ν δ ws. ws .0) (λ ν δ ws. fst∗ 𝓤 _ (sem 𝓤 H A (fsep ftrue (fsep ftrue ftrue)))) (λ ν δ r (zs : List Probe). zs ≡ unmarked (left (i .0)) rest (p .sequence) (rest .len)) (λ ν δ r ws. id⊢ 𝓤 _)
+          (λ ν δ ws. ws .0) (λ ν δ ws. fst∗ 𝓤 _ (sem 𝓤 H A (fsep ftrue (fsep ftrue ftrue)))) (λ ν δ r (zs : List QueuedProbe). zs ≡ unmarked (left (i .0)) rest (p .sequence) (rest .len)) (λ ν δ r ws. id⊢ 𝓤 _)
           (λ ν δ. (and-then ! (load ! (from ! (stop !)) (look ! 2 refl)) (and-then ! (load ! (from ! (stop !)) (look ! 24 refl)) (and-then ! (load ! (from ! (stop !)) (look ! 14 refl)) (no-more !))))) (λ ν δ r v″ zs ez is″ l.
           land ! (from ! (stop !)) (init ! 6 refl (nothing-lawful 𝓤 H A W .typed r _ is″ .0)) $
           assigns-last ! (bin ! (load ! (from ! (stop !)) (look ! 20 refl)) (lit ! tt) (record { fits = more less })) (from ! (stop !)) (store ! 20 refl (tt, record { fits = more less })) $
           forget ! 2 refl $ forget ! 4 refl $ forget ! 6 refl $ forget ! 8 refl $ forget ! 10 refl $ forget ! 12 refl $ forget ! 14 refl $ forget ! 16 refl $ forget ! 18 refl $
-          rewrite ! 1 (λ (zs′ : List Probe). ‵ (Own zs′ (left (i .0)))) (stepped n p zs en ep ez) refl $ rewrite ! 1 (λ (m : ℕ). ‵ (MutSlice (named 0) κ P.the-row .own (at-list b o γ (left (i .0 + 1))) (sliceVal (b, o) m ∷ []))) same refl $
+          rewrite ! 1 (λ (zs′ : List QueuedProbe). ‵ (Own zs′ (left (i .0)))) (stepped n p zs en ep ez) refl $ rewrite ! 1 (λ (m : ℕ). ‵ (MutSlice (named 0) κ P.the-row .own (at-list b o γ (left (i .0 + 1))) (sliceVal (b, o) m ∷ []))) same refl $
           rewrite ! 28 (λ (m : ℕ). ‵ (fat fullShare sliced l₁ 0 (sliceVal (b, o) m))) same refl $
           again ! Nearer At i (next less) (add-one-dec count (i .0) (ltb→lt (i .0) count less))))))
           (λ over.
@@ -224,8 +224,8 @@ module _ {M : Type 1} (𝓤 : URA M) (H : Heap 𝓤) (A : Atoms 𝓤) (W : Given
           same : length (left (i .0)) ≡ length (left (i .0 + 1))
           same = popped-length ys ring rest (i .0) ∙ sym (popped-length ys ring rest (i .0 + 1))
 
-          stepped : (n : ℕ) (p : Probe) (zs : List Probe) → n ≡ place ring (i .0) → p ≡ getD (left (i .0)) n nil → zs ≡ unmarked (left (i .0)) rest (p .sequence) (rest .len) → zs ≡ left (i .0 + 1)
-          stepped n p zs en ep ez = ez ∙ ap (λ (p′ : Probe). unmarked (left (i .0)) rest (p′ .sequence) (rest .len)) (ep ∙ ap (λ (m : ℕ). getD (left (i .0)) m nil) en) ∙ ap left (sym (add-one (i .0)))
+          stepped : (n : ℕ) (p : QueuedProbe) (zs : List QueuedProbe) → n ≡ place ring (i .0) → p ≡ getD (left (i .0)) n nil → zs ≡ unmarked (left (i .0)) rest (p .sequence) (rest .len) → zs ≡ left (i .0 + 1)
+          stepped n p zs en ep ez = ez ∙ ap (λ (p′ : QueuedProbe). unmarked (left (i .0)) rest (p′ .sequence) (rest .len)) (ep ∙ ap (λ (m : ℕ). getD (left (i .0)) m nil) en) ∙ ap left (sym (add-one (i .0)))
 
     begins : (l₀ l₁ l₂ l₃ l₄ l₅ l₆ l₇ l₈ l₉ l₁₀ l₁₁ l₁₂ l₁₃ l₁₄ : ℕ) → Sq W (At l₀ l₁ l₂ l₃ l₄ l₅ l₆ l₇ l₈ l₉ l₁₀ l₁₁ l₁₂ l₁₃ l₁₄ (0, zero-le)) (runs C Λ (En l₀ l₁ l₂ l₃ l₄ l₅ l₆ l₇ l₈ l₉ l₁₀ l₁₁ l₁₂ l₁₃ l₁₄) code-mir.t-2 (atRet (En l₀ l₁ l₂ l₃ l₄ l₅ l₆ l₇ l₈ l₉ l₁₀ l₁₁ l₁₂ l₁₃ l₁₄) Post))
     begins l₀ l₁ l₂ l₃ l₄ l₅ l₆ l₇ l₈ l₉ l₁₀ l₁₁ l₁₂ l₁₃ l₁₄ = first ! $ blocks ! $ loops ! 𝓣 Nearer Nearer-wf (At l₀ l₁ l₂ l₃ l₄ l₅ l₆ l₇ l₈ l₉ l₁₀ l₁₁ l₁₂ l₁₃ l₁₄) (turns l₀ l₁ l₂ l₃ l₄ l₅ l₆ l₇ l₈ l₉ l₁₀ l₁₁ l₁₂ l₁₃ l₁₄) (0, zero-le)

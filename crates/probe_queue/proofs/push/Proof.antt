@@ -39,12 +39,12 @@ use denote.Triple.Spec.{Meets, tripleOf}
 use denote.Triple.Table.{entered}
 use denote.Triple.Walked.{says, Stays, stay-none, stay-slice, walkOf, AllGo, goes-none, goes-slice, Walks, ends-at, walked, walk-meets}
 use denote.Exit.{yes}
-use Rattle.probe_queue.specs.declared.Probe.{Probe}
+use Rattle.probe_queue.specs.declared.QueuedProbe.{QueuedProbe}
 use Rattle.probe_queue.specs.Queue.{nil}
 use Rattle.walking.proofs.Calls.{unless}
 use Rattle.probe_queue.proofs.SliceCalls.{at-list, sliced-val}
-use Rattle.probe_queue.proofs.Probe as P
-use Rattle.probe_queue.proofs.Probe.Laws as P′
+use Rattle.probe_queue.proofs.QueuedProbe as P
+use Rattle.probe_queue.proofs.QueuedProbe.Laws as P′
 use Rattle.probe_queue.proofs.push.Key.{name as #probe-queue·push}
 use Rattle.probe_queue.proofs.push as f
 use Rattle.probe_queue.proofs.push.Statement as stated
@@ -62,16 +62,16 @@ set-past [] n x l = refl
 set-past (y ∷ xs) zero x l = absurd (not-suc-le-zero l)
 set-past (y ∷ xs) (suc n) x l = ap (λ (zs : List _). y ∷ zs) (set-past xs n x (le-of-suc-le-suc l))
 
-module _ {M : Type 1} (𝓤 : URA M) (H : Heap 𝓤) (A : Atoms 𝓤) (W : Given 𝓤 H A) (mem : Memory → SProp 𝓤) (run : Routine → Fun 𝓤) (κ : Lft) (q : Share) (b o : ℕ) (γ : GName) (ys : List Probe) (n : ℕ) (p : Probe)
+module _ {M : Type 1} (𝓤 : URA M) (H : Heap 𝓤) (A : Atoms 𝓤) (W : Given 𝓤 H A) (mem : Memory → SProp 𝓤) (run : Routine → Fun 𝓤) (κ : Lft) (q : Share) (b o : ℕ) (γ : GName) (ys : List QueuedProbe) (n : ℕ) (p : QueuedProbe)
     (room : Room P.the-row (length ys)) (n-fits : n < 2 ^ 64) (p-is : Is P.the-row p (P′.lowered p ∷ [])) where
   abbrev vals : List Val × (List Val × (List Val × Unit {0}))
   vals = (sliced-val b o ys, (vint w64 n ∷ [], (P′.lowered p ∷ [], tt)))
 
   -- the list at exit
-  abbrev zs : List Probe
+  abbrev zs : List QueuedProbe
   zs = set ys n p
 
-  abbrev Own : List Probe → Fml
+  abbrev Own : List QueuedProbe → Fml
   Own l = MutSlice (named 0) κ P.the-row .own (at-list b o γ l) (sliced-val b o ys)
 
   opened : ent 𝓤 (onEntry 𝓤 H A f.signature (κ, tt) (q, tt) (at-list b o γ ys, (n, (p, tt))) vals) (sep 𝓤 (A .lft κ q) (sem 𝓤 H A (Own ys)))
@@ -124,7 +124,7 @@ module _ {M : Type 1} (𝓤 : URA M) (H : Heap 𝓤) (A : Atoms 𝓤) (W : Given
         pureI ! (at-slice P.the-row (at-list b o γ zs) (sliced-val b o ys)) (tt, (tt, tt)) (ap (λ (m : ℕ). sliceVal (b, o) m ∷ []) (sym (length-set ys n p)), subst (Room P.the-row) (sym (length-set ys n p)) room) $ fjoin ! $ move ! (1 ∷ 0 ∷ []) $
         forget ! 2 refl $ forget ! 4 refl $ forget ! 6 refl $ forget ! 8 refl $ forget ! 10 refl $ forget ! 12 refl $ forget ! 14 refl $ ends l₀ l₁ l₂ l₃ l₄ l₅ l₆ l₇))
         (λ over.
-        rewrite ! 1 (λ (l : List Probe). ‵ (Own l)) (sym (set-past ys n p (nltb→le n (length ys) over))) refl $
+        rewrite ! 1 (λ (l : List QueuedProbe). ‵ (Own l)) (sym (set-past ys n p (nltb→le n (length ys) over))) refl $
         forget ! 6 refl $ forget ! 8 refl $ forget ! 10 refl $ forget ! 12 refl $ forget ! 14 refl $ ends l₀ l₁ l₂ l₃ l₄ l₅ l₆ l₇)))))))))
       where
         far : n < length ys → n * 24 < 2 ^ 64

@@ -41,15 +41,15 @@ use denote.Triple.Spec.{Meets, tripleOf}
 use denote.Triple.Table.{entered, cited}
 use denote.Triple.Walked.{says, needs, Stays, stay-none, stay-slice, walkOf, AllGo, goes-none, goes-slice, Walks, ends-at, walked, walk-meets}
 use denote.Exit.{yes}
-use Rattle.probe_queue.specs.declared.Probe.{Probe}
-use Rattle.probe_queue.specs.declared.Ring.{Ring}
+use Rattle.probe_queue.specs.declared.QueuedProbe.{QueuedProbe}
+use Rattle.probe_queue.specs.declared.QueueRing.{QueueRing}
 use Rattle.probe_queue.specs.Queue.{nil, Held, place, unmark, placeIf, unmarked}
 use Rattle.walking.proofs.Calls.{asks, calls-plain, whiles}
 use Rattle.probe_queue.proofs.SliceCalls.{at-list, sliced-val, calls-mut, calls-seen}
-use Rattle.probe_queue.proofs.Probe as P
-use Rattle.probe_queue.proofs.Probe.Laws as P′
-use Rattle.probe_queue.proofs.Ring as G
-use Rattle.probe_queue.proofs.Ring.Laws as G′
+use Rattle.probe_queue.proofs.QueuedProbe as P
+use Rattle.probe_queue.proofs.QueuedProbe.Laws as P′
+use Rattle.probe_queue.proofs.QueueRing as G
+use Rattle.probe_queue.proofs.QueueRing.Laws as G′
 use Rattle.probe_queue.proofs.place_of as place-of-fn
 use Rattle.probe_queue.proofs.place_of.Symbol as place-of-def
 use Rattle.probe_queue.proofs.place_of.Symbol.{name as #probe-queue·place-of}
@@ -111,7 +111,7 @@ module _ {M : Type 1} (𝓤 : URA M) (H : Heap 𝓤) (A : Atoms 𝓤) (mem : Mem
   abbrev Known : Calls 𝓤 H → Type 1
   Known C = Triple 𝓤 (C #probe-queue·place-of) PlaceOf × (Triple 𝓤 (C #probe-queue·front) Front × (Triple 𝓤 (C #probe-queue·unmarked) Unmarked × (Triple 𝓤 (C #probe-queue·place-if) PlaceIf × (Triple 𝓤 (C #probe-queue·push) Push))))
 
-module _ {M : Type 1} (𝓤 : URA M) (H : Heap 𝓤) (A : Atoms 𝓤) (W : Given 𝓤 H A) (mem : Memory → SProp 𝓤) (run : Routine → Fun 𝓤) (κ : Lft) (q : Share) (b o : ℕ) (γ : GName) (ys : List Probe) (ring : Ring) (sq : ℕ)
+module _ {M : Type 1} (𝓤 : URA M) (H : Heap 𝓤) (A : Atoms 𝓤) (W : Given 𝓤 H A) (mem : Memory → SProp 𝓤) (run : Routine → Fun 𝓤) (κ : Lft) (q : Share) (b o : ℕ) (γ : GName) (ys : List QueuedProbe) (ring : QueueRing) (sq : ℕ)
     (room : Room P.the-row (length ys)) (asked : Held ring) (ring-is : Is G.the-row ring (G′.lowered ring ∷ [])) (sq-fits : sq < 2 ^ 32) where
   abbrev vals : List Val × (List Val × (List Val × Unit {0}))
   vals = (sliced-val b o ys, (G′.lowered ring ∷ [], (vint w32 sq ∷ [], tt)))
@@ -123,7 +123,7 @@ module _ {M : Type 1} (𝓤 : URA M) (H : Heap 𝓤) (A : Atoms 𝓤) (W : Given
   len-fits = omega (arith, asked .1)
 
   -- the slice at the list l, as the machine value for the list k has it
-  abbrev Own : List Probe → List Probe → Fml
+  abbrev Own : List QueuedProbe → List QueuedProbe → Fml
   Own l k = MutSlice (named 0) κ P.the-row .own (at-list b o γ l) (sliced-val b o k)
 
   opened : ent 𝓤 (onEntry 𝓤 H A f.signature (κ, tt) (q, tt) (at-list b o γ ys, (ring, (sq, tt))) vals) (sep 𝓤 (A .lft κ q) (sem 𝓤 H A (Own ys ys)))
@@ -145,30 +145,30 @@ module _ {M : Type 1} (𝓤 : URA M) (H : Heap 𝓤) (A : Atoms 𝓤) (W : Given
   ask-place : (i : ℕ) → i < (ring .len) → ent 𝓤 (emp 𝓤) (PlaceOf 𝓤 H A mem run .pre (to-place i))
   ask-place i l = asks 𝓤 H A (G.the-row ∷ usize ∷ []) (LL.makes G.the-type G′.the-plain 𝓤 H A, (uint-makes 𝓤 H A W w64, tt)) (ring, (i, tt)) _ (ring-is, ((refl, omega (arith, l, asked .1)), tt)) _ (factI 𝓤 _ (emp 𝓤) (asked .0, omega (arith, l, asked .1)))
 
-  abbrev to-front : List Probe → ℕ → ℕ → GName → Front 𝓤 H A mem run .Ghost
+  abbrev to-front : List QueuedProbe → ℕ → ℕ → GName → Front 𝓤 H A mem run .Ghost
   to-front zs n ν δ = (((ν ∷ [], tt), (fullShare, tt), tt, (at-list b o δ zs, (n, tt)), (sliced-val b o zs, (vint w64 n ∷ [], tt))), tt)
 
-  ask-front : (zs : List Probe) (n : ℕ) → n < 2 ^ 64 → (ν : ℕ) (δ : GName) → ent 𝓤 (sep 𝓤 (A .lft (ν ∷ []) fullShare) (sem 𝓤 H A (ShrSlice (named 0) (ν ∷ []) P.the-row .own (at-list b o δ zs) (sliced-val b o zs)))) (Front 𝓤 H A mem run .pre (to-front zs n ν δ))
+  ask-front : (zs : List QueuedProbe) (n : ℕ) → n < 2 ^ 64 → (ν : ℕ) (δ : GName) → ent 𝓤 (sep 𝓤 (A .lft (ν ∷ []) fullShare) (sem 𝓤 H A (ShrSlice (named 0) (ν ∷ []) P.the-row .own (at-list b o δ zs) (sliced-val b o zs)))) (Front 𝓤 H A mem run .pre (to-front zs n ν δ))
   ask-front zs n fits ν δ =
       qed W (‵ (flft (ν ∷ []) fullShare) ∷ ‵ (ShrSlice (named 0) (ν ∷ []) P.the-row .own (at-list b o δ zs) (sliced-val b o zs)) ∷ []) ∵ nothing ! $ move ! (1 ∷ 0 ∷ []) $ join ! $
       nothing ! $ owned ! usize (Is usize) (uint-makes 𝓤 H A W w64) n _ (refl, fits) $ fjoin ! $ move ! (2 ∷ 0 ∷ []) $ fjoin ! $ move ! (1 ∷ 0 ∷ []) $ join ! $ nothing ! $ move ! (1 ∷ 0 ∷ []) $ done !
 
-  abbrev to-unmarked : Probe → Unmarked 𝓤 H A mem run .Ghost
+  abbrev to-unmarked : QueuedProbe → Unmarked 𝓤 H A mem run .Ghost
   to-unmarked p = ((tt, tt, tt, (p, (sq, tt)), (P′.lowered p ∷ [], (vint w32 sq ∷ [], tt))), tt)
 
-  ask-unmarked : (p : Probe) → Is P.the-row p (P′.lowered p ∷ []) → ent 𝓤 (emp 𝓤) (Unmarked 𝓤 H A mem run .pre (to-unmarked p))
+  ask-unmarked : (p : QueuedProbe) → Is P.the-row p (P′.lowered p ∷ []) → ent 𝓤 (emp 𝓤) (Unmarked 𝓤 H A mem run .pre (to-unmarked p))
   ask-unmarked p is = asks 𝓤 H A (P.the-row ∷ u32 ∷ []) (LL.makes P.the-type P′.the-plain 𝓤 H A, (uint-makes 𝓤 H A W w32, tt)) (p, (sq, tt)) _ (is, ((refl, sq-fits), tt)) _ (id⊢ 𝓤 (emp 𝓤))
 
-  abbrev to-place-if : Probe → ℕ → PlaceIf 𝓤 H A mem run .Ghost
+  abbrev to-place-if : QueuedProbe → ℕ → PlaceIf 𝓤 H A mem run .Ghost
   to-place-if p n = ((tt, tt, tt, (p, (sq, (n, tt))), (P′.lowered p ∷ [], (vint w32 sq ∷ [], (vint w64 n ∷ [], tt)))), tt)
 
-  ask-place-if : (p : Probe) (n : ℕ) → Is P.the-row p (P′.lowered p ∷ []) → n < 2 ^ 64 → ent 𝓤 (emp 𝓤) (PlaceIf 𝓤 H A mem run .pre (to-place-if p n))
+  ask-place-if : (p : QueuedProbe) (n : ℕ) → Is P.the-row p (P′.lowered p ∷ []) → n < 2 ^ 64 → ent 𝓤 (emp 𝓤) (PlaceIf 𝓤 H A mem run .pre (to-place-if p n))
   ask-place-if p n is fits = asks 𝓤 H A (P.the-row ∷ u32 ∷ usize ∷ []) (LL.makes P.the-type P′.the-plain 𝓤 H A, (uint-makes 𝓤 H A W w32, (uint-makes 𝓤 H A W w64, tt))) (p, (sq, (n, tt))) _ (is, ((refl, sq-fits), ((refl, fits), tt))) _ (id⊢ 𝓤 (emp 𝓤))
 
-  abbrev to-push : List Probe → ℕ → Probe → ℕ → GName → Push 𝓤 H A mem run .Ghost
+  abbrev to-push : List QueuedProbe → ℕ → QueuedProbe → ℕ → GName → Push 𝓤 H A mem run .Ghost
   to-push zs n p ν δ = (((ν ∷ [], tt), (fullShare, tt), tt, (at-list b o δ zs, (n, (p, tt))), (sliced-val b o zs, (vint w64 n ∷ [], (P′.lowered p ∷ [], tt)))), tt)
 
-  ask-push : (zs : List Probe) (n : ℕ) (p : Probe) → n < 2 ^ 64 → Is P.the-row p (P′.lowered p ∷ []) → (ν : ℕ) (δ : GName) → ent 𝓤 (sep 𝓤 (A .lft (ν ∷ []) fullShare) (sem 𝓤 H A (MutSlice (named 0) (ν ∷ []) P.the-row .own (at-list b o δ zs) (sliced-val b o zs)))) (Push 𝓤 H A mem run .pre (to-push zs n p ν δ))
+  ask-push : (zs : List QueuedProbe) (n : ℕ) (p : QueuedProbe) → n < 2 ^ 64 → Is P.the-row p (P′.lowered p ∷ []) → (ν : ℕ) (δ : GName) → ent 𝓤 (sep 𝓤 (A .lft (ν ∷ []) fullShare) (sem 𝓤 H A (MutSlice (named 0) (ν ∷ []) P.the-row .own (at-list b o δ zs) (sliced-val b o zs)))) (Push 𝓤 H A mem run .pre (to-push zs n p ν δ))
   ask-push zs n p fits is ν δ =
       qed W (‵ (flft (ν ∷ []) fullShare) ∷ ‵ (MutSlice (named 0) (ν ∷ []) P.the-row .own (at-list b o δ zs) (sliced-val b o zs)) ∷ []) ∵ nothing ! $ move ! (1 ∷ 0 ∷ []) $ join ! $
       nothing ! $ owned ! P.the-row (Is P.the-row) (LL.makes P.the-type P′.the-plain 𝓤 H A) p _ is $ fjoin ! $ owned ! usize (Is usize) (uint-makes 𝓤 H A W w64) n _ (refl, fits) $ fjoin ! $ move ! (2 ∷ 0 ∷ []) $ fjoin ! $ move ! (1 ∷ 0 ∷ []) $ join ! $ nothing ! $ move ! (1 ∷ 0 ∷ []) $ done !
@@ -183,7 +183,7 @@ module _ {M : Type 1} (𝓤 : URA M) (H : Heap 𝓤) (A : Atoms 𝓤) (W : Given
   Nearer-wf : WellFounded Nearer
   Nearer-wf = InvImage·wf (λ (i : Upto). (ring .len) - i .0) (Nat·lt-wfRel .wf)
 
-  abbrev left : ℕ → List Probe
+  abbrev left : ℕ → List QueuedProbe
   left i = unmarked ys ring sq i
 
   module _ (𝓣 : Tables 𝓤 H) (known : Known 𝓤 H A mem run (𝓣 .C)) where
@@ -217,11 +217,11 @@ module _ {M : Type 1} (𝓤 : URA M) (H : Heap 𝓤) (A : Atoms 𝓤) (W : Given
           -- front(queue, at)
           assigns ! (addr ! (from ! (fld ! refl (hop ! (look-in ! 30 (sub ! 0 refl (whole !))) (stop !))))) (from ! (stop !)) (init ! 10 refl (tt, tt)) $
           assigns ! (agg ! (and-then ! (load ! (from ! (stop !)) (look ! 10 refl)) (and-then ! (load ! (from ! (fld ! refl (stop !))) (look-in ! 30 (sub ! 1 refl (whole !)))) (no-more !)))) (from ! (stop !)) (init ! 8 refl (tt, (tt, (record { fits = here .0 }, tt)))) $
-          calls-seen ! (fmOf 𝓤 H (W .laws) 𝓣) front-fn.ended (front-fn.clauses 𝓤 H A mem run) (known .1 .0) P.the-row b o (left (i .0)) here (to-front (left (i .0)) n) (ask-front (left (i .0)) n (is .1)) (λ ν δ. fst∗ 𝓤 _ (emp 𝓤)) (λ ν δ (p : Probe). p ≡ getD (left (i .0)) n nil) (λ ν δ p e. id⊢ 𝓤 _)
+          calls-seen ! (fmOf 𝓤 H (W .laws) 𝓣) front-fn.ended (front-fn.clauses 𝓤 H A mem run) (known .1 .0) P.the-row b o (left (i .0)) here (to-front (left (i .0)) n) (ask-front (left (i .0)) n (is .1)) (λ ν δ. fst∗ 𝓤 _ (emp 𝓤)) (λ ν δ (p : QueuedProbe). p ≡ getD (left (i .0)) n nil) (λ ν δ p e. id⊢ 𝓤 _)
           (λ ν δ. (and-then ! (load ! (from ! (stop !)) (look ! 8 refl)) (and-then ! (load ! (from ! (stop !)) (look ! 20 refl)) (no-more !)))) (λ ν δ p v′ ep is′.
           land ! (from ! (stop !)) (init ! 18 refl (LL.lawful P.the-type P′.the-laws 𝓤 H A W .typed p _ is′ .0)) $ rewrite ! 18 (λ (w : Val). ‵ (fat fullShare P′.mir l₇ 0 w)) (ap only (LL.tells P.the-type P′.the-laws p (v′ ∷ []) is′)) refl $
           -- unmarked(probe, sequence)
-          calls-plain ! (fmOf 𝓤 H (W .laws) 𝓣) unmarked-fn.ended (unmarked-fn.clauses 𝓤 H A mem run) (known .1 .1 .0) (to-unmarked p) (ask-unmarked p (subst (Is P.the-row p) (LL.tells P.the-type P′.the-laws p (v′ ∷ []) is′) is′)) (λ (c : Probe) _. c ≡ unmark sq p) (λ c ws. id⊢ 𝓤 _)
+          calls-plain ! (fmOf 𝓤 H (W .laws) 𝓣) unmarked-fn.ended (unmarked-fn.clauses 𝓤 H A mem run) (known .1 .1 .0) (to-unmarked p) (ask-unmarked p (subst (Is P.the-row p) (LL.tells P.the-type P′.the-laws p (v′ ∷ []) is′) is′)) (λ (c : QueuedProbe) _. c ≡ unmark sq p) (λ c ws. id⊢ 𝓤 _)
           (and-then ! (load ! (from ! (stop !)) (look ! 19 refl)) (and-then ! (load ! (from ! (stop !)) (look ! 27 refl)) (no-more !))) (λ c v‴ _ ec is‴.
           land ! (from ! (stop !)) (init ! 16 refl (LL.lawful P.the-type P′.the-laws 𝓤 H A W .typed c _ is‴ .0)) $ rewrite ! 16 (λ (w : Val). ‵ (fat fullShare P′.mir l₈ 0 w)) (ap only (LL.tells P.the-type P′.the-laws c (v‴ ∷ []) is‴)) refl $
           -- place_if(probe, sequence, at)
@@ -232,12 +232,12 @@ module _ {M : Type 1} (𝓤 : URA M) (H : Heap 𝓤) (A : Atoms 𝓤) (W : Given
           assigns ! (addr ! (from ! (fld ! refl (hop ! (look-in ! 30 (sub ! 0 refl (whole !))) (stop !))))) (from ! (stop !)) (init ! 4 refl (tt, tt)) $
           assigns ! (agg ! (and-then ! (load ! (from ! (stop !)) (look ! 4 refl)) (and-then ! (load ! (from ! (fld ! refl (stop !))) (look-in ! 30 (sub ! 1 refl (whole !)))) (no-more !)))) (from ! (stop !)) (init ! 2 refl (tt, (tt, (record { fits = here .0 }, tt)))) $
           calls-mut ! (fmOf 𝓤 H (W .laws) 𝓣) push-fn.ended (push-fn.clauses 𝓤 H A mem run) (known .1 .1 .1 .1) P.the-row b o (left (i .0)) here (to-push (left (i .0)) to c) (ask-push (left (i .0)) to c (to-is .1) (subst (Is P.the-row c) (LL.tells P.the-type P′.the-laws c (v‴ ∷ []) is‴) is‴)) (λ ν δ. fst∗ 𝓤 _ (emp 𝓤))
-          (λ ν δ ws. ws .0) (λ ν δ ws. fst∗ 𝓤 _ (sem 𝓤 H A (fsep ftrue (fsep ftrue ftrue)))) (λ ν δ r (zs : List Probe). zs ≡ set (left (i .0)) to c) (λ ν δ r ws. id⊢ 𝓤 _)
+          (λ ν δ ws. ws .0) (λ ν δ ws. fst∗ 𝓤 _ (sem 𝓤 H A (fsep ftrue (fsep ftrue ftrue)))) (λ ν δ r (zs : List QueuedProbe). zs ≡ set (left (i .0)) to c) (λ ν δ r ws. id⊢ 𝓤 _)
           (λ ν δ. (and-then ! (load ! (from ! (stop !)) (look ! 2 refl)) (and-then ! (load ! (from ! (stop !)) (look ! 14 refl)) (and-then ! (load ! (from ! (stop !)) (look ! 16 refl)) (no-more !))))) (λ ν δ r v″ zs ez is″ l.
           land ! (from ! (stop !)) (init ! 6 refl (nothing-lawful 𝓤 H A W .typed r _ is″ .0)) $
           assigns-last ! (bin ! (load ! (from ! (stop !)) (look ! 22 refl)) (lit ! tt) (record { fits = more less })) (from ! (stop !)) (store ! 22 refl (tt, record { fits = more less })) $
           forget ! 2 refl $ forget ! 4 refl $ forget ! 6 refl $ forget ! 8 refl $ forget ! 10 refl $ forget ! 12 refl $ forget ! 14 refl $ forget ! 16 refl $ forget ! 18 refl $ forget ! 20 refl $
-          rewrite ! 1 (λ (zs′ : List Probe). ‵ (Own zs′ (left (i .0)))) (stepped n p c to zs en ep ec et ez) refl $ rewrite ! 1 (λ (m : ℕ). ‵ (MutSlice (named 0) κ P.the-row .own (at-list b o γ (left (i .0 + 1))) (sliceVal (b, o) m ∷ []))) same refl $
+          rewrite ! 1 (λ (zs′ : List QueuedProbe). ‵ (Own zs′ (left (i .0)))) (stepped n p c to zs en ep ec et ez) refl $ rewrite ! 1 (λ (m : ℕ). ‵ (MutSlice (named 0) κ P.the-row .own (at-list b o γ (left (i .0 + 1))) (sliceVal (b, o) m ∷ []))) same refl $
           rewrite ! 30 (λ (m : ℕ). ‵ (fat fullShare sliced l₁ 0 (sliceVal (b, o) m))) same refl $
           again ! Nearer At i (next less) (add-one-dec (ring .len) (i .0) (ltb→lt (i .0) (ring .len) less))))))))
           (λ over.
@@ -260,9 +260,9 @@ module _ {M : Type 1} (𝓤 : URA M) (H : Heap 𝓤) (A : Atoms 𝓤) (W : Given
           same : length (left (i .0)) ≡ length (left (i .0 + 1))
           same = unmarked-length ys ring sq (i .0) ∙ sym (unmarked-length ys ring sq (i .0 + 1))
 
-          stepped : (n : ℕ) (p c : Probe) (to : ℕ) (zs : List Probe) → n ≡ place ring (i .0) → p ≡ getD (left (i .0)) n nil → c ≡ unmark sq p → to ≡ placeIf sq p n → zs ≡ set (left (i .0)) to c → zs ≡ left (i .0 + 1)
+          stepped : (n : ℕ) (p c : QueuedProbe) (to : ℕ) (zs : List QueuedProbe) → n ≡ place ring (i .0) → p ≡ getD (left (i .0)) n nil → c ≡ unmark sq p → to ≡ placeIf sq p n → zs ≡ set (left (i .0)) to c → zs ≡ left (i .0 + 1)
           stepped n p c to zs en ep ec et ez =
-              ez ∙ stored (left (i .0)) sq n p c to (here .0) ep ec et ∙ ap (λ (d : Probe). set (left (i .0)) n (unmark sq d)) ep ∙ ap (λ (m : ℕ). set (left (i .0)) m (unmark sq (getD (left (i .0)) m nil))) en ∙ ap left (sym (add-one (i .0)))
+              ez ∙ stored (left (i .0)) sq n p c to (here .0) ep ec et ∙ ap (λ (d : QueuedProbe). set (left (i .0)) n (unmark sq d)) ep ∙ ap (λ (m : ℕ). set (left (i .0)) m (unmark sq (getD (left (i .0)) m nil))) en ∙ ap left (sym (add-one (i .0)))
 
     begins : (l₀ l₁ l₂ l₃ l₄ l₅ l₆ l₇ l₈ l₉ l₁₀ l₁₁ l₁₂ l₁₃ l₁₄ l₁₅ : ℕ) → Sq W (At l₀ l₁ l₂ l₃ l₄ l₅ l₆ l₇ l₈ l₉ l₁₀ l₁₁ l₁₂ l₁₃ l₁₄ l₁₅ (0, zero-le)) (runs C Λ (En l₀ l₁ l₂ l₃ l₄ l₅ l₆ l₇ l₈ l₉ l₁₀ l₁₁ l₁₂ l₁₃ l₁₄ l₁₅) code-mir.t-3 (atRet (En l₀ l₁ l₂ l₃ l₄ l₅ l₆ l₇ l₈ l₉ l₁₀ l₁₁ l₁₂ l₁₃ l₁₄ l₁₅) Post))
     begins l₀ l₁ l₂ l₃ l₄ l₅ l₆ l₇ l₈ l₉ l₁₀ l₁₁ l₁₂ l₁₃ l₁₄ l₁₅ = first ! $ blocks ! $ loops ! 𝓣 Nearer Nearer-wf (At l₀ l₁ l₂ l₃ l₄ l₅ l₆ l₇ l₈ l₉ l₁₀ l₁₁ l₁₂ l₁₃ l₁₄ l₁₅) (turns l₀ l₁ l₂ l₃ l₄ l₅ l₆ l₇ l₈ l₉ l₁₀ l₁₁ l₁₂ l₁₃ l₁₄ l₁₅) (0, zero-le)

@@ -1,7 +1,7 @@
 -- `record_parts::time_by` meets its contract. Assumes nothing.
 use mathlib.Core.Path.{ap}
 use mir.Syntax.{w64}
-use Rattle.calls.specs.declared.Time.the-variants.{Nanoseconds}
+use Rattle.call_types.specs.declared.Time.the-variants.{Nanoseconds}
 use Rattle.record_parts.proofs.Signed.{read-signed}
 use borrow.Author.Needs.{needs}
 use Rattle.record_parts.proofs.time_by.Statement.{statement}

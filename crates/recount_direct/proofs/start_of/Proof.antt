@@ -3,7 +3,7 @@ use mathlib.Core.Path.{_≡_}
 use Prim.Native.Nat.{_-_, _≤_}
 use native.Mathlib.Omega.{arith}
 use borrow.Author.Needs.{needs}
-use Rattle.scope.specs.Limits.{capacity}
+use Rattle.limits.specs.Limits.{capacity}
 use Rattle.recount_observed.specs.Observed.{observationAt}
 use Rattle.recount_window.specs.Window.{startOf}
 use Rattle.recount_direct.proofs.Laws.{start-first, start-turn, start-within}

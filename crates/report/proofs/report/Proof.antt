@@ -9,7 +9,7 @@ use lib.ListN.{length, drop}
 use denote.Ref.{now}
 use borrow.Author.Tests.{eq-eqb, ne-eqb}
 use Rattle.decimal.specs.Writing.{Stands, over}
-use Rattle.report.specs.declared.Answer.the-variants.{Written}
+use Rattle.report.specs.declared.ReportAnswer.the-variants.{Written}
 use Rattle.template.specs.Filled.{filled, places}
 use Rattle.template.specs.declared.Shown.{Shown}
 use Rattle.report.specs.Lines.{template, valuesOf, textOf}

@@ -2,7 +2,7 @@
 use mathlib.Core.Path.{sym, ap}
 use mathlib.Core.Bool.{Bool, _&&_}
 use lib.Dec.{ltb}
-use Rattle.scope.specs.Limits.{countBound}
+use Rattle.limits.specs.Limits.{countBound}
 use Rattle.delays.proofs.Signs.{high-bound}
 use borrow.Author.Needs.{needs}
 use Rattle.delays.proofs.Delays.counts_fit.Statement.{statement}

@@ -4,19 +4,19 @@ use mathlib.Core.Path.{sym, ap, _∙_}
 use mathlib.Core.Bool.{false}
 use Rattle.monitor.specs.declared.Monitor.{Monitor}
 use Rattle.monitor.specs.declared.Summary.{Summary}
-use Rattle.monitor.specs.declared.Answer.{Answer}
-use Rattle.monitor.specs.declared.Answer.the-variants.{Served, Refused}
+use Rattle.monitor.specs.declared.MonitorAnswer.{MonitorAnswer}
+use Rattle.monitor.specs.declared.MonitorAnswer.the-variants.{Served, Refused}
 use borrow.Author.Tests.{eq-eqb, ne-eqb}
 use Rattle.monitor.proofs.Chosen.{chosen, passed}
 use Rattle.monitor.proofs.Served.{serves-none}
-use Rattle.scope.specs.Limits.{capacity}
+use Rattle.limits.specs.Limits.{capacity}
 use Rattle.monitor.specs.Answers.{idleTo}
 use Rattle.monitor.specs.Operations.{idleOn}
 use borrow.Author.Needs.{needs}
 use Rattle.monitor.proofs.Monitor.idle.Statement.{statement}
 use Rattle.monitor.proofs.Monitor.idle.Tie as tie
 
-abbrev emptied : Monitor → Summary → Answer
+abbrev emptied : Monitor → Summary → MonitorAnswer
 emptied m s = Served (record { summary = s; timeout = m .timeout; transmitting = false; ring = record { head = m .ring .head; len = 0 }; run = m .run; latest = m .latest })
 
 refusal-requires : tie.Need-refusal-requires

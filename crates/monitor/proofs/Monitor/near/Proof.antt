@@ -2,14 +2,14 @@
 -- Assumes nothing.
 use mathlib.Core.Path.{sym, ap, _∙_}
 use Prim.Native.Nat.{ℕ}
-use Rattle.probe_queue.specs.declared.Ring.{Ring}
+use Rattle.probe_queue.specs.declared.QueueRing.{QueueRing}
 use Rattle.monitor.proofs.Chosen.{chosen, passed}
 use Rattle.monitor.specs.Parts.{nearIf}
 use borrow.Author.Needs.{needs}
 use Rattle.monitor.proofs.Monitor.near.Statement.{statement}
 use Rattle.monitor.proofs.Monitor.near.Tie as tie
 
-abbrev ringed : ℕ → ℕ → Ring
+abbrev ringed : ℕ → ℕ → QueueRing
 ringed head len = record { head = head; len = len }
 
 ascends-requires : tie.Need-ascends-requires

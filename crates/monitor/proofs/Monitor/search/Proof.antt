@@ -3,7 +3,7 @@
 use mathlib.Core.Path.{sym, ap, _∙_}
 use native.Mathlib.Omega.{arith}
 use Prim.Native.Nat.{ℕ, _+_}
-use Rattle.probe_queue.specs.declared.Ring.{Ring}
+use Rattle.probe_queue.specs.declared.QueueRing.{QueueRing}
 use borrow.Author.Tests.{le-leb, lt-leb}
 use Rattle.monitor.proofs.Chosen.{chosen, passed}
 use Rattle.monitor.specs.Parts.{searchIn}
@@ -11,7 +11,7 @@ use borrow.Author.Needs.{needs}
 use Rattle.monitor.proofs.Monitor.search.Statement.{statement}
 use Rattle.monitor.proofs.Monitor.search.Tie as tie
 
-abbrev ringed : ℕ → ℕ → Ring
+abbrev ringed : ℕ → ℕ → QueueRing
 ringed head len = record { head = head; len = len }
 
 ascends-requires : tie.Need-ascends-requires

@@ -1,0 +1,40 @@
+-- `host_ledger_checks::follow_counts_fit` meets its contract. Assumes nothing.
+use mathlib.Core.Path.{refl}
+use Rattle.host_ledger.specs.Parts.{followAt}
+use borrow.Author.Needs.{needs}
+use Rattle.host_ledger_checks.proofs.follow_counts_fit.Statement.{statement}
+use Rattle.host_ledger_checks.proofs.follow_counts_fit.Tie as tie
+
+element-copy-out-result : tie.Need-element-copy-out-result
+element-copy-out-result c = search needs
+
+element-copy-out-result-2 : tie.Need-element-copy-out-result-2
+element-copy-out-result-2 c = search needs
+
+element-copy-out-result-3 : tie.Need-element-copy-out-result-3
+element-copy-out-result-3 c = search needs
+
+element-copy-out-result-4 : tie.Need-element-copy-out-result-4
+element-copy-out-result-4 c = search needs
+
+element-copy-out-result-5 : tie.Need-element-copy-out-result-5
+element-copy-out-result-5 c = search needs
+
+element-copy-out-result-6 : tie.Need-element-copy-out-result-6
+element-copy-out-result-6 c = search needs
+
+returns : tie.Need-returns
+unfolding followAt
+returns c = refl
+
+pub follow-counts-fit-spec : {M : Type 1} → statement M
+follow-counts-fit-spec =
+    tie.close
+    (tie.spec
+    element-copy-out-result
+    element-copy-out-result-2
+    element-copy-out-result-3
+    element-copy-out-result-4
+    element-copy-out-result-5
+    element-copy-out-result-6
+    returns)
