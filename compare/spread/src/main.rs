@@ -163,42 +163,63 @@ fn long(length: u64) {
     println!("spread: {KINDS} series of {length} samples, equal");
 }
 
-/// Nanoseconds a sample of both sides, the least of 40 turns of 4,000 samples.
+/// The original as a function of its own, as the core's calls are: else it is compiled into the loop that times it.
+#[inline(never)]
+fn trip_called(trips: &mut RttCollector, v: u64) {
+    trips.record(RttSample { seq: 0, rtt_ns: v, ttl: 0 });
+}
+
+#[inline(never)]
+fn way_called(way: &mut OwdDirection, v: i64) {
+    way.note(v);
+}
+
+/// Nanoseconds of these calls, one for each value.
+fn nanos(values: &[u64], mut call: impl FnMut(u64)) -> u128 {
+    let start = Instant::now();
+    for v in values {
+        call(black_box(*v));
+    }
+    start.elapsed().as_nanos()
+}
+
+/// Nanoseconds a sample of both sides, the least of 40 turns of 4,000 samples each; the original compiled into the loop, and called.
 fn time() {
     let mut random = Random(5);
     let values: Vec<u64> = (0..4000).map(|_| sample(0, &mut random)).collect();
     for (name, before) in [("exact", 0usize), ("histogram", 5000)] {
-        let (mut ours, mut theirs, mut ours_way, mut theirs_way) = (u128::MAX, u128::MAX, u128::MAX, u128::MAX);
-        for _ in 0..40 {
+        // Ours; the original in the loop; the original called, in turns of their own, so that both find memory alike.
+        let mut trips = [u128::MAX; 3];
+        let mut ways = [u128::MAX; 3];
+        for turn in 0..80 {
             let mut both = Both::new(&mut random);
             for i in 0..before {
                 both.record(values[i % 4000], 0);
             }
             let mut recorded = [0];
-            let start = Instant::now();
-            for v in &values {
-                calls::spread_record(&mut both.words, &mut both.room, black_box(*v), &mut recorded);
-            }
-            ours = ours.min(start.elapsed().as_nanos());
-            let start = Instant::now();
-            for v in &values {
-                both.theirs.record(RttSample { seq: 0, rtt_ns: black_box(*v), ttl: 0 });
-            }
-            theirs = theirs.min(start.elapsed().as_nanos());
-            let start = Instant::now();
-            for v in &values {
-                calls::directions_record(&mut both.ways, &mut both.slice, 0, black_box(*v), &mut recorded);
-            }
-            ours_way = ours_way.min(start.elapsed().as_nanos());
-            let start = Instant::now();
-            for v in &values {
-                both.directions[0].note(black_box(*v as i64));
-            }
-            theirs_way = theirs_way.min(start.elapsed().as_nanos());
+            let called = turn % 2;
+            let ours = nanos(&values, |v| { calls::spread_record(&mut both.words, &mut both.room, v, &mut recorded); });
+            let theirs = if called == 1 {
+                nanos(&values, |v| trip_called(&mut both.theirs, v))
+            } else {
+                nanos(&values, |v| both.theirs.record(RttSample { seq: 0, rtt_ns: v, ttl: 0 }))
+            };
+            trips[0] = trips[0].min(ours);
+            trips[1 + called] = trips[1 + called].min(theirs);
+            let ours = nanos(&values, |v| { calls::directions_record(&mut both.ways, &mut both.slice, 0, v, &mut recorded); });
+            let theirs = if called == 1 {
+                nanos(&values, |v| way_called(&mut both.directions[0], v as i64))
+            } else {
+                nanos(&values, |v| both.directions[0].note(v as i64))
+            };
+            ways[0] = ways[0].min(ours);
+            ways[1 + called] = ways[1 + called].min(theirs);
             both.compare();
         }
-        let per = |t: u128| t as f64 / 4000.0;
-        println!("{name:>10}: round trips {:.1} of {:.1} ns, {:.2}; a direction {:.1} of {:.1} ns, {:.2}", per(ours), per(theirs), ours as f64 / theirs as f64, per(ours_way), per(theirs_way), ours_way as f64 / theirs_way as f64);
+        for (what, least) in [("round trips", trips), ("a direction", ways)] {
+            let [ours, inlined, called] = least.map(|t| t as f64 / 4000.0);
+            println!("{name:>10}, {what}: {ours:.1} ns; the original in the loop {inlined:.1}, {:.2}; called {called:.1}, {:.2}", ours / inlined, ours / called);
+        }
     }
 }
 
