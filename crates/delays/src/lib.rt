@@ -214,7 +214,7 @@ fn average_ms(sum: Sum, count: u64) -> Milliseconds
         return Milliseconds::Absent;
     }
     let total = floats::nearest_signed(sum.negative, sum.high, sum.low);
-    let divisor = std::num::nearest_u64_to_f64(count);
+    let divisor = floats::nearest(count);
     Milliseconds::Known(total / divisor / 1000000.0)
 }
 

@@ -7,6 +7,8 @@ use borrow.Fn.Kinds.{PK, RK, Dens, Out, resT, endedOf}
 use Rattle.floats.specs.Exact.{exactly-one}
 use Rattle.floats.proofs.power_of_two.Kinds as power-of-two
 use Rattle.floats.proofs.power_of_two.Reads as power-of-two'
+use Rattle.floats.proofs.nearest.Kinds as nearest
+use Rattle.floats.proofs.nearest.Reads as nearest'
 use Rattle.floats.proofs.nearest_magnitude.Kinds as nearest-magnitude
 use Rattle.floats.proofs.nearest_magnitude.Reads as nearest-magnitude'
 use Rattle.floats.proofs.nearest_signed.Kinds as nearest-signed
@@ -20,6 +22,9 @@ OneAnswer ps r Post = (κs : Lfts 0) (a : Dens κs ps) (x y : resT r κs .Denot)
 
 pub power-of-two-unique : OneAnswer power-of-two.ps power-of-two.r power-of-two'.Post
 power-of-two-unique κs a x y s t p q = exactly-one x y _ _ p q
+
+pub nearest-unique : OneAnswer nearest.ps nearest.r nearest'.Post
+nearest-unique κs a x y s t p q = p ∙ sym q
 
 pub nearest-magnitude-unique : OneAnswer nearest-magnitude.ps nearest-magnitude.r nearest-magnitude'.Post
 nearest-magnitude-unique κs a x y s t p q = p ∙ sym q

@@ -57,9 +57,16 @@ halves m k p s M K h g =
         ∙ sym (add-mul (m / 2 ^ 32 * 2 ^ 32) (m % 2 ^ 32) p)
         ∙ ap (λ (x : ℕ). x * p) (div-add-mod' m (2 ^ 32))
 
-pub half-in : (a : ℕ) → a < 2 ^ 32 → T (inFloat binary64 (pos a))
+-- a number below 2^53 is a float itself
+pub small-in : (a : ℕ) → a < 2 ^ 53 → T (inFloat binary64 (pos a))
 unfolding inFloat
-half-in a h = le→leb a (2 ^ 53) (wide a h)
+small-in a h = le→leb a (2 ^ 53) (wide a h)
   where
-    wide : (a : ℕ) → a < 2 ^ 32 → a ≤ 2 ^ 53
+    wide : (a : ℕ) → a < 2 ^ 53 → a ≤ 2 ^ 53
+    wide a h = omega arith
+
+pub half-in : (a : ℕ) → a < 2 ^ 32 → T (inFloat binary64 (pos a))
+half-in a h = small-in a (wide a h)
+  where
+    wide : (a : ℕ) → a < 2 ^ 32 → a < 2 ^ 53
     wide a h = omega arith

@@ -11,13 +11,13 @@ returns c = search needs
 nearest-signed-requires : tie.Need-nearest-signed-requires
 nearest-signed-requires c κs = search needs
 
-nearest-u64-to-f64-requires : tie.Need-nearest-u64-to-f64-requires
-nearest-u64-to-f64-requires c κs = search needs
+nearest-requires : tie.Need-nearest-requires
+nearest-requires c κs = search needs
 
 returns-2 : tie.Need-returns-2
 returns-2 c =
     let a = c .before .before .before .args in
-    divided (totalOf (a .sum)) (a .count) _ _ (c .before .before .if1 .left) (c .before .nearest-signed .ensures) (c .nearest-u64-to-f64 .ensures)
+    divided (totalOf (a .sum)) (a .count) _ _ (c .before .before .if1 .left) (c .before .nearest-signed .ensures) (c .nearest .ensures)
 
 pub average-ms-spec : {M : Type 1} → statement M
 average-ms-spec =
@@ -25,5 +25,5 @@ average-ms-spec =
     (tie.spec
     returns
     nearest-signed-requires
-    nearest-u64-to-f64-requires
+    nearest-requires
     returns-2)

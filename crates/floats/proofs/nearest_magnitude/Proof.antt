@@ -8,11 +8,11 @@ use borrow.Author.Needs.{needs}
 use Rattle.floats.proofs.nearest_magnitude.Statement.{statement}
 use Rattle.floats.proofs.nearest_magnitude.Tie as tie
 
-nearest-u64-to-f64-requires : tie.Need-nearest-u64-to-f64-requires
-nearest-u64-to-f64-requires c κs = search needs
+nearest-requires : tie.Need-nearest-requires
+nearest-requires c κs = search needs
 
 returns : tie.Need-returns
-returns c = c .nearest-u64-to-f64 .ensures ∙ none-above _ _ (c .before .if1 .taken)
+returns c = c .nearest .ensures ∙ none-above _ _ (c .before .if1 .taken)
 
 normalizing-shift-requires : tie.Need-normalizing-shift-requires
 normalizing-shift-requires c κs = search needs
@@ -72,7 +72,7 @@ pub nearest-magnitude-spec : {M : Type 1} → statement M
 nearest-magnitude-spec =
     tie.close
     (tie.spec
-    nearest-u64-to-f64-requires
+    nearest-requires
     returns
     normalizing-shift-requires
     nearest-leading-requires
