@@ -135,7 +135,7 @@ holder secret = holderIn capacity (hashOf secret) (numberHash secret)
 abbrev pub evicted : List ℕ → List (List ℕ) → List (List ℕ) → List (List ℕ) → Ring → List (List ℕ)
 evicted secret = evictedSlots capacity (hashOf secret) (numberHash secret)
 
--- the links that `end_chains` leaves
+-- the links once the oldest key of a full ring left its chains
 abbrev pub unlinked : List ℕ → List (List ℕ) → List (List ℕ) → Ring → List (List ℕ)
 unlinked secret = evictedLinks capacity (hashOf secret) (numberHash secret)
 

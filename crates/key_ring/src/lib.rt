@@ -9,7 +9,7 @@ ghost use Rattle.limits.specs.Limits.{capacity};
 ghost use Rattle.chains.specs.Rings.{RingFits};
 ghost use Rattle.key_ring.specs.Keys.{numbersOf, keyAt, sameKey};
 ghost use Rattle.key_ring.specs.Rows.{holds?};
-ghost use Rattle.key_ring.specs.Table.{tableOf, rowAt, wordsAt, storedAt, newestIs, newestSlot, hashOf, find as findKey, holder as holderOf, evicted, unlinked, pushed, accepted};
+ghost use Rattle.key_ring.specs.Table.{tableOf, rowAt, wordsAt, storedAt, newestIs, newestSlot, hashOf, find as findKey, holder as holderOf, evicted, pushed, accepted};
 use call_types::ReplyKey;
 use chains::Ring;
 use limits::CAPACITY;
@@ -170,25 +170,6 @@ fn evict(
     }
 }
 
-// The oldest key leaves its two chains where the ring is full: a chain that it is the last of leads to no slot any more.
-fn end_chains(keys: &[[u64; 2]], links: &mut [[u16; 8]], ring: Ring, secret: [u32; 8])
-    requires { ⌜ (length (now keys) ≡ capacity) × (length (now links) ≡ capacity) × RingFits capacity ring ⌝ }
-    ensures { λ q. ⌜ now (links .exit) ≡ unlinked secret (now (keys .entry)) (now (links .entry)) ring ⌝ }
-{
-    let head = ring.head;
-    if ring.len == CAPACITY {
-        let both = keys[head][0];
-        let number = (both % 4294967296) as u32;
-        chains::end_at(
-            links,
-            0,
-            chains::key_hash(secret, both, keys[head][1]),
-            head,
-        );
-        chains::end_at(links, 2, chains::number_hash(secret, number), head);
-    }
-}
-
 // The key as the newest, not observed, over the oldest where the ring is full.
 fn push(
     keys: &mut [[u64; 2]],
@@ -209,7 +190,32 @@ fn push(
     chains::pushed(ring)
 }
 
-// A unique reply's key is accepted: the oldest goes where the ring is full, and this one is the newest.
+// The key over the oldest of a full ring. The hashes of the oldest come first: after the walk to the holder of its slot, the words of the hash
+// would have lain on the stack meanwhile.
+fn replace(
+    keys: &mut [[u64; 2]],
+    slots: &mut [[u64; 3]],
+    links: &mut [[u16; 8]],
+    ring: Ring,
+    secret: [u32; 8],
+    key: ReplyKey,
+) -> Ring
+    requires { ⌜ (length (now keys) ≡ capacity) × (length (now slots) ≡ capacity) × (length (now links) ≡ capacity) × RingFits capacity ring × (capacity ≤ ring .len) ⌝ }
+    ensures { λ q. ⌜ tableOf (now (keys .exit)) (now (slots .exit)) (now (links .exit)) q ≡ accepted secret (tableOf (now (keys .entry)) (now (slots .entry)) (now (links .entry)) ring) key ⌝ }
+{
+    let head = ring.head;
+    let both = keys[head][0];
+    let number = (both % 4294967296) as u32;
+    let by_key = chains::key_hash(secret, both, keys[head][1]);
+    let by_number = chains::number_hash(secret, number);
+    evict(keys, slots, links, ring, secret);
+    // Its chains end after its slot fell: the holder may be the oldest key itself, found through its chain.
+    chains::end_at(links, 0, by_key, head);
+    chains::end_at(links, 2, by_number, head);
+    push(keys, slots, links, ring, secret, key)
+}
+
+// A unique reply's key is accepted: the oldest goes where the ring is full, and this one is the newest. That is asked once, for all that it bears on.
 pub fn accept_key(
     keys: &mut [[u64; 2]],
     slots: &mut [[u64; 3]],
@@ -221,7 +227,8 @@ pub fn accept_key(
     requires { ⌜ (length (now keys) ≡ capacity) × (length (now slots) ≡ capacity) × (length (now links) ≡ capacity) × RingFits capacity ring ⌝ }
     ensures { λ q. ⌜ tableOf (now (keys .exit)) (now (slots .exit)) (now (links .exit)) q ≡ accepted secret (tableOf (now (keys .entry)) (now (slots .entry)) (now (links .entry)) ring) key ⌝ }
 {
-    evict(keys, slots, links, ring, secret);
-    end_chains(keys, links, ring, secret); // after the slot fell: its holder may be the oldest key itself, found through its chain
-    push(keys, slots, links, ring, secret, key)
+    if ring.len < CAPACITY {
+        return push(keys, slots, links, ring, secret, key);
+    }
+    replace(keys, slots, links, ring, secret, key)
 }
