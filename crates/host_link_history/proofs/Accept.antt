@@ -28,7 +28,8 @@ use Rattle.host_accept_words.specs.Accept as plain
 use Rattle.host_monitor_words.specs.Words.{monitorAt}
 use Rattle.host_monitor_words.proofs.Stored.{stored}
 use Rattle.host_monitor_words.proofs.Fitting.{fits-at, fits-reply}
-use Rattle.host_watched_accept.specs.Calls.{ledgerAfter, monitorAfter, watchedAcceptTo}
+use Rattle.host_watched_accept_words.specs.Calls.{ledgerAfter, monitorAfter}
+use Rattle.host_watched_accept.specs.Calls.{watchedAcceptTo}
 use Rattle.host_link_history.specs.Hosted.{HostWatch, alone, watching, hostLink, accept, acceptRooms, playHost}
 use Rattle.host_link_history.proofs.Agreeing.{Agrees}
 

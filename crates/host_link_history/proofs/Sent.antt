@@ -25,7 +25,7 @@ use Rattle.host_ledger.specs.Words.{ledgerAt}
 use Rattle.host_ledger.specs.Left.{sentWords}
 use Rattle.host_ledger_read_back.proofs.Sent.{sent-back}
 use Rattle.host_sent.specs.Sent.{sentOf}
-use Rattle.host_sent.specs.Sent as plain
+use Rattle.host_sent_words.specs.Sent as plain
 use Rattle.host_monitor_words.specs.Words.{monitorAt}
 use Rattle.host_monitor_words.proofs.Stored.{stored}
 use Rattle.host_monitor_words.proofs.Fitting.{fits-at, fits-sent}

@@ -16,14 +16,16 @@ use Rattle.link_history.specs.Fresh as history
 use Rattle.host_calls.specs.Calls.{sentProbeOf, replyOf}
 use Rattle.host_ledger.specs.Words.{ledgerAt}
 use Rattle.host_fresh.specs.Fresh.{freshOf}
-use Rattle.host_sent.specs.Sent.{SentLeft, sentOf}
+use Rattle.host_sent_words.specs.Sent.{SentLeft}
+use Rattle.host_sent.specs.Sent.{sentOf}
 use Rattle.host_accept_words.specs.Accept.{AcceptLeft, acceptOf}
 use Rattle.host_observation.specs.Observation.{observationAt}
 use Rattle.host_observe.specs.Observe as observed
 use Rattle.host_monitor_words.specs.Words.{monitorAt}
 use Rattle.host_monitor.specs.Calls as monitor
 use Rattle.host_watched_sent.specs.Calls as watchedSent
-use Rattle.host_watched_accept.specs.Calls as watchedAccept
+use Rattle.host_watched_accept_words.specs.Calls as watchedAccept
+use Rattle.host_watched_accept.specs.Calls.{watchedAcceptTo}
 
 -- without a monitor, or with the words of one
 pub data HostWatch : Type 0 where
@@ -111,7 +113,7 @@ accepts alone x sender reflector t3 pending time tag =
     leftAccept x (acceptOf (x .ledger) (x .rooms .keys) (x .rooms .slots) (x .rooms .probes) (x .rooms .links) [] (replyOf sender reflector t3 pending time tag))
 accepts (watching words) x sender reflector t3 pending time tag =
     leftWatchedAccept x
-    (watchedAccept.watchedAcceptTo (x .ledger) words (x .rooms .keys) (x .rooms .slots) (x .rooms .probes) (x .rooms .links) (x .queue) sender reflector t3 pending time tag [])
+    (watchedAcceptTo (x .ledger) words (x .rooms .keys) (x .rooms .slots) (x .rooms .probes) (x .rooms .links) (x .queue) sender reflector t3 pending time tag [])
 
 -- the rooms after an `observe`: only slots, offsets and links may differ
 abbrev pub observeRooms : Rooms → List (List ℕ) → List ℕ → List (List ℕ) → Rooms

@@ -45,7 +45,8 @@ use Rattle.host_ledger.specs.Words.{ledgerAt}
 use Rattle.host_monitor_words.specs.Words.{monitorAt}
 use Rattle.host_calls.specs.Calls.{replyOf}
 use Rattle.host_accept_words.specs.Accept.{acceptOf, answerAfter}
-use Rattle.host_watched_accept.specs.Calls as host_watched
+use Rattle.host_watched_accept_words.specs.Calls as host_watched
+use Rattle.host_watched_accept.specs.Calls.{watchedAcceptTo}
 use Rattle.host_snapshot.specs.Snapshot as snapshot
 use Rattle.host_burst_wait.specs.BurstWait as wait
 use Rattle.host_answered.specs.Answered as answered
@@ -160,9 +161,9 @@ module _ (copies : ℕ) (h : List Call) (x : Memory) (sh : LedgerShows copies h 
     unfolding acceptOf refuses
     accept-reads e = accept-by e
 
-    watched-reads : let r = host_watched.watchedAcceptTo (x .ledger) (x .monitor) (x .keys) (x .slots) (x .probes) (x .links) (x .queue) sender reflector t3 pending time tag before in
+    watched-reads : let r = watchedAcceptTo (x .ledger) (x .monitor) (x .keys) (x .slots) (x .probes) (x .links) (x .queue) sender reflector t3 pending time tag before in
         r .number ≡ 0 → r .answer ≡ answerWords (answerTo capacity h (replyOf sender reflector t3 pending time tag))
-    unfolding host_watched.watchedAcceptTo watched.acceptTo refuses acceptTo refusalOfAccept
+    unfolding watchedAcceptTo watched.acceptTo refuses acceptTo refusalOfAccept
     watched-reads e =
         both-words r m before
         ∙ ap (λ (y : AcceptResult). answerAfter before (y .answer)) same

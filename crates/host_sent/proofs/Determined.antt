@@ -14,7 +14,8 @@ use Rattle.ledger_steps.specs.Refusals.{refusalOfSent}
 use Rattle.ledger_steps.specs.Sent.{SentOutcome, sentOn}
 use Rattle.ledger_steps.specs.Calls.{sentBy, sentTo}
 use Rattle.host_ledger.specs.Words.{ledgerAt}
-use Rattle.host_sent.specs.Sent.{SentLeft, sentLeft, sentFrom, sentOf}
+use Rattle.host_sent_words.specs.Sent.{SentLeft, sentLeft, sentFrom}
+use Rattle.host_sent.specs.Sent.{sentOf}
 use Rattle.host_sent.proofs.ambrulicciu_sent as sent
 use Rattle.host_sent.proofs.ambrulicciu_sent.Kinds as sent-kinds
 use Rattle.host_sent.proofs.ambrulicciu_sent.Reads as sent-reads

@@ -2,31 +2,9 @@
 use mathlib.Core.List.{List}
 use Prim.Native.Nat.{ℕ}
 use Rattle.call_types.specs.declared.SentProbe.{SentProbe}
-use Rattle.ledger_steps.specs.declared.LedgerAnswer.{LedgerAnswer}
-use Rattle.ledger_steps.specs.declared.LedgerAnswer.the-variants as answer
-use Rattle.ledger_steps.specs.Calls.{SentResult, number, sentTo}
+use Rattle.ledger_steps.specs.Calls.{sentTo}
 use Rattle.host_ledger.specs.Words.{ledgerAt}
-use Rattle.host_ledger.specs.Left.{sentWords}
-
--- the number returned, the words of the ledger and the two rooms
-pub record SentLeft : Type 0 where
-  pub number : ℕ
-  pub ledger : List ℕ
-  pub probes : List (List ℕ)
-  pub links : List (List ℕ)
-
--- what the call leaves, made of its number, the ledger's words and the two rooms
-abbrev pub sentLeft : ℕ → List ℕ → List (List ℕ) → List (List ℕ) → SentLeft
-sentLeft number ledger probes links = record { number = number; ledger = ledger; probes = probes; links = links }
-
--- the words after an answer: a refusal changes none
-abbrev pub wordsAfter : List ℕ → LedgerAnswer → List ℕ
-wordsAfter w (answer.Served next) = sentWords w next
-wordsAfter w (answer.Refused n) = w
-
--- what the library's result leaves of the words w: its number, 0 where served, and its two rooms
-abbrev pub sentFrom : List ℕ → SentResult → SentLeft
-sentFrom w r = sentLeft (number (r .answer)) (wordsAfter w (r .answer)) (r .probes) (r .links)
+use Rattle.host_sent_words.specs.Sent.{SentLeft, sentFrom}
 
 -- of the words of the ledger, the two rooms and the probe; no monitor refuses it
 unfoldable pub sentOf : List ℕ → List (List ℕ) → List (List ℕ) → SentProbe → SentLeft

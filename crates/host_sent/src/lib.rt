@@ -1,9 +1,11 @@
-// `ambrulicciu_sent`: the ledger's `sent`, on the words and the rooms that a host lends. The refusals are tested in the words: of the ledger that is
-// then taken out the call needs a few words alone, and the others are not read.
+// `ambrulicciu_sent`: the ledger's `sent`, on the words and the rooms that a host lends. Its refusals are tested here, and crate host_sent_words
+// serves it, as it does the call with a monitor.
 ghost use mathlib.Core.Path.{_≡_};
 ghost use Rattle.host_calls.specs.Calls.{sentProbeOf};
-ghost use Rattle.host_sent.specs.Sent.{sentLeft, sentOf};
+ghost use Rattle.host_sent_words.specs.Sent.{sentLeft};
+ghost use Rattle.host_sent.specs.Sent.{sentOf};
 use host_ledger::LEDGER_WORDS;
+use host_sent_words::served;
 use limits::CAPACITY;
 
 #[no_mangle]
@@ -22,10 +24,8 @@ pub extern "C" fn ambrulicciu_sent(
     let sized = (probes.len() == CAPACITY) & (links.len() == CAPACITY);
     let refused = host_ledger_checks::refusal(ledger, sized);
     if refused == 0 {
-        let state = host_ledger::load(ledger);
         let probe = host_calls::probe_of(sequence, ordinal, train, time, tag);
-        let next = ledger_sent::served(state, probes, links, probe);
-        host_ledger::store_sent(ledger, next);
+        served(ledger, probes, links, probe);
     }
     refused
 }

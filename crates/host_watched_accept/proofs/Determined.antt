@@ -20,7 +20,8 @@ use Rattle.ledger_watched.proofs.Determined as watched
 use Rattle.host_calls.specs.Calls.{replyOf}
 use Rattle.host_ledger.specs.Words.{ledgerAt}
 use Rattle.host_monitor_words.specs.Words.{monitorAt}
-use Rattle.host_watched_accept.specs.Calls.{Left, left, ended, watchedAcceptTo}
+use Rattle.host_watched_accept_words.specs.Calls.{Left, left, ended}
+use Rattle.host_watched_accept.specs.Calls.{watchedAcceptTo}
 use Rattle.host_watched_accept.proofs.ambrulicciu_watched_accept as accept
 
 -- the exits of the ledger, the monitor, the keys, the slots, the probes, the links, the queue and, behind six numbers, the answer

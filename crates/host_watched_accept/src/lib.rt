@@ -1,34 +1,23 @@
 // `accept` with a monitor for a host: the ledger and the monitor in their lent words, document 01's number back (0 where the call was served).
-// A straight line of calls, so that the walk of it is short; what depends on a test is in the functions that it calls.
+// A straight line of calls, so that the walk of it is short; crate host_watched_accept_words serves it, as it does each reply of a list.
 ghost use mathlib.Core.Path.{_≡_};
-ghost use Rattle.ledger_watched.specs.Watched.{acceptNumber};
-ghost use Rattle.host_watched_accept.specs.Calls.{left, ledgerAfter, monitorAfter, answerAfter, watchedAcceptTo};
-use host_accept_stored::store_served;
-use host_calls::accepted_words;
+ghost use Rattle.host_watched_accept_words.specs.Calls.{left, shownIn};
+ghost use Rattle.host_watched_accept.specs.Calls.{watchedAcceptTo};
 use host_calls::reply_of;
 use host_ledger::LEDGER_WORDS;
-use host_monitor_words::store;
-use ledger_watched::WatchedAccept;
+use host_watched_accept_words::ReplyAnswer;
+use host_watched_accept_words::accept;
 use probe_queue::QueuedProbe;
 
-// The number of what `accept` gave. The words change where the call was served, and not otherwise.
-fn finish(
-    ledger: &mut [u64; LEDGER_WORDS],
-    monitor: &mut [u64; 12],
-    answer: &mut [u64; 6],
-    given: WatchedAccept,
-) -> u8
-    ensures { λ r. ⌜ (r ≡ acceptNumber given) × (now (ledger .exit) ≡ ledgerAfter (now (ledger .entry)) given) × (now (monitor .exit) ≡ monitorAfter (now (monitor .entry)) given) × (now (answer .exit) ≡ answerAfter (now (answer .entry)) given) ⌝ }
+// The number of what `accept` gave. The answer's words change where the call was served, and not otherwise.
+fn show(answer: &mut [u64; 6], given: ReplyAnswer) -> u8
+    ensures { λ r. ⌜ (r ≡ given .number) × (now (answer .exit) ≡ shownIn (given .number) (given .words) (now (answer .entry))) ⌝ }
 {
-    match given {
-        WatchedAccept::Served(next, watch, accepted) => {
-            store_served(ledger, next, accepted);
-            store(monitor, watch);
-            *answer = accepted_words(accepted);
-            0
-        }
-        WatchedAccept::Refused(number) => number,
+    let words = given.words;
+    if given.number == 0 {
+        *answer = words;
     }
+    given.number
 }
 
 // A reply came, on a link that a monitor watches.
@@ -51,9 +40,7 @@ pub extern "C" fn ambrulicciu_watched_accept(
 ) -> u8
     ensures { λ r. ⌜ left r (now (ledger .exit)) (now (monitor .exit)) (now (keys .exit)) (now (slots .exit)) (now (probes .exit)) (now (links .exit)) (now (queue .exit)) (now (answer .exit)) ≡ watchedAcceptTo (now (ledger .entry)) (now (monitor .entry)) (now (keys .entry)) (now (slots .entry)) (now (probes .entry)) (now (links .entry)) (now (queue .entry)) sender reflector t3 pending time tag (now (answer .entry)) ⌝ }
 {
-    let before = host_ledger::load(ledger);
-    let watch = host_monitor_words::load(monitor);
     let reply = reply_of(sender, reflector, t3, pending, time, tag);
-    let given = ledger_watched::accept(before, watch, keys, slots, probes, links, queue, reply);
-    finish(ledger, monitor, answer, given)
+    let given = accept(ledger, monitor, keys, slots, probes, links, queue, reply);
+    show(answer, given)
 }

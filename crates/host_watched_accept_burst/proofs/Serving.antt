@@ -19,7 +19,8 @@ use Rattle.ledger_steps.specs.Calls as ledger
 use Rattle.ledger_watched.specs.Watched.{AcceptResult, acceptNumber, bothAccept, acceptResult, acceptTo}
 use Rattle.host_ledger.specs.Words.{ledgerAt}
 use Rattle.host_monitor_words.specs.Words.{monitorAt}
-use Rattle.host_watched_accept.specs.Calls.{ledgerAfter, monitorAfter, answerAfter, ended, watchedAcceptTo}
+use Rattle.host_watched_accept_words.specs.Calls.{ledgerAfter, monitorAfter, answerAfter, ended}
+use Rattle.host_watched_accept.specs.Calls.{watchedAcceptTo}
 use Rattle.host_burst.specs.Burst.{Burst, left, listed, burstRefusal, oneMore, upTo}
 use Rattle.host_burst.specs.Entries.{replyAt, answerIn, rowAfter}
 use Rattle.host_burst.proofs.Steps.{six}

@@ -4,7 +4,8 @@ use Prim.Native.Nat.{ℕ}
 use lib.ListN.{getD}
 use Rattle.probe_queue.specs.declared.QueuedProbe.{QueuedProbe}
 use Rattle.host_numbers.specs.Numbers.{lower, upper}
-use Rattle.host_watched_accept.specs.Calls.{Left, watchedAcceptTo}
+use Rattle.host_watched_accept_words.specs.Calls.{Left}
+use Rattle.host_watched_accept.specs.Calls.{watchedAcceptTo}
 use Rattle.host_burst.specs.Burst.{Single, Listed, single, burstTo}
 use Rattle.host_burst.specs.Entries.{answerIn}
 

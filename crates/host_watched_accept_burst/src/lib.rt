@@ -5,7 +5,7 @@ ghost use mathlib.Core.Path.{_≡_};
 ghost use mathlib.Core.List.{[], _∷_};
 ghost use Rattle.host_burst.specs.Burst.{left, listed, upTo};
 ghost use Rattle.ledger_watched.specs.Watched.{acceptNumber};
-ghost use Rattle.host_watched_accept.specs.Calls.{ledgerAfter, monitorAfter, answerAfter};
+ghost use Rattle.host_watched_accept_words.specs.Calls.{ledgerAfter, monitorAfter, answerAfter};
 ghost use Rattle.host_watched_accept_burst.specs.Burst.{lent, acceptEntry, watchedBurst};
 use host_accept_stored::store_served;
 use host_burst::put_row;

@@ -1,30 +1,68 @@
-// `sent` with a monitor for a host: the ledger and the monitor in their lent words, document 01's number back (0 where the call was served).
-// A straight line of calls, so that the walk of it is short; what depends on a test is in the functions that it calls.
+// `sent` with a monitor for a host: the ledger and the monitor in their lent words, document 01's number back (0 where the call was served). The
+// ledger stays in its words (crate host_sent_words); the monitor is a small part, and is taken out, stepped by value and put back. Crate ledger_watched
+// has the same call on both by value; its contract and this one cite one definition, `sentTo`.
+// What is lent the queue is a straight line of calls, so that the walk of it is short; what depends on a test is in the functions before it.
 ghost use mathlib.Core.Path.{_≡_};
-ghost use Rattle.ledger_watched.specs.Watched.{number};
-ghost use Rattle.host_watched_sent.specs.Calls.{left, ledgerAfter, monitorAfter, watchedSentTo};
+ghost use lib.Dec.{eqb};
+ghost use Rattle.monitor.specs.Refusals.{refusalOfSent};
+ghost use Rattle.ledger_steps.specs.Calls.{sentTo};
+ghost use Rattle.host_ledger.specs.Words.{ledgerAt};
+ghost use Rattle.host_monitor_words.specs.Words.{monitorAt};
+ghost use Rattle.host_sent_words.specs.Sent.{sentLeft, sentFrom};
+ghost use Rattle.host_watched_parts.specs.Unless.{storedUnless};
+ghost use Rattle.host_watched_sent.specs.Calls.{left, watchedSentTo};
+use call_types::SentProbe;
 use host_calls::probe_of;
 use host_ledger::LEDGER_WORDS;
-use host_ledger::store_sent;
-use host_monitor_words::store;
-use ledger_watched::WatchedAnswer;
+use host_sent_words::served;
+use host_watched_parts::first_of;
+use host_watched_parts::store_unless;
+use limits::CAPACITY;
+use monitor::Monitor;
 use probe_queue::QueuedProbe;
 
-// The number of an answer. The words change where the call was served, and not otherwise.
-fn finish(ledger: &mut [u64; LEDGER_WORDS], monitor: &mut [u64; 12], answer: WatchedAnswer) -> u8
-    ensures { λ r. ⌜ (r ≡ number answer) × (now (ledger .exit) ≡ ledgerAfter (now (ledger .entry)) answer) × (now (monitor .exit) ≡ monitorAfter (now (monitor .entry)) answer) ⌝ }
+// Why the monitor refuses, or 0.
+fn refusal_of_monitor(monitor: &[u64; 12], room: usize, time: u64) -> u8
+    ensures { λ r. ⌜ r ≡ refusalOfSent (monitorAt (now (monitor .entry))) room time ⌝ }
 {
-    match answer {
-        WatchedAnswer::Served(next, watch) => {
-            store_sent(ledger, next);
-            store(monitor, watch);
-            0
-        }
-        WatchedAnswer::Refused(number) => number,
-    }
+    let watch = host_monitor_words::load(monitor);
+    watch.refusal_of_sent(room, time)
 }
 
-// A probe was sent, on a link that a monitor watches.
+// The ledger's part, refused also where `other` is a refusal: that of the monitor.
+fn sent_unless(
+    other: u8,
+    ledger: &mut [u64; LEDGER_WORDS],
+    probes: &mut [[u64; 4]],
+    links: &mut [[u16; 8]],
+    probe: SentProbe,
+) -> u8
+    ensures { λ r. ⌜ sentLeft r (now (ledger .exit)) (now (probes .exit)) (now (links .exit)) ≡ sentFrom (now (ledger .entry)) (sentTo other (ledgerAt (now (ledger .entry))) (now (probes .entry)) (now (links .entry)) probe) ⌝ }
+{
+    let sized = (probes.len() == CAPACITY) & (links.len() == CAPACITY);
+    let own = host_ledger_checks::refusal(ledger, sized);
+    let number = first_of(own, other);
+    if number == 0 {
+        served(ledger, probes, links, probe);
+    }
+    number
+}
+
+fn is_served(number: u8) -> bool
+    ensures { λ r. ⌜ r ≡ eqb number 0 ⌝ }
+{
+    number == 0
+}
+
+fn finish(monitor: &mut [u64; 12], number: u8, next: Monitor) -> u8
+    ensures { λ r. ⌜ (r ≡ number) × (now (monitor .exit) ≡ storedUnless number (now (monitor .entry)) next) ⌝ }
+{
+    store_unless(number, monitor, next);
+    number
+}
+
+// A probe was sent, on a link that a monitor watches. The monitor is taken out once for its refusal and once for its step: in between it would stay
+// in registers and on the stack.
 #[no_mangle]
 pub extern "C" fn ambrulicciu_watched_sent(
     ledger: &mut [u64; LEDGER_WORDS],
@@ -40,9 +78,12 @@ pub extern "C" fn ambrulicciu_watched_sent(
 ) -> u8
     ensures { λ r. ⌜ left r (now (ledger .exit)) (now (monitor .exit)) (now (probes .exit)) (now (links .exit)) (now (queue .exit)) ≡ watchedSentTo (now (ledger .entry)) (now (monitor .entry)) (now (probes .entry)) (now (links .entry)) (now (queue .entry)) sequence ordinal train time tag ⌝ }
 {
-    let before = host_ledger::load(ledger);
-    let watch = host_monitor_words::load(monitor);
+    let room = queue.len();
     let probe = probe_of(sequence, ordinal, train, time, tag);
-    let answer = ledger_watched::sent(before, watch, probes, links, queue, probe);
-    finish(ledger, monitor, answer)
+    let other = refusal_of_monitor(monitor, room, time);
+    let number = sent_unless(other, ledger, probes, links, probe);
+    let go = is_served(number);
+    let watch = host_monitor_words::load(monitor);
+    let next = watch.sent_if(go, queue, sequence, time);
+    finish(monitor, number, next)
 }

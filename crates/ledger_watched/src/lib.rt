@@ -38,7 +38,7 @@ fn sequence_of(probe: SentProbe) -> u32
     probe.sequence
 }
 
-fn sender_of(reply: Reply) -> u32
+pub fn sender_of(reply: Reply) -> u32
     ensures { λ r. ⌜ r ≡ reply .key .sender ⌝ }
 {
     let key = reply.key;

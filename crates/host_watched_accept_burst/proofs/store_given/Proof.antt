@@ -2,7 +2,7 @@
 use mathlib.Core.Path.{sym, ap, _∙_}
 use borrow.Author.Needs.{needs}
 use denote.Ref.{now}
-use Rattle.host_watched_accept.specs.Calls.{ledgerAfter, monitorAfter}
+use Rattle.host_watched_accept_words.specs.Calls.{ledgerAfter, monitorAfter}
 use Rattle.host_watched_accept_burst.proofs.store_given.Statement.{statement}
 use Rattle.host_watched_accept_burst.proofs.store_given.Tie as tie
 

@@ -2,7 +2,7 @@
 use mathlib.Core.Path.{sym, ap, _∙_}
 use mathlib.Core.List.{[], _∷_}
 use borrow.Author.Needs.{needs}
-use Rattle.host_watched_accept.specs.Calls.{answerAfter}
+use Rattle.host_watched_accept_words.specs.Calls.{answerAfter}
 use Rattle.host_watched_accept_burst.proofs.words_of.Statement.{statement}
 use Rattle.host_watched_accept_burst.proofs.words_of.Tie as tie
 
