@@ -2,10 +2,9 @@
 use mathlib.Core.Path.{_≡_, refl, sym, ap, _∙_}
 use mathlib.Core.Bool.{Bool, true, false, _&&_, _||_, true≢false, false≢true}
 use mathlib.Core.List.{List, [], _∷_}
-use Prim.Native.Nat.{ℕ, _+_, _≤_, _<_}
+use Prim.Native.Nat.{ℕ, _≤_, _<_}
 use lib.Dec.{ltb, leb}
-use lib.ListN.{length, getD, set}
-use lib.Seq.{sets}
+use lib.ListN.{length}
 use borrow.Author.Tests.{lt-ltb, le-ltb}
 use Rattle.limits.specs.Limits.{capacity}
 use Rattle.call_types.specs.declared.ReplyKey.{ReplyKey}
@@ -30,20 +29,9 @@ use Rattle.ledger_checks.proofs.Order.{earlier-alone}
 use Rattle.ledger_checks.proofs.Sound.{accept-sound}
 use Rattle.ledger_accept.proofs.Steps.{unique-is, call-served, call-refused}
 use Rattle.host_calls.specs.Calls as host_calls
-use Rattle.host_ledger.specs.Parts.{repliesWords}
-use Rattle.host_ledger.specs.Words.{ledgerAt, tablesWords}
+use Rattle.host_ledger.specs.Words.{ledgerAt}
 use Rattle.host_ledger.specs.Left.{acceptedWords}
 use Rattle.host_accept_words.specs.Accept.{AcceptLeft, acceptLeft, acceptFrom, acceptOf, servedLeaves, duplicateWords, unknownWords}
-
--- ---- what is counted
-
--- the stores of `count_unique`, in their order
-pub stored-is : (w : List ℕ) (keys probes : Ring) (r : Replies) (w₂ w₃ : List ℕ)
-    → w₂ ≡ sets (set w 5 (getD w 5 0 + 1)) 6 (tablesWords (record { keys = keys; probes = probes; awaits = true }))
-    → w₃ ≡ set (sets w₂ 11 (repliesWords r)) 72 (r .evicted .unanswered)
-    → w₃ ≡ acceptedWords w (ledgerUnique (ledgerAt w) keys probes r)
-unfolding acceptedWords ledgerAt
-stored-is w keys probes r w₂ w₃ h₂ h₃ = h₃ ∙ ap (λ (v : List ℕ). set (sets v 11 (repliesWords r)) 72 (r .evicted .unanswered)) h₂
 
 -- ---- a unique reply: w the words, secret those of the hash that the code read
 

@@ -1,14 +1,18 @@
 -- What `ambrulicciu_accept` returns and leaves: the library's `accept` on the ledger that the words say. Assumes nothing.
+use mathlib.Core.Bool.{true}
 use mathlib.Core.List.{List}
-use Prim.Native.Nat.{ℕ}
+use Prim.Native.Nat.{ℕ, _+_}
+use lib.ListN.{getD, set}
+use lib.Seq.{sets}
 use Rattle.call_types.specs.declared.Reply.{Reply}
+use Rattle.chains.specs.declared.Ring.{Ring}
 use Rattle.ledger_steps.specs.declared.AcceptAnswer.{AcceptAnswer}
 use Rattle.ledger_steps.specs.declared.AcceptAnswer.the-variants as accepts
 use Rattle.replies.specs.Served.{afterDuplicate, afterUnknown}
 use Rattle.ledger_steps.specs.Accept.{AcceptOutcome, ledgerCounted}
 use Rattle.ledger_steps.specs.Calls.{AcceptResult, acceptNumber, acceptTo}
 use Rattle.host_calls.specs.Calls as host_calls
-use Rattle.host_ledger.specs.Words.{ledgerAt}
+use Rattle.host_ledger.specs.Words.{ledgerAt, tablesWords}
 use Rattle.host_ledger.specs.Left.{countedWords}
 use Rattle.host_accept_stored.specs.Served.{servedWords}
 
@@ -49,6 +53,10 @@ acceptOf w keys slots probes links a reply = acceptFrom w a (acceptTo 0 (ledgerA
 -- a served call
 abbrev pub servedLeaves : List ℕ → AcceptOutcome → AcceptLeft
 servedLeaves w o = acceptLeft 0 (servedWords w (o .ledger) (o .accepted)) (o .keys) (o .slots) (o .probes) (o .links) (host_calls.acceptedWords (o .accepted))
+
+-- one call more, both rings, and that the key of a unique reply awaits its observation
+unfoldable pub ringsStored : List ℕ → Ring → Ring → List ℕ
+ringsStored w keys probes = sets (set w 5 (getD w 5 0 + 1)) 6 (tablesWords (record { keys = keys; probes = probes; awaits = true }))
 
 -- the words after a duplicate: those that the library's ledger after it is stored as
 unfoldable pub duplicateWords : List ℕ → List ℕ

@@ -1,26 +1,22 @@
 // The ledger's `accept` on the words and the rooms that a host lends: what a single call and a list of them have in common, with a monitor and
 // without. It is no call of its own, since a crate that exports one cannot be what another call's object is made of. The refusals are tested in the
-// words, the key and the probe are looked for once, and what is counted is taken out of its words only then: a whole ledger would stay in registers
-// and on the stack over all of that, which was a fifth of a unique reply's time. Crate ledger_accept has the same call on a ledger by value; its
+// words, the key and the probe are looked for once, and what is counted is stepped in its words (a unique reply: crate host_unique_reply): a whole
+// ledger would stay in registers and on the stack over all of that, which was a fifth of a unique reply's time. Crate ledger_accept has the same call on a ledger by value; its
 // contract and this one cite one definition, `acceptTo`.
 ghost use mathlib.Core.Path.{_≡_};
 ghost use mathlib.Core.Bool.{true, _&&_};
 ghost use Prim.Native.Nat.{_≤_, _<_};
-ghost use lib.Dec.{leb};
 ghost use lib.ListN.{length, getD};
 ghost use Rattle.limits.specs.Limits.{capacity, mostCalls, countBound};
 ghost use Rattle.chains.specs.Hash.{numberHash};
 ghost use Rattle.key_ring.specs.Table.{find as findKey, hashOf};
 ghost use Rattle.probe_ring.specs.Rooms.{rooms, outcome};
-ghost use Rattle.replies.specs.Bounds.{InBounds};
-ghost use Rattle.replies.specs.Served.{afterUnique};
 ghost use Rattle.ledger_state.specs.State.{hashWords};
 ghost use Rattle.ledger_state.specs.Refusal.{firstRefusal, ringsFit, roomForCall};
-ghost use Rattle.ledger_steps.specs.Accept.{isPending, ledgerUnique, readied, uniqueIn, acceptOn};
+ghost use Rattle.ledger_steps.specs.Accept.{readied, uniqueIn, acceptOn};
 ghost use Rattle.ledger_checks.specs.Sound.{SoundAccept};
 ghost use Rattle.host_ledger.specs.Words.{ledgerAt};
-ghost use Rattle.host_ledger.specs.Left.{acceptedWords};
-ghost use Rattle.host_accept_words.specs.Accept.{acceptLeft, duplicateWords, unknownWords, servedLeaves};
+ghost use Rattle.host_accept_words.specs.Accept.{acceptLeft, ringsStored, duplicateWords, unknownWords, servedLeaves};
 use call_types::Reply;
 use chains::Ring;
 use host_ledger::LEDGER_WORDS;
@@ -56,34 +52,11 @@ fn count_unknown(ledger: &mut [u64; LEDGER_WORDS])
     ledger[14] = unknown + 1;
 }
 
-// One call and one unique reply more, whose probe had `before` replies; both rings, and that its key awaits one observe.
-fn count_unique(
-    ledger: &mut [u64; LEDGER_WORDS],
-    keys: Ring,
-    probes: Ring,
-    before: u16,
-    evicted: bool,
-    lost: bool,
-    reply: Reply,
-)
-    requires { ⌜ (ledgerAt (now ledger) .calls < mostCalls) × InBounds (ledgerAt (now ledger) .counts .replies) ⌝ }
-    ensures { λ _. ⌜ now (ledger .exit) ≡ acceptedWords (now (ledger .entry)) (ledgerUnique (ledgerAt (now (ledger .entry))) keys probes (afterUnique before (ledgerAt (now (ledger .entry)) .copies) (isPending (reply .pending)) (reply .key .sender) (reply .key .reflector) evicted lost (leb capacity (ledgerAt (now (ledger .entry)) .tables .keys .len)) (ledgerAt (now (ledger .entry)) .counts .replies))) ⌝ }
+// One call more; both rings, and that the key of a unique reply awaits one observe.
+fn store_rings(ledger: &mut [u64; LEDGER_WORDS], keys: Ring, probes: Ring)
+    requires { ⌜ getD (now ledger) 5 0 < mostCalls ⌝ }
+    ensures { λ _. ⌜ now (ledger .exit) ≡ ringsStored (now (ledger .entry)) keys probes ⌝ }
 {
-    let key = reply.key;
-    let pending = reply.pending;
-    let copies = (ledger[0] % 65536) as u16;
-    let full = 4096 <= ledger[7];
-    let sofar = host_ledger::replies_of(ledger);
-    let replies = sofar.unique(
-        before,
-        copies,
-        ledger_accept::is_pending(pending),
-        key.sender,
-        key.reflector,
-        evicted,
-        lost,
-        full,
-    );
     let calls = ledger[5];
     ledger[5] = calls + 1;
     host_ledger::store_tables(
@@ -94,12 +67,12 @@ fn count_unique(
             awaits: true,
         },
     );
-    host_ledger::store_replies(ledger, replies);
 }
 
 // ---- by the class of the reply
 
-// A unique reply whose probe is ready: the probe has one reply more, and the key is accepted.
+// A unique reply whose probe is ready: the probe has one reply more, and the key is accepted. Answered and counted first: what both need
+// would else lie on the stack while the key is accepted, a sixteenth of a unique reply's instructions.
 fn unique_ready(
     ledger: &mut [u64; LEDGER_WORDS],
     keys: &mut [[u64; 2]],
@@ -120,17 +93,18 @@ fn unique_ready(
     let held = ready.ring;
     let replied = ledger_accept::reply_to(probes, ready.slot, pending);
     let context = replied.context;
-    let next = key_ring::accept_key(keys, slots, links, ring, secret, key);
-    count_unique(
+    *answer = host_calls::accepted_words(context);
+    host_unique_reply::count(
         ledger,
-        next,
-        held,
         replied.before,
+        ledger_accept::is_pending(pending),
+        key.sender,
+        key.reflector,
         ready.evicted,
         ready.lost,
-        reply,
     );
-    *answer = host_calls::accepted_words(context);
+    let next = key_ring::accept_key(keys, slots, links, ring, secret, key);
+    store_rings(ledger, next, held);
 }
 
 // A unique reply; `slot` is that of its probe.
