@@ -16,27 +16,26 @@ use Rattle.ledger_steps.specs.Refusals.{refusalOfAccept}
 use Rattle.ledger_steps.specs.Accept.{AcceptOutcome, acceptOn}
 use Rattle.ledger_steps.specs.Calls.{acceptBy}
 use Rattle.ledger_steps.specs.Calls as ledger
-use Rattle.ledger_watched.specs.Watched.{AcceptResult, acceptNumber, bothAccept, acceptResult, acceptTo}
+use Rattle.ledger_watched.specs.Watched.{acceptNumber, bothAccept, acceptTo}
 use Rattle.host_ledger.specs.Words.{ledgerAt}
 use Rattle.host_monitor_words.specs.Words.{monitorAt}
-use Rattle.host_watched_accept_words.specs.Calls.{ledgerAfter, monitorAfter, answerAfter, ended}
+use Rattle.host_watched_accept_words.specs.declared.ReplyAnswer.{ReplyAnswer}
+use Rattle.host_watched_accept_words.specs.Calls.{Left, answerAfter, ended, zeros}
+use Rattle.host_watched_accept_words.specs.Calls as calls
 use Rattle.host_watched_accept.specs.Calls.{watchedAcceptTo}
 use Rattle.host_burst.specs.Burst.{Burst, left, listed, burstRefusal, oneMore, upTo}
 use Rattle.host_burst.specs.Entries.{replyAt, answerIn, rowAfter}
 use Rattle.host_burst.proofs.Steps.{six}
 use Rattle.host_burst.proofs.Folds.{up-none, up-more, list-ends}
-use Rattle.host_watched_accept_burst.specs.Burst.{Lent, lent, rowed, acceptEntry, watchedBurst}
+use Rattle.host_watched_accept_burst.specs.Burst.{Lent, lent, acceptEntry, watchedBurst}
 
 -- ---- one entry
-
--- its row, whatever words its answer began with: k is the call's refusal, o what it leaves where it is served
-abbrev zeros : List ℕ
-zeros = 0 ∷ 0 ∷ 0 ∷ 0 ∷ 0 ∷ 0 ∷ []
 
 -- the answer of the call with this refusal, with a monitor that then stands
 abbrev givenBy : ℕ → AcceptOutcome → Monitor → (keys slots probes links : List (List ℕ)) → WatchedAccept
 givenBy k o m keys slots probes links = bothAccept (acceptBy k o keys slots probes links .answer) m
 
+-- its row, whatever words its answer began with: k is the call's refusal, o what it leaves where it is served
 row-by : (row : List ℕ) (k : ℕ) (o : AcceptOutcome) (m : Monitor) (keys slots probes links : List (List ℕ))
     → let g = givenBy k o m keys slots probes links in rowAfter row (acceptNumber g) (answerAfter zeros g) ≡ acceptNumber g ∷ answerAfter (answerIn row) g
 row-by row zero o m keys slots probes links = ap (λ (v : List ℕ). 0 ∷ v) (sym (six (o .accepted)))
@@ -50,26 +49,21 @@ row-is row l m keys slots probes links queue a =
 
 entry-ends :
     (ledger monitor : List ℕ) (keys slots probes links : List (List ℕ)) (queue : List QueuedProbe) (entries : List (List ℕ)) (i : ℕ) (answers : List (List ℕ))
-    (reply : Reply) (state : Ledger) (watch : Monitor) (given : WatchedAccept) (keys′ slots′ probes′ links′ : List (List ℕ)) (queue′ : List QueuedProbe) (ledger′ monitor′ : List ℕ)
-    (number : ℕ) (words : List ℕ) (answers′ : List (List ℕ))
-    → reply ≡ replyAt (getD entries i []) → state ≡ ledgerAt ledger → watch ≡ monitorAt monitor
-    → acceptResult given keys′ slots′ probes′ links′ queue′ ≡ acceptTo state watch keys slots probes links queue reply
-    → (ledger′ ≡ ledgerAfter ledger given) × (monitor′ ≡ monitorAfter monitor given)
-    → number ≡ acceptNumber given
-    → words ≡ answerAfter zeros given
-    → answers′ ≡ set answers i (rowAfter (getD answers i []) number words)
+    (reply : Reply) (given : ReplyAnswer) (ledger′ monitor′ : List ℕ) (keys′ slots′ probes′ links′ : List (List ℕ)) (queue′ : List QueuedProbe) (answers′ : List (List ℕ))
+    → reply ≡ replyAt (getD entries i [])
+    → calls.left (given .number) ledger′ monitor′ keys′ slots′ probes′ links′ queue′ (given .words) ≡ ended ledger monitor zeros (acceptTo (ledgerAt ledger) (monitorAt monitor) keys slots probes links queue reply)
+    → answers′ ≡ set answers i (rowAfter (getD answers i []) (given .number) (given .words))
     → left (lent ledger′ monitor′ keys′ slots′ probes′ links′ queue′) answers′ ≡ oneMore acceptEntry entries (left (lent ledger monitor keys slots probes links queue) answers) i
 unfolding watchedAcceptTo
-entry-ends ledger monitor keys slots probes links queue entries i answers reply state watch given keys′ slots′ probes′ links′ queue′ ledger′ monitor′ number words answers′ er es em eg el en ew ea =
+entry-ends ledger monitor keys slots probes links queue entries i answers reply given ledger′ monitor′ keys′ slots′ probes′ links′ queue′ answers′ er eg ea =
     let row = getD answers i [] in
-    let whole : acceptResult given keys′ slots′ probes′ links′ queue′ ≡ acceptTo (ledgerAt ledger) (monitorAt monitor) keys slots probes links queue (replyAt (getD entries i [])) =
-    eg ∙ (λ j. acceptTo (es j) (em j) keys slots probes links queue (er j)) in
-    let rowed-is : answers′ ≡ set answers i (rowed (ended ledger monitor (answerIn row) (acceptTo (ledgerAt ledger) (monitorAt monitor) keys slots probes links queue (replyAt (getD entries i [])))) .row) =
-    ea ∙ (λ j. set answers i (rowAfter row (en j) (ew j)))
-    ∙ ap (λ (r : AcceptResult). set answers i (rowAfter row (acceptNumber (r .answer)) (answerAfter zeros (r .answer)))) whole
-    ∙ ap (set answers i) (row-is row (ledgerAt ledger) (monitorAt monitor) keys slots probes links queue (replyAt (getD entries i []))) in
-    (λ j. left (lent (el .0 j) (el .1 j) keys′ slots′ probes′ links′ queue′) answers′)
-    ∙ (λ j. left (rowed (ended ledger monitor (answerIn row) (whole j)) .state) (rowed-is j))
+    let a = replyAt (getD entries i []) in
+    let whole = ended ledger monitor zeros (acceptTo (ledgerAt ledger) (monitorAt monitor) keys slots probes links queue a) in
+    let state : Left → Lent = λ x. lent (x .ledger) (x .monitor) (x .keys) (x .slots) (x .probes) (x .links) (x .queue) in
+    ap (left (lent ledger′ monitor′ keys′ slots′ probes′ links′ queue′)) ea
+    ∙ ap (λ (x : Left). left (state x) (set answers i (rowAfter row (x .number) (x .answer))))
+    (eg ∙ ap (λ (y : Reply). ended ledger monitor zeros (acceptTo (ledgerAt ledger) (monitorAt monitor) keys slots probes links queue y)) er)
+    ∙ ap (λ (new : List ℕ). left (state whole) (set answers i new)) (row-is row (ledgerAt ledger) (monitorAt monitor) keys slots probes links queue a)
 
 -- ---- the loop
 module _ (ledger₀ monitor₀ : List ℕ) (keys₀ slots₀ probes₀ links₀ : List (List ℕ)) (queue₀ : List QueuedProbe) (entries : List (List ℕ)) (count : ℕ) (answers₀ : List (List ℕ)) (refusal : ℕ) where
@@ -84,19 +78,15 @@ module _ (ledger₀ monitor₀ : List ℕ) (keys₀ slots₀ probes₀ links₀ 
   begins-serving = up-none acceptEntry entries begun
 
   pub serves-on : (i : ℕ) (ledger monitor : List ℕ) (keys slots probes links : List (List ℕ)) (queue : List QueuedProbe) (answers : List (List ℕ))
-      (reply : Reply) (state : Ledger) (watch : Monitor) (given : WatchedAccept) (keys′ slots′ probes′ links′ : List (List ℕ)) (queue′ : List QueuedProbe) (ledger′ monitor′ : List ℕ)
-      (number : ℕ) (words : List ℕ) (answers′ : List (List ℕ))
+      (reply : Reply) (given : ReplyAnswer) (ledger′ monitor′ : List ℕ) (keys′ slots′ probes′ links′ : List (List ℕ)) (queue′ : List QueuedProbe) (answers′ : List (List ℕ))
       → Serves i ledger monitor keys slots probes links queue answers → i < count
-      → reply ≡ replyAt (getD entries i []) → state ≡ ledgerAt ledger → watch ≡ monitorAt monitor
-      → acceptResult given keys′ slots′ probes′ links′ queue′ ≡ acceptTo state watch keys slots probes links queue reply
-      → (ledger′ ≡ ledgerAfter ledger given) × (monitor′ ≡ monitorAfter monitor given)
-      → number ≡ acceptNumber given
-      → words ≡ answerAfter zeros given
-      → answers′ ≡ set answers i (rowAfter (getD answers i []) number words)
+      → reply ≡ replyAt (getD entries i [])
+      → calls.left (given .number) ledger′ monitor′ keys′ slots′ probes′ links′ queue′ (given .words) ≡ ended ledger monitor zeros (acceptTo (ledgerAt ledger) (monitorAt monitor) keys slots probes links queue reply)
+      → answers′ ≡ set answers i (rowAfter (getD answers i []) (given .number) (given .words))
       → Serves (i + 1) ledger′ monitor′ keys′ slots′ probes′ links′ queue′ answers′
-  serves-on i ledger monitor keys slots probes links queue answers reply state watch given keys′ slots′ probes′ links′ queue′ ledger′ monitor′ number words answers′ h less er es em eg el en ew ea =
+  serves-on i ledger monitor keys slots probes links queue answers reply given ledger′ monitor′ keys′ slots′ probes′ links′ queue′ answers′ h less er eg ea =
       up-more acceptEntry entries begun (left (lent ledger monitor keys slots probes links queue) answers) (left (lent ledger′ monitor′ keys′ slots′ probes′ links′ queue′) answers′) i h
-      (entry-ends ledger monitor keys slots probes links queue entries i answers reply state watch given keys′ slots′ probes′ links′ queue′ ledger′ monitor′ number words answers′ er es em eg el en ew ea)
+      (entry-ends ledger monitor keys slots probes links queue entries i answers reply given ledger′ monitor′ keys′ slots′ probes′ links′ queue′ answers′ er eg ea)
 
   pub all-served : (i : ℕ) (ledger monitor : List ℕ) (keys slots probes links : List (List ℕ)) (queue : List QueuedProbe) (answers : List (List ℕ)) (r : ℕ)
       → Serves i ledger monitor keys slots probes links queue answers → i ≤ count → count ≤ i → r ≡ refusal

@@ -1,54 +1,28 @@
-// `accept` with a monitor for a list of replies (document 02, Q-2).
+// `accept` with a monitor for a list of replies (document 02, Q-2). Crate host_watched_accept_words serves each, as it does the single call.
 // Each function that is lent the queue is a straight line of calls, so that the walk of it is short; what depends on a test is in the functions that
 // it calls.
 ghost use mathlib.Core.Path.{_≡_};
-ghost use mathlib.Core.List.{[], _∷_};
+ghost use mathlib.Core.List.{[]};
+ghost use lib.ListN.{getD, set};
 ghost use Rattle.host_burst.specs.Burst.{left, listed, upTo};
-ghost use Rattle.ledger_watched.specs.Watched.{acceptNumber};
-ghost use Rattle.host_watched_accept_words.specs.Calls.{ledgerAfter, monitorAfter, answerAfter};
+ghost use Rattle.host_burst.specs.Entries.{rowAfter};
 ghost use Rattle.host_watched_accept_burst.specs.Burst.{lent, acceptEntry, watchedBurst};
-use host_accept_stored::store_served;
 use host_burst::put_row;
 use host_burst::refusal_of_list;
 use host_burst::reply_at;
 use host_burst::served_of_list;
 use host_burst::told;
-use host_calls::accepted_words;
 use host_ledger::LEDGER_WORDS;
-use host_monitor_words::store;
-use ledger_watched::WatchedAccept;
+use host_watched_accept_words::ReplyAnswer;
+use host_watched_accept_words::accept;
 use probe_queue::QueuedProbe;
 
-// What the answer leaves of the words: a refusal changes none.
-fn store_given(ledger: &mut [u64; LEDGER_WORDS], monitor: &mut [u64; 12], given: WatchedAccept)
-    ensures { λ _. ⌜ (now (ledger .exit) ≡ ledgerAfter (now (ledger .entry)) given) × (now (monitor .exit) ≡ monitorAfter (now (monitor .entry)) given) ⌝ }
+// The row of entry i after a call that gave this.
+fn put_given(answers: &mut [[u64; 7]], i: usize, given: ReplyAnswer)
+    ensures { λ _. ⌜ now (answers .exit) ≡ set (now (answers .entry)) i (rowAfter (getD (now (answers .entry)) i []) (given .number) (given .words)) ⌝ }
 {
-    match given {
-        WatchedAccept::Served(next, watch, accepted) => {
-            store_served(ledger, next, accepted);
-            store(monitor, watch);
-        }
-        WatchedAccept::Refused(_) => {}
-    }
-}
-
-fn number_of(given: WatchedAccept) -> u8
-    ensures { λ r. ⌜ r ≡ acceptNumber given ⌝ }
-{
-    match given {
-        WatchedAccept::Served(_, _, _) => 0,
-        WatchedAccept::Refused(number) => number,
-    }
-}
-
-// The words of the answer; zeros, which no row takes, where the call was refused.
-fn words_of(given: WatchedAccept) -> [u64; 6]
-    ensures { λ r. ⌜ r ≡ answerAfter (0 ∷ 0 ∷ 0 ∷ 0 ∷ 0 ∷ 0 ∷ []) given ⌝ }
-{
-    match given {
-        WatchedAccept::Served(_, _, accepted) => accepted_words(accepted),
-        WatchedAccept::Refused(_) => [0, 0, 0, 0, 0, 0],
-    }
+    let words = given.words;
+    put_row(answers, i, given.number, words);
 }
 
 // The first `count` entries; `refusal` is handed back.
@@ -70,13 +44,8 @@ fn serve(
     let mut i = 0;
     while i < count {
         let reply = reply_at(entries, i);
-        let state = host_ledger::load(ledger);
-        let watch = host_monitor_words::load(monitor);
-        let given = ledger_watched::accept(state, watch, keys, slots, probes, links, queue, reply);
-        store_given(ledger, monitor, given);
-        let number = number_of(given);
-        let words = words_of(given);
-        put_row(answers, i, number, words);
+        let given = accept(ledger, monitor, keys, slots, probes, links, queue, reply);
+        put_given(answers, i, given);
         i = i + 1;
     }
     told(refusal)
