@@ -31,7 +31,8 @@ use Rattle.host_observation.specs.Observation.{observationAt}
 use Rattle.host_ledger.specs.Parts.{delaysAt, delaysWords, directAt, followAt}
 use Rattle.host_ledger.specs.Words.{tablesAt, ledgerAt}
 use Rattle.host_ledger.specs.Left.{followStored, observedWords}
-use Rattle.host_observe.specs.Observe.{DirectLeft, directLeft, directLeaves, FollowLeft, followLeft, followLeaves, Left, left, leftBy, servedLeaves, observeLeaves}
+use Rattle.host_direct_loss.specs.Left.{DirectLeft, directLeft, directLeaves}
+use Rattle.host_observe.specs.Observe.{FollowLeft, followLeft, followLeaves, Left, left, leftBy, servedLeaves, observeLeaves}
 use Rattle.host_observe.proofs.Parts.{counted, timed, rtt-same, direct-same, follow-same}
 
 -- ---- the parts in their order

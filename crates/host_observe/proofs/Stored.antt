@@ -1,4 +1,4 @@
--- What is stored of direct loss and of the follow-ups, by what was told and by the class. Assumes nothing.
+-- What is stored of the follow-ups, by what was told and by the class. Assumes nothing.
 use mathlib.Core.Path.{_≡_, refl, sym, ap, _∙_}
 use mathlib.Core.Bool.{Bool, cond}
 use mathlib.Core.List.{List, [], _∷_}
@@ -7,9 +7,6 @@ use native.Mathlib.Omega.{arith}
 use lib.IntN.{ℤ}
 use lib.ListN.{getD, set}
 use lib.Seq.{sets, set-getD}
-use Rattle.call_types.specs.declared.Counters.the-variants as counters
-use Rattle.call_types.specs.declared.CounterPoint.{CounterPoint}
-use Rattle.call_types.specs.declared.Counters.{Counters}
 use Rattle.call_types.specs.declared.FollowUp.{FollowUp}
 use Rattle.call_types.specs.declared.FollowUp.the-variants as follow
 use Rattle.call_types.specs.declared.FollowUpTelemetry.{FollowUpTelemetry}
@@ -20,40 +17,14 @@ use Rattle.chains.proofs.Tests.{eq-true, eq-false}
 use Rattle.correlation.specs.declared.follow.Class.{Class}
 use Rattle.correlation.specs.declared.follow.Class.the-variants as class
 use Rattle.correlation.specs.declared.follow.Match.{Match}
-use Rattle.direct.specs.declared.Direct.{Direct}
-use Rattle.direct.specs.Outcomes.{seenIn}
-use Rattle.offset_set.specs.Offsets.{offsetSet}
 use Rattle.follow_ups.specs.declared.FollowUps.{FollowUps}
 use Rattle.follow_ups.specs.Followed.{counted, followed}
-use Rattle.ledger_steps.specs.Observe.{directOutcome, directBy, directIn, followOutcome, followBy, followIn}
+use Rattle.ledger_steps.specs.Observe.{followOutcome, followBy, followIn}
 use Rattle.ledger_follow.specs.Class.{classOutcome, classIn}
 use Rattle.ledger_follow.proofs.Steps.{follow-as, counted-as}
-use Rattle.host_ledger.specs.Parts.{directAt, directWords, followAt, followCountsWords, followWords}
+use Rattle.host_ledger.specs.Parts.{followAt, followCountsWords, followWords}
 use Rattle.host_ledger.specs.Left.{followStored}
-use Rattle.host_observe.specs.Observe.{directLeft, directLeaves, followLeft, followLeaves}
-
--- ---- direct loss
-
-module _ (N : ℕ) (byNumber : ℕ → ℕ) (w offsets : List ℕ) (links : List (List ℕ)) (o : ReplyObservation) where
-  -- no counters
-  pub direct-untold : o .counters ≡ counters.Absent → directLeft w offsets links ≡ directLeaves (o .counters) w (directIn N byNumber (directAt 33 w) offsets links o)
-  unfolding directIn
-  direct-untold e =
-      sym (ap (λ (x : Counters). directLeaves x w (directBy N byNumber x (directAt 33 w) (offsetSet offsets links (seenIn (directAt 33 w .window))) (o .ordinal))) e)
-
-  -- counters that were counted
-  pub direct-told :
-      (c : CounterPoint) (before after : Direct) (w' offsets' : List ℕ) (links' : List (List ℕ))
-      → o .counters ≡ counters.Point c → before ≡ directAt 33 w
-      → directOutcome after offsets' links' ≡ directIn N byNumber before offsets links o
-      → w' ≡ sets w 33 (directWords after)
-      → directLeft w' offsets' links' ≡ directLeaves (o .counters) w (directIn N byNumber (directAt 33 w) offsets links o)
-  direct-told c before after w' offsets' links' e₁ e₂ e₃ e₄ =
-      ap (λ (v : List ℕ). directLeft v offsets' links') e₄
-      ∙ ap (directLeaves (counters.Point c) w) (e₃ ∙ ap (λ (d : Direct). directIn N byNumber d offsets links o) e₂)
-      ∙ ap (λ (x : Counters). directLeaves x w (directIn N byNumber (directAt 33 w) offsets links o)) (sym e₁)
-
--- ---- the follow-ups
+use Rattle.host_observe.specs.Observe.{followLeft, followLeaves}
 
 module _ (w : List ℕ) where
   -- counts as they are read are stored as they were

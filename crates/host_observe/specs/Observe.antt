@@ -5,11 +5,11 @@ use Prim.Native.Nat.{ℕ}
 use Rattle.call_types.specs.declared.Counters.{Counters}
 use Rattle.ledger_steps.specs.declared.LedgerAnswer.{LedgerAnswer}
 use Rattle.ledger_steps.specs.declared.LedgerAnswer.the-variants as answer
-use Rattle.ledger_steps.specs.Observe.{DirectOutcome, FollowOutcome, ObserveOutcome}
+use Rattle.ledger_steps.specs.Observe.{FollowOutcome, ObserveOutcome}
 use Rattle.ledger_steps.specs.Calls.{ObserveResult, number, observeTo}
 use Rattle.host_observation.specs.Observation.{observationAt}
 use Rattle.host_ledger.specs.Words.{ledgerAt}
-use Rattle.host_ledger.specs.Left.{directStored, followStored, observedWords}
+use Rattle.host_ledger.specs.Left.{followStored, observedWords}
 
 -- ---- the call
 
@@ -45,20 +45,6 @@ observeLeaves ledger keys slots offsets links observation =
 -- a served call
 abbrev pub servedLeaves : Counters → List ℕ → ObserveOutcome → Left
 servedLeaves told before out = left 0 (observedWords told before (out .ledger)) (out .slots) (out .offsets) (out .links)
-
--- the words of the ledger, the seen offsets and the links
-pub record DirectLeft : Type 0 where
-  pub ledger : List ℕ
-  pub offsets : List ℕ
-  pub links : List (List ℕ)
-
--- these
-abbrev pub directLeft : List ℕ → List ℕ → List (List ℕ) → DirectLeft
-directLeft ledger offsets links = record { ledger = ledger; offsets = offsets; links = links }
-
--- the direct counters
-abbrev pub directLeaves : Counters → List ℕ → DirectOutcome → DirectLeft
-directLeaves told before out = directLeft (directStored told before (out .direct)) (out .offsets) (out .links)
 
 -- the words of the ledger, and the rows of words
 pub record FollowLeft : Type 0 where

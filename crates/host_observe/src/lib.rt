@@ -2,7 +2,6 @@
 // words, counted and stored, in the original's order. Crate ledger_observe has the same call on a ledger by value; its contract and this one
 // cite one definition, `observeTo`.
 ghost use mathlib.Core.Path.{_≡_};
-ghost use Prim.Native.Nat.{_≤_};
 ghost use lib.ListN.{length};
 ghost use lib.Seq.{sets};
 ghost use Rattle.limits.specs.Limits.{capacity};
@@ -14,18 +13,16 @@ ghost use Rattle.key_ring.specs.Table.{hashOf};
 ghost use Rattle.delays.specs.Bounds as delays;
 ghost use Rattle.delays.specs.Delays.{recordedOf};
 ghost use Rattle.delays.specs.Sums.{nanosecondsOf};
-ghost use Rattle.direct.specs.Outcomes as direct;
 ghost use Rattle.follow_ups.specs.Bounds as follow_ups;
 ghost use Rattle.follow_ups.specs.Followed.{counted, followed};
 ghost use Rattle.ledger_steps.specs.Refusals.{refusalOfObserve};
 ghost use Rattle.ledger_checks.specs.Sound.{SoundObserve};
 ghost use Rattle.host_observation.specs.Observation.{observationAt};
-ghost use Rattle.ledger_steps.specs.Observe.{directIn, followIn, observeOn};
-ghost use Rattle.host_ledger.specs.Parts.{delaysAt, delaysWords, directAt, followAt, followCountsWords, followWords};
+ghost use Rattle.ledger_steps.specs.Observe.{followIn, observeOn};
+ghost use Rattle.host_ledger.specs.Parts.{delaysAt, delaysWords, followAt, followCountsWords, followWords};
 ghost use Rattle.host_ledger.specs.Words.{ledgerAt};
 ghost use Rattle.host_ledger.specs.Left.{followStored};
-ghost use Rattle.host_observe.specs.Observe.{directLeft, directLeaves, followLeft, followLeaves, left, servedLeaves, observeLeaves};
-use call_types::Counters;
+ghost use Rattle.host_observe.specs.Observe.{followLeft, followLeaves, left, servedLeaves, observeLeaves};
 use call_types::FollowUp;
 use call_types::ReplyObservation;
 use chains::Ring;
@@ -62,28 +59,6 @@ fn refusal(
     let ranged = host_own_slot::in_range(words);
     let counted = host_ledger_checks::room_for_call(ledger);
     ledger_state::first_refusal(true, ranged, true, counted, awaiting, true)
-}
-
-// The direct counters of the reply, where it has them.
-fn count_direct(
-    ledger: &mut [u64; LEDGER_WORDS],
-    offsets: &mut [u32],
-    links: &mut [[u16; 8]],
-    secret: [u32; 8],
-    told: ReplyObservation,
-)
-    requires { ⌜ (length (now offsets) ≡ capacity) × (length (now links) ≡ capacity) × direct.InBounds (directAt 33 (now ledger) .counts) × (direct.seenIn (directAt 33 (now ledger) .window) ≤ 4096) ⌝ }
-    ensures { λ _. ⌜ directLeft (now (ledger .exit)) (now (offsets .exit)) (now (links .exit)) ≡ directLeaves (told .counters) (now (ledger .entry)) (directIn capacity (numberHash secret) (directAt 33 (now (ledger .entry))) (now (offsets .entry)) (now (links .entry)) told) ⌝ }
-{
-    let counters = told.counters;
-    match counters {
-        Counters::Absent => {}
-        Counters::Point(_) => {
-            let before = host_ledger::direct_of(ledger);
-            let after = ledger_direct::count_direct(before, offsets, links, secret, told);
-            host_ledger_parts::store_direct(ledger, after);
-        }
-    }
 }
 
 // The delay of a matched follow-up.
@@ -188,7 +163,7 @@ fn observed(
     ledger[5] = calls + 1;
     ledger[10] = 0;
     host_round_trip::count(ledger, told.rtt);
-    count_direct(ledger, offsets, links, secret, told);
+    host_direct_loss::count(ledger, offsets, links, secret, told);
     count_follow_up(ledger, keys, slots, links, ring, secret, told);
     host_own_slot::raise_own(copies, keys, slots, links, ring, secret, words);
 }

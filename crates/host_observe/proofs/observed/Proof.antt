@@ -40,8 +40,8 @@ element-write-ledger-2 c = search needs
 count-requires : tie.Need-count-requires
 count-requires c κs = rtt-bounded (now (c .before .before .before .before .before .before .before .before .args .ledger)) (now (c .before .before .before .before .before .before .before .before .args .keys)) _ _ _ (c .before .before .before .before .before .before .before .before .args .told) (c .before .before .before .before .before .before .before .before .pre .0)
 
-count-direct-requires : tie.Need-count-direct-requires
-count-direct-requires c κs =
+count-requires-2 : tie.Need-count-requires-2
+count-requires-2 c κs =
     let s = c .before .before .before .before .before .before .before .before .before .before .before .before in
     let bounded = direct-bounded (now (c .before .before .before .before .before .before .before .before .before .before .before .before .args .ledger)) (now (c .before .before .before .before .before .before .before .before .before .before .before .before .args .keys)) _ _ _ (c .before .before .before .before .before .before .before .before .before .before .before .before .args .told) (c .before .before .before .before .before .before .before .before .before .before .before .before .pre .0) _ (c .before .before .before .count .ensures) in
     (s .pre .0 .offsets-size, s .pre .0 .links-size, bounded .0, bounded .1)
@@ -51,9 +51,9 @@ count-follow-up-requires c κs =
     let s = c .before .before .before .before .before .before .before .before .before .before .before .before .before .before .before .before .before .before .before in (
       s .pre .0 .keys-size,
       s .pre .0 .slots-size,
-      c .before .before .before .before .before .before .count-direct .kept .1 .1 .0 ∙ s .pre .0 .links-size,
+      c .before .before .before .before .before .before .count2 .kept .1 .1 .0 ∙ s .pre .0 .links-size,
       subst (RingFits capacity) (sym (c .before .before .before .before .before .before .before .before .before .before .before .before .before .before .keys-ring .ensures)) (s .pre .0 .rings .keys-ring),
-      follow-bounded (now (c .before .before .before .before .before .before .before .before .before .before .before .before .before .before .before .before .before .before .before .args .ledger)) (now (c .before .before .before .before .before .before .before .before .before .before .before .before .before .before .before .before .before .before .before .args .keys)) _ _ _ (c .before .before .before .before .before .before .before .before .before .before .before .before .before .before .before .before .before .before .before .args .told) (c .before .before .before .before .before .before .before .before .before .before .before .before .before .before .before .before .before .before .before .pre .0) (numberHash (c .before .before .before .before .before .before .before .before .before .before .before .before .before .before .before .before .secret-words .result)) _ _ _ _ _ _ (c .before .before .before .before .before .before .before .before .before .before .count .ensures) (c .before .before .before .before .before .before .count-direct .ensures),
+      follow-bounded (now (c .before .before .before .before .before .before .before .before .before .before .before .before .before .before .before .before .before .before .before .args .ledger)) (now (c .before .before .before .before .before .before .before .before .before .before .before .before .before .before .before .before .before .before .before .args .keys)) _ _ _ (c .before .before .before .before .before .before .before .before .before .before .before .before .before .before .before .before .before .before .before .args .told) (c .before .before .before .before .before .before .before .before .before .before .before .before .before .before .before .before .before .before .before .pre .0) (numberHash (c .before .before .before .before .before .before .before .before .before .before .before .before .before .before .before .before .secret-words .result)) _ _ _ _ _ _ (c .before .before .before .before .before .before .before .before .before .before .count .ensures) (c .before .before .before .before .before .before .count2 .ensures),
       follow-ranged (s .args .told) (s .pre .0 .ranged),
     )
 
@@ -62,7 +62,7 @@ raise-own-requires c κs =
     let s = c .before .before .before .before .before .before .before .before .before .before .before .before .before .before .before .before .before .before .before .before .before .before .before in (
       s .pre .0 .keys-size,
       c .before .before .before .count-follow-up .kept .1 .1 .0 ∙ s .pre .0 .slots-size,
-      c .before .before .before .before .before .before .before .before .before .before .count-direct .kept .1 .1 .0 ∙ s .pre .0 .links-size,
+      c .before .before .before .before .before .before .before .before .before .before .count2 .kept .1 .1 .0 ∙ s .pre .0 .links-size,
       subst (RingFits capacity) (sym (c .before .before .before .before .before .before .before .before .before .before .before .before .before .before .before .before .before .before .keys-ring .ensures)) (s .pre .0 .rings .keys-ring),
     )
 
@@ -82,7 +82,7 @@ returns c =
     observed-as (now (s .args .ledger)) (now (s .args .keys)) (now (s .args .slots)) (now (s .args .offsets)) (now (s .args .links)) (s .args .told)
     _ _ _ _ _ _ _ _ _ _
     (c .before .before .before .before .before .before .before .before .before .before .before .before .before .before .before .before .before .before .before .before .before .before .secret-words .ensures) (c .before .before .before .before .before .before .before .before .before .before .before .before .before .before .before .before .before .before .before .before .keys-ring .ensures) refl
-    (c .before .before .before .before .before .before .before .before .before .before .before .before .before .before .before .before .count .ensures) (c .before .before .before .before .before .before .before .before .before .before .before .before .count-direct .ensures) (c .before .before .before .before .before .count-follow-up .ensures) (c .before .raise-own .ensures ∙ ap (ownIn capacity (hashOf _) (numberHash _) _ _ _ _ _) (sym (s .pre .1)))
+    (c .before .before .before .before .before .before .before .before .before .before .before .before .before .before .before .before .count .ensures) (c .before .before .before .before .before .before .before .before .before .before .before .before .count2 .ensures) (c .before .before .before .before .before .count-follow-up .ensures) (c .before .raise-own .ensures ∙ ap (ownIn capacity (hashOf _) (numberHash _) _ _ _ _ _) (sym (s .pre .1)))
 
 pub observed-spec : {M : Type 1} → statement M
 observed-spec =
@@ -97,7 +97,7 @@ observed-spec =
     element-write-ledger
     element-write-ledger-2
     count-requires
-    count-direct-requires
+    count-requires-2
     count-follow-up-requires
     raise-own-requires
     same-length
