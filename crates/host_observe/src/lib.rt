@@ -67,9 +67,7 @@ fn count_delay(ledger: &mut [u64; LEDGER_WORDS], times: Match, offset: i32)
     ensures { λ _. ⌜ now (ledger .exit) ≡ sets (now (ledger .entry)) 50 (delaysWords (recordedOf (delaysAt 50 (now (ledger .entry))) (nanosecondsOf (delayOf (times .t4) (times .t3) offset)))) ⌝ }
 {
     let ns = correlation::follow::delay(times.t4, times.t3, offset);
-    let before = host_ledger_parts::delay_of(ledger);
-    let after = before.recorded(delays::from_i64(ns));
-    host_ledger_parts::store_delay(ledger, after);
+    host_delay::count(ledger, ns);
 }
 
 // A matched follow-up changes all that there is of follow-ups: two counts, the delay and the clock quality.

@@ -47,7 +47,7 @@ ordinary-as w b e t =
 -- ---- the stores
 
 -- a word that is stored as it stands changes nothing
-kept : (v w : List ℕ) (i : ℕ) → getD v i 0 ≡ getD w i 0 → set v i (getD w i 0) ≡ v
+pub kept : (v w : List ℕ) (i : ℕ) → getD v i 0 ≡ getD w i 0 → set v i (getD w i 0) ≡ v
 kept v w i e = ap (set v i) (sym e) ∙ set-getD v i 0
 
 module _ (w : List ℕ) (c h l a b : ℕ) where

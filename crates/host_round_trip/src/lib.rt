@@ -17,7 +17,8 @@ use host_ledger::LEDGER_WORDS;
 
 const MOST: u64 = 18446744073709551615;
 
-fn farther(high: u64, low: u64, ns: u64) -> Sum
+// A magnitude of two words made larger.
+pub fn farther(high: u64, low: u64, ns: u64) -> Sum
     requires { ⌜ high < 2 ^ 62 ⌝ }
     ensures { λ r. ⌜ r ≡ sumOf (pos (magnitude high low + ns)) ⌝ }
 {
