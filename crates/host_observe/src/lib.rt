@@ -126,7 +126,7 @@ fn count_follow_up(
         FollowUp::Absent => {}
         FollowUp::Telemetry(telemetry) => {
             let own = key.reflector;
-            let class = ledger_follow::class_of_follow_up(
+            let class = host_follow_class::class_of_follow_up(
                 keys,
                 slots,
                 links,
