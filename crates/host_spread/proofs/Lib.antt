@@ -1,3 +1,4 @@
 mod Answers
+mod Short
 pub mod Determined
 pub mod Back

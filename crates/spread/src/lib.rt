@@ -66,7 +66,7 @@ fn origin_with(first: bool, value: u64, origin: u64) -> u64
 
 impl Welford {
     // The steps for the sample with which there are `count`, in the source's order.
-    fn with(self, origin: u64, count: u64, value: u64) -> Welford
+    pub fn with(self, origin: u64, count: u64, value: u64) -> Welford
         ensures { λ r. ⌜ r ≡ welfordFrom origin self count value ⌝ }
     {
         let centered = centered(value, origin);
@@ -80,7 +80,7 @@ impl Welford {
 
 impl Jitter {
     // The first sample has none before it.
-    fn with(self, first: bool, value: u64) -> Jitter
+    pub fn with(self, first: bool, value: u64) -> Jitter
         requires { ⌜ (self .sum .high < 2 ^ 62) × (self .count < 2 ^ 63) ⌝ }
         ensures { λ r. ⌜ r ≡ jitterOf self first value ⌝ }
     {
@@ -137,7 +137,7 @@ impl RttCollector {
     }
 
     // Both sums and the count of differences are below their bounds.
-    fn sums_fit(self) -> bool
+    pub fn sums_fit(self) -> bool
         ensures { λ r. ⌜ r ≡ fits self ⌝ }
     {
         let sum = self.sum;
