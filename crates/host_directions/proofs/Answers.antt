@@ -1,21 +1,23 @@
 -- What the proofs of the calls cite: each case of the answer below. Assumes nothing.
 use mathlib.Core.Path.{_≡_, refl, sym, ap, ap₂, _∙_, subst}
 use mathlib.Core.Bool.{Bool, true, false, not}
-use borrow.Author.Tests.{ne-eqb}
+use borrow.Author.Tests.{ne-eqb, eqb-true, not-false}
+use lib.Dec.{ltb, eqb}
 use lib.IntN.{_+ℤ_}
 use mathlib.Core.List.{List}
 use Prim.Native.Nat.{ℕ, suc, _+_, _^_, _<_}
 use native.Mathlib.Omega.{arith}
 use lib.ListN.{getD, set}
-use lib.Seq.{sets, set-getD, getD-set-other}
+use lib.Seq.{sets, set-comm, set-getD, getD-set-other}
 use Rattle.host_numbers.specs.Numbers.{flagWord, isSet}
 use Rattle.delays.specs.declared.DelaySummary.{DelaySummary}
 use Rattle.delays.specs.declared.Sum.{Sum}
-use Rattle.delays.specs.Sums.{totalOf, sumOf}
+use Rattle.delays.specs.Sums.{nanosecondsOf, totalOf, sumOf}
 use Rattle.delays.specs.Summary.{summaryOf}
 use Rattle.series.specs.Series.{sumFits}
 use Rattle.series.specs.Shown.{delaysOf, spanAt}
-use Rattle.series.specs.Step.{withWords}
+use Rattle.series.specs.Step.{withWords, farFrom}
+use Rattle.series.proofs.Kept.{left-of}
 use Rattle.directions.specs.declared.OwdDirection.{OwdDirection}
 use Rattle.directions.specs.declared.Directions.{Directions}
 use Rattle.directions.specs.declared.Recording.{Recording}
@@ -69,11 +71,37 @@ pub sum-said : (ws : List ℕ) (reverse : Bool) (at : ℕ) → at ≡ wordsStart
 sum-said ws false at e = ap (λ (n : ℕ). six ws n .sum) e
 sum-said ws true at e = ap (λ (n : ℕ). six ws n .sum) e
 
--- a count and a sum alone
-pub store-more-said : (ws : List ℕ) (reverse : Bool) (at count : ℕ) (negative : Bool) (high low x : ℕ) → at ≡ wordsStart reverse → x ≡ flagWord negative
-    → set (set (set (set ws at count) (at + 3) x) (at + 4) high) (at + 5) low ≡ moreWords ws (wordsStart reverse) count negative high low
-store-more-said ws reverse at count negative high low x e f =
-    ap₂ (λ (n y : ℕ). set (set (set (set ws n count) (n + 3) y) (n + 4) high) (n + 5) low) e f
+-- a count and a sum alone: the sign's word written, or 0 already
+module _ (ws : List ℕ) (reverse : Bool) (at count : ℕ) (negative : Bool) (high low : ℕ) (start : at ≡ wordsStart reverse) where
+  pub store-negative : negative ≡ true → set (set (set (set ws at count) (at + 4) high) (at + 5) low) (at + 3) 1 ≡ moreWords ws (wordsStart reverse) count negative high low
+  store-negative e =
+      set-comm (set (set ws at count) (at + 4) high) (at + 5) (at + 3) low 1 (λ f. apart at f)
+      ∙ ap (λ (l : List ℕ). set l (at + 5) low) (set-comm (set ws at count) (at + 4) (at + 3) high 1 (λ f. other at f))
+      ∙ ap₂ (λ (n y : ℕ). set (set (set (set ws n count) (n + 3) y) (n + 4) high) (n + 5) low) start (ap flagWord (sym e))
+    where
+      apart : (n : ℕ) → n + 5 ≡ n + 3 → ⊥
+      apart n e = omega arith
+
+      other : (n : ℕ) → n + 4 ≡ n + 3 → ⊥
+      other n e = omega arith
+
+  pub store-plain : negative ≡ false → negative ≡ isSet (getD ws (wordsStart reverse + 3) 0)
+      → set (set (set ws at count) (at + 4) high) (at + 5) low ≡ moreWords ws (wordsStart reverse) count negative high low
+  store-plain e same =
+      ap (λ (n : ℕ). set (set (set ws n count) (n + 4) high) (n + 5) low) start
+      ∙ ap (λ (l : List ℕ). set (set l (wordsStart reverse + 4) high) (wordsStart reverse + 5) low) (sym stays)
+    where
+      unset : (w : ℕ) → isSet w ≡ false → w ≡ 0
+      unset w f = eqb-true w 0 (not-false (eqb w 0) f)
+
+      next : (n : ℕ) → n + 3 ≡ n → ⊥
+      next n e = omega arith
+
+      stays : set (set ws (wordsStart reverse) count) (wordsStart reverse + 3) (flagWord negative) ≡ set ws (wordsStart reverse) count
+      stays =
+          ap (set (set ws (wordsStart reverse) count) (wordsStart reverse + 3))
+          (ap flagWord e ∙ sym (getD-set-other ws (wordsStart reverse) (wordsStart reverse + 3) count 0 (next (wordsStart reverse)) ∙ unset (getD ws (wordsStart reverse + 3) 0) (sym same ∙ e)))
+          ∙ set-getD (set ws (wordsStart reverse) count) (wordsStart reverse + 3) 0
 
 -- what a sample leaves of six words that changes neither the least nor the greatest
 abbrev more : OwdDirection → Bool → ℕ → ℕ → OwdDirection
@@ -164,9 +192,18 @@ module _ (ws slice after recorded : List ℕ) (reverse v : ℕ) (back : Bool) (w
       told : TriedOwn true d slice back v after → direction.outcome d (Counted (more d (before .negative) high low)) after ≡ both.recordOwn d slice (isSet reverse) v
       told got = ap (λ (x : OwdDirection). direction.left 0 true x after) grown-more ∙ got .1 ∙ ap (λ (b : Bool). both.recordOwn d slice b v) way
 
-pub own-fits : (ws : List ℕ) (back : Bool) (d : OwdDirection) (before : Sum) → d ≡ both.own (directionsAt ws) back → before ≡ both.own (directionsAt ws) back .sum → sumFits before ≡ true
-    → sumFits (d .sum) ≡ true
-own-fits ws back d before is sums e = ap (λ (x : OwdDirection). sumFits (x .sum)) is ∙ ap sumFits (sym sums) ∙ e
+-- what the test of the sum tells
+pub own-fits : (d : OwdDirection) (v : ℕ) (t : Bool) → t ≡ farFrom (d .sum) v → t ≡ true → sumFits (d .sum) ≡ true
+own-fits d v t e f = left-of (sumFits (d .sum)) (ltb (nanosecondsOf (spanAt true v) .magnitude) (d .sum .low)) (sym e ∙ f)
+
+pub still-far : (ws : List ℕ) (back : Bool) (d : OwdDirection) (before : Sum) (v : ℕ) (t : Bool) → d ≡ both.own (directionsAt ws) back → before ≡ both.own (directionsAt ws) back .sum
+    → t ≡ farFrom (d .sum) v → t ≡ true → farFrom before v ≡ true
+still-far ws back d before v t is sums e f = ap (λ (s : Sum). farFrom s v) (sums ∙ ap (λ (x : OwdDirection). x .sum) (sym is)) ∙ sym e ∙ f
+
+-- the sign that was read is that of its word
+pub sign-read : (ws : List ℕ) (back : Bool) (before : Sum) → before ≡ both.own (directionsAt ws) back .sum → before .negative ≡ isSet (getD ws (wordsStart back + 3) 0)
+sign-read ws false before e = ap (λ (s : Sum). s .negative) e
+sign-read ws true before e = ap (λ (s : Sum). s .negative) e
 
 pub tried-fits : (d : OwdDirection) (slice after : List ℕ) (back : Bool) (v : ℕ) (t : Bool) → t ≡ true → TriedOwn t d slice back v after → d .quantiles .count + 1 < 2 ^ 64
 tried-fits d slice after back v t was tried = subst (λ (b : Bool). TriedOwn b d slice back v after) was tried .0
@@ -178,6 +215,16 @@ pub not-tried : (ws slice after recorded : List ℕ) (reverse v n : ℕ) (words 
 not-tried ws slice after recorded reverse v n words left answered back d t was tried e =
     let same = subst (λ (b : Bool). TriedOwn b d slice back v after) was tried in
     (e .0 ∙ ap (λ (l : List ℕ). recordTo ws l reverse v recorded) same, subst (λ (l : List ℕ). both.Untouched (both.startOf (isSet reverse)) l left) same (e .1))
+
+-- every word that is not 0 says reverse
+module _ (ws slice after recorded : List ℕ) (reverse k v n : ℕ) (words answered : List ℕ) (e : isSet k ≡ isSet reverse) where
+  same-way : recordTo ws slice k v recorded ≡ recordTo ws slice reverse v recorded
+  unfolding recordTo
+  same-way = ap (λ (b : Bool). recordBy b (both.recordIn (directionsAt ws) slice b v .number) (both.recordIn (directionsAt ws) slice b v) ws recorded) e
+
+  pub by-way : (recordLeft n words after answered ≡ recordTo ws slice k v recorded) × both.Untouched (both.startOf (isSet k)) slice after
+      → (recordLeft n words after answered ≡ recordTo ws slice reverse v recorded) × both.Untouched (both.startOf (isSet reverse)) slice after
+  by-way h = (h .0 ∙ same-way, subst (λ (b : Bool). both.Untouched (both.startOf b) slice after) e (h .1))
 
 -- which direction it is
 pub is-forward : (reverse : ℕ) → reverse ≡ 0 → false ≡ isSet reverse

@@ -7,7 +7,8 @@ use directions::OwdDirection;
 use directions::Recording;
 use quantiles::Quantiles;
 ghost use mathlib.Core.Path.{_≡_};
-ghost use Prim.Native.Nat.{_≤_};
+ghost use Prim.Native.Nat.{_+_, _≤_, _<_};
+ghost use lib.ListN.{getD};
 ghost use lib.Seq.{sets};
 ghost use Rattle.directions.specs.Directions.{startOf, own, Untouched};
 ghost use Rattle.host_numbers.specs.Numbers.{isSet};
@@ -92,15 +93,20 @@ fn store_own(words: &mut [u64; 12], reverse: bool, own: OwdDirection)
     words[at + 5] = own.sum.low;
 }
 
-// What a sample leaves of a direction's words that changes neither its least nor its greatest, nor the sign of its sum.
+// What a sample leaves of a direction's words that changes neither its least nor its greatest, nor the sign of its sum: where that is not
+// negative, its word is 0 already.
 fn store_more(words: &mut [u64; 12], reverse: bool, count: u64, negative: bool, high: u64, low: u64)
+    requires { ⌜ negative ≡ isSet (getD (now words) (wordsStart reverse + 3) 0) ⌝ }
     ensures { λ _. ⌜ now (words .exit) ≡ moreWords (now (words .entry)) (wordsStart reverse) count negative high low ⌝ }
 {
     let at = words_start(reverse);
     words[at] = count;
-    words[at + 3] = host_numbers::flag(negative);
     words[at + 4] = high;
     words[at + 5] = low;
+    if negative {
+        words[at + 3] = 1;
+        return;
+    }
 }
 
 // Any sample.
@@ -132,8 +138,9 @@ fn record_any(
 }
 
 // One sample of a direction: `recorded` has 1; or 0 at a count of 2^64-1, and then nothing else changes. The other direction's words stay.
-// A sample between the least and the greatest so far, after which the sum has the sign it had, goes a way that is short for each direction. Any
-// other is left to `record_any`, which stands by itself in the compiled code since more than one place calls it.
+// A sample between the least and the greatest so far, which is nearer to zero than the sum's low word alone, goes a way that is short for each
+// direction: the sum keeps its sign, and is read only once the room has the sample. Any other is left to `record_any`, which stands by itself in
+// the compiled code since more than one place calls it.
 #[no_mangle]
 pub extern "C" fn ambrulicciu_directions_record(
     directions: &mut [u64; 12],
@@ -145,45 +152,47 @@ pub extern "C" fn ambrulicciu_directions_record(
     ensures { λ r. ⌜ (recordLeft r (now (directions .exit)) (now (slice .exit)) (now (recorded .exit)) ≡ recordTo (now (directions .entry)) (now (slice .entry)) reverse value (now (recorded .entry))) × Untouched (startOf (isSet reverse)) (now (slice .entry)) (now (slice .exit)) ⌝ }
 {
     if reverse == 0 {
-        let before = load_sum(directions, false);
-        let sum = series::try_sum(before, value);
-        if sum.kept {
-            let own = load_own(directions, false);
+        let own = load_own(directions, false);
+        let sum = own.sum;
+        if series::is_far(sum, value) {
             if directions::try_own(own, slice, false, value) {
+                let before = load_sum(directions, false);
+                let words = series::sum_step(before, value);
                 store_more(
                     directions,
                     false,
                     own.quantiles.count + 1,
                     before.negative,
-                    sum.high,
-                    sum.low,
+                    words.high,
+                    words.low,
                 );
                 recorded[0] = 1;
                 return 0;
             }
-            return record_any(directions, slice, reverse, value, recorded);
+            return record_any(directions, slice, 0, value, recorded);
         }
-        return record_any(directions, slice, reverse, value, recorded);
+        return record_any(directions, slice, 0, value, recorded);
     }
-    let before = load_sum(directions, true);
-    let sum = series::try_sum(before, value);
-    if sum.kept {
-        let own = load_own(directions, true);
+    let own = load_own(directions, true);
+    let sum = own.sum;
+    if series::is_far(sum, value) {
         if directions::try_own(own, slice, true, value) {
+            let before = load_sum(directions, true);
+            let words = series::sum_step(before, value);
             store_more(
                 directions,
                 true,
                 own.quantiles.count + 1,
                 before.negative,
-                sum.high,
-                sum.low,
+                words.high,
+                words.low,
             );
             recorded[0] = 1;
             return 0;
         }
-        return record_any(directions, slice, reverse, value, recorded);
+        return record_any(directions, slice, 1, value, recorded);
     }
-    record_any(directions, slice, reverse, value, recorded)
+    record_any(directions, slice, 1, value, recorded)
 }
 
 // Minimum, average and maximum of a direction in ms; any words are shown. A value that is not there is 0, with a 0 before it.

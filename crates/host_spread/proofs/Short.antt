@@ -20,6 +20,7 @@ use Rattle.quantiles.specs.Record as quantile-record
 use Rattle.quantiles.specs.Between.{oneMore, Tried}
 use Rattle.series.specs.declared.Sampling.the-variants as sampling
 use Rattle.series.proofs.Ways.{way-fits}
+use Rattle.series.proofs.Kept.{left-of, right-of}
 use Rattle.spread.specs.declared.Jitter.{Jitter}
 use Rattle.spread.specs.declared.RttCollector.{RttCollector}
 use Rattle.spread.specs.declared.Recording.the-variants.{Counted}
@@ -28,7 +29,6 @@ use Rattle.spread.specs.Record as record-call
 use Rattle.spread.proofs.Steps.{grown-is, way-counted}
 use Rattle.host_welford.specs.declared.FloatWords.{FloatWords}
 use Rattle.host_welford.specs.Steps.{stepWords}
-use Rattle.host_welford.proofs.Words.{left-of, right-of}
 use Rattle.host_spread.specs.Words.{collectorAt, collectorWords}
 use Rattle.host_spread.specs.Calls.{recordLeft, recordTo}
 use Rattle.host_spread.proofs.Answers.{store-said, record-counted}

@@ -1,14 +1,14 @@
 -- What the steps leave in the words. Assumes nothing.
-use mathlib.Core.Path.{_≡_, refl, sym, ap, ap₂, _∙_, subst}
+use mathlib.Core.Path.{_≡_, sym, ap, ap₂, _∙_, subst}
 use mathlib.Core.Bool.{Bool, true, false, not, _&&_}
 use Prim.Native.Nat.{ℕ, _+_, _^_, _<_}
 use native.Mathlib.Omega.{arith}
 use lib.Dec.{T, ltb, ltb→lt}
 use lib.IntN.{pos, _-ℤ_}
 use lib.Ieee.{Float, nan, inf, fin, binary64, ofInt, ofBits, toBits, nanBits, isNan, eq, add, sub, mul, div}
-use lib.Ieee.Fits.{and-l, and-r}
+use Rattle.series.proofs.Kept.{left-of, right-of}
 use Rattle.spread.specs.declared.Welford.{Welford}
-use Rattle.spread.specs.Spread.{centeredOf, welfordFrom}
+use Rattle.spread.specs.Spread.{welfordFrom}
 use Rattle.spread.proofs.Steps.{welford-is}
 use Rattle.host_welford.specs.declared.FloatWords.{FloatWords}
 use Rattle.host_welford.specs.Steps.{floatWords, welfordAt, stepWords}
@@ -40,14 +40,6 @@ unfolding eq isNan
 no-nan nan same = subst (λ (b : Bool). T (not b)) same tt
 no-nan (inf s) same = tt
 no-nan (fin s m e) same = tt
-
-pub left-of : (a b : Bool) → a && b ≡ true → a ≡ true
-left-of true b e = refl
-left-of false b e = e
-
-pub right-of : (a b : Bool) → a && b ≡ true → b ≡ true
-right-of true b e = e
-right-of false b e = absurd (subst (λ (t : Bool). T (not t)) e tt)
 
 -- the five tests of `steps`
 module _ (mean m2 : ℕ) (a b : Bool) (value origin count : ℕ) (x : a ≡ not (nanBits binary64 mean)) (y : b ≡ not (nanBits binary64 m2))

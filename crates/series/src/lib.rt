@@ -13,10 +13,9 @@ ghost use Prim.Native.Nat.{_+_, _^_, _≤_, _<_};
 ghost use lib.IntN.{_+ℤ_};
 ghost use Rattle.delays.specs.Sums.{nanosecondsOf, valueOf, totalOf, sumOf};
 ghost use Rattle.delays.specs.Summary.{summaryOf};
-ghost use Rattle.floats.specs.Whole.{magnitude};
 ghost use Rattle.series.specs.Series.{sumFits, outcome, recordedBeside};
 ghost use Rattle.series.specs.Shown.{spanAt, extremeOf, delaysOf};
-ghost use Rattle.series.specs.Step.{oneIf, withWords};
+ghost use Rattle.series.specs.Step.{oneIf, withWords, farFrom};
 
 // What a sample comes to: refusal 5; refusal 4; Rust's false; or true, with the quantiles after it.
 pub enum Sampling {
@@ -53,9 +52,8 @@ pub fn sum_with(sum: Sum, ns: Nanoseconds) -> Sum
     after.sum
 }
 
-// Two words of a sum with a sample more, where `kept` says that it keeps its sign and is not zero.
-pub struct Stepped {
-    pub kept: bool,
+// Two words of a sum.
+pub struct SumWords {
     pub high: u64,
     pub low: u64,
 }
@@ -66,58 +64,33 @@ fn one_if(yes: bool) -> u64
     if yes { 1 } else { 0 }
 }
 
-// The two words, from the low one and from what the high one has more and less.
-fn settle(high: u64, more: u64, less: u64, low: u64) -> Stepped
-    requires { ⌜ (high < 2 ^ 62) × (more ≤ 1) ⌝ }
-    ensures { λ r. ⌜ (r .kept ≡ true → (r .high + less ≡ high + more) × (r .low ≡ low) × (0 < magnitude (r .high) (r .low))) ⌝ }
+// A sum below its bound whose low word alone is further from zero than the word: it keeps its sign with it, and is not zero.
+pub fn is_far(sum: Sum, word: u64) -> bool
+    ensures { λ r. ⌜ r ≡ farFrom sum word ⌝ }
 {
-    let up = high + more;
-    if up < less {
-        return Stepped {
-            kept: false,
-            high: 0,
-            low: 0,
-        };
-    }
-    let top = up - less;
-    Stepped {
-        kept: (0 < top) | (0 < low),
-        high: top,
-        low: low,
-    }
+    let span = span_of(true, word);
+    sum_fits(sum) & (span.magnitude < sum.low)
 }
 
-// A sum with a signed word more, where it keeps its sign: the word's own sign picks no way through the code, and a sum's is guessed well.
-fn sum_step(sum: Sum, word: u64) -> Stepped
-    requires { ⌜ sum .high < 2 ^ 62 ⌝ }
-    ensures { λ r. ⌜ (r .kept ≡ true → withWords sum (r .high) (r .low) ≡ sumOf (totalOf sum +ℤ spanAt true word)) ⌝ }
+// Such a sum with the word more: the word's own sign picks no way through the code, and a sum's is guessed well.
+pub fn sum_step(sum: Sum, word: u64) -> SumWords
+    requires { ⌜ farFrom sum word ≡ true ⌝ }
+    ensures { λ r. ⌜ withWords sum (r .high) (r .low) ≡ sumOf (totalOf sum +ℤ spanAt true word) ⌝ }
 {
     let below = one_if(9223372036854775808 <= word);
     if sum.negative {
         let borrow = one_if(sum.low < word);
-        return settle(
-            sum.high,
-            below,
-            borrow,
-            std::num::wrapping_sub_u64(sum.low, word),
-        );
+        let low = std::num::wrapping_sub_u64(sum.low, word);
+        return SumWords {
+            high: sum.high + below - borrow,
+            low: low,
+        };
     }
     let low = std::num::wrapping_add_u64(sum.low, word);
     let carry = one_if(low < word);
-    settle(sum.high, carry, below, low)
-}
-
-// The same of any sum; one at its bound is not kept.
-pub fn try_sum(sum: Sum, word: u64) -> Stepped
-    ensures { λ r. ⌜ (r .kept ≡ true → (sumFits sum ≡ true) × (withWords sum (r .high) (r .low) ≡ sumOf (totalOf sum +ℤ spanAt true word))) ⌝ }
-{
-    if sum_fits(sum) {
-        return sum_step(sum, word);
-    }
-    Stepped {
-        kept: false,
-        high: 0,
-        low: 0,
+    SumWords {
+        high: sum.high + carry - below,
+        low: low,
     }
 }
 

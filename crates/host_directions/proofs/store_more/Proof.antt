@@ -1,5 +1,5 @@
 -- `host_directions::store_more` meets its contract. Assumes nothing.
-use Rattle.host_directions.proofs.Answers.{store-more-said}
+use Rattle.host_directions.proofs.Answers.{store-negative, store-plain}
 use borrow.Author.Needs.{needs}
 use Rattle.host_directions.proofs.store_more.Statement.{statement}
 use Rattle.host_directions.proofs.store_more.Tie as tie
@@ -12,9 +12,6 @@ mul-words c = search needs
 
 element-write-words : tie.Need-element-write-words
 element-write-words c = search needs
-
-flag-requires : tie.Need-flag-requires
-flag-requires c κs = search needs
 
 add-words : tie.Need-add-words
 add-words c = search needs
@@ -46,7 +43,12 @@ element-write-words-4 c = search needs
 returns : tie.Need-returns
 returns c =
     let a = c .before .before .args in
-    store-more-said (a .words .now) (a .reverse) _ (a .count) (a .negative) (a .high) (a .low) _ (c .before .words-start .ensures .0) (c .flag .ensures .0)
+    store-negative (a .words .now) (a .reverse) (c .before .words-start .result) (a .count) (a .negative) (a .high) (a .low) (c .before .words-start .ensures .0) (c .if1 .taken)
+
+returns-2 : tie.Need-returns-2
+returns-2 c =
+    let a = c .before .before .args in
+    store-plain (a .words .now) (a .reverse) (c .before .words-start .result) (a .count) (a .negative) (a .high) (a .low) (c .before .words-start .ensures .0) (c .if1 .left) (c .before .before .pre)
 
 pub store-more-spec : {M : Type 1} → statement M
 store-more-spec =
@@ -55,7 +57,6 @@ store-more-spec =
     words-start-requires
     mul-words
     element-write-words
-    flag-requires
     add-words
     mul-words-2
     element-write-words-2
@@ -65,4 +66,5 @@ store-more-spec =
     add-words-3
     mul-words-4
     element-write-words-4
-    returns)
+    returns
+    returns-2)

@@ -1,5 +1,6 @@
 -- `host_welford::small_steps` meets its contract. Assumes nothing.
-use Rattle.host_welford.proofs.Words.{small-said, no-nan, left-of, right-of}
+use Rattle.series.proofs.Kept.{left-of, right-of}
+use Rattle.host_welford.proofs.Words.{small-said, no-nan}
 use lib.Ieee.{binary64, ofBits, eq, add, sub, div}
 use borrow.Author.Needs.{needs}
 use Rattle.host_welford.proofs.small_steps.Statement.{statement}
