@@ -7,7 +7,7 @@ use directions::OwdDirection;
 use directions::Recording;
 use quantiles::Quantiles;
 ghost use mathlib.Core.Path.{_≡_};
-ghost use Prim.Native.Nat.{_+_, _≤_, _<_};
+ghost use Prim.Native.Nat.{_+_, _≤_};
 ghost use lib.ListN.{getD};
 ghost use lib.Seq.{sets};
 ghost use Rattle.directions.specs.Directions.{startOf, own, Untouched};

@@ -5,7 +5,8 @@ use mathlib.Core.List.{List}
 use Prim.Native.Nat.{ℕ}
 use lib.Ieee.{Float, binary64, ofBits, toBits}
 use lib.ListN.{getD, set}
-use lib.Seq.{sets}
+use lib.Seq.{sets, set-comm}
+use native.Mathlib.Omega.{arith}
 use Rattle.delays.specs.declared.DelaySummary.{DelaySummary}
 use Rattle.delays.specs.Summary.{summaryOf}
 use Rattle.series.specs.Shown.{delaysOf}
@@ -34,6 +35,25 @@ pub store-said : (ws : List ℕ) (c : RttCollector) (x y : ℕ) → x ≡ toBits
     → set (set (set (set (set (set (set (set (set (set (set (set ws 0 (c .quantiles .count)) 1 (c .quantiles .min)) 2 (c .quantiles .max)) 3 (c .sum .high)) 4 (c .sum .low)) 5 (c .welford .origin)) 6 x) 7 y) 8 (c .jitter .sum .high)) 9 (c .jitter .sum .low)) 10 (c .jitter .count)) 11 (c .jitter .last)
     ≡ sets ws 0 (collectorWords c)
 store-said ws c x y e f = cc
+
+-- the first sample's word and those of the floats are others
+origin-last : (ws : List ℕ) (o x y : ℕ) → set (set (set ws 6 x) 7 y) 5 o ≡ set (set (set ws 5 o) 6 x) 7 y
+origin-last ws o x y =
+    set-comm (set ws 6 x) 7 5 y o seven ∙ ap (λ (l : List ℕ). set l 7 y) (set-comm ws 6 5 x o six)
+  where
+    seven : _≡_ {A = ℕ} 7 5 → ⊥
+    seven e = omega arith
+
+    six : _≡_ {A = ℕ} 6 5 → ⊥
+    six e = omega arith
+
+pub store-any-said : (ws : List ℕ) (c : RttCollector) (x y : ℕ) → x ≡ toBits binary64 (c .welford .mean) → y ≡ toBits binary64 (c .welford .m2)
+    → set (set (set (set (set (set (set (set (set (set (set (set ws 0 (c .quantiles .count)) 1 (c .quantiles .min)) 2 (c .quantiles .max)) 3 (c .sum .high)) 4 (c .sum .low)) 6 x) 7 y) 5 (c .welford .origin)) 8 (c .jitter .sum .high)) 9 (c .jitter .sum .low)) 10 (c .jitter .count)) 11 (c .jitter .last)
+    ≡ sets ws 0 (collectorWords c)
+store-any-said ws c x y e f =
+    ap (λ (l : List ℕ). set (set (set (set l 8 (c .jitter .sum .high)) 9 (c .jitter .sum .low)) 10 (c .jitter .count)) 11 (c .jitter .last))
+    (origin-last (set (set (set (set (set ws 0 (c .quantiles .count)) 1 (c .quantiles .min)) 2 (c .quantiles .max)) 3 (c .sum .high)) 4 (c .sum .low)) (c .welford .origin) x y)
+    ∙ store-said ws c x y e f
 
 pub fresh-said : (ws after : List ℕ) (c : RttCollector) → c ≡ fresh → after ≡ sets ws 0 (collectorWords c) → wordsLeft 0 after ≡ freshTo ws
 unfolding freshTo

@@ -1,13 +1,12 @@
 -- The short way: what a sample leaves that is not the first and changes neither the least nor the greatest. Assumes nothing.
-use mathlib.Core.Path.{_≡_, refl, sym, ap, ap₂, _∙_, subst}
-use mathlib.Core.Bool.{Bool, true, false, not, _&&_}
+use mathlib.Core.Path.{_≡_, refl, sym, ap, _∙_, subst}
+use mathlib.Core.Bool.{Bool, true, false, _&&_}
 use mathlib.Core.List.{List}
-use Prim.Native.Nat.{ℕ, suc, _+_, _^_, _<_}
+use Prim.Native.Nat.{ℕ, _+_, _^_, _<_}
 use native.Mathlib.Omega.{arith}
 use borrow.Author.Tests.{ne-eqb, ltb-true}
 use lib.Dec.{ltb, eqb}
 use lib.IntN.{pos, _+ℤ_}
-use lib.Ieee.{Float, binary64, toBits}
 use lib.ListN.{getD, set}
 use lib.Seq.{sets, set-comm, set-getD, getD-set-other}
 use Rattle.buckets.specs.Buckets.{pick}

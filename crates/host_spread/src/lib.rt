@@ -10,7 +10,7 @@ use spread::Welford;
 ghost use mathlib.Core.Path.{_≡_};
 ghost use mathlib.Core.Bool.{true};
 ghost use Prim.Native.Nat.{_+_, _^_, _<_};
-ghost use lib.Ieee.{binary64, toBits};
+ghost use lib.Ieee.{eq, binary64, toBits};
 ghost use lib.ListN.{getD, set};
 ghost use lib.Seq.{sets};
 ghost use Rattle.quantiles.specs.Between.{oneMore};
@@ -52,6 +52,8 @@ fn load(words: &[u64; 12]) -> RttCollector
     }
 }
 
+// Any collector. The first sample stands behind the floats: in another order than `store_numbers` has, so that no compiler makes one of the two,
+// in which each float would wait for the test of both.
 fn store(words: &mut [u64; 12], collector: RttCollector)
     ensures { λ _. ⌜ now (words .exit) ≡ sets (now (words .entry)) 0 (collectorWords collector) ⌝ }
 {
@@ -60,9 +62,36 @@ fn store(words: &mut [u64; 12], collector: RttCollector)
     words[2] = collector.quantiles.max;
     words[3] = collector.sum.high;
     words[4] = collector.sum.low;
-    words[5] = collector.welford.origin;
     words[6] = host_numbers::bits_of(collector.welford.mean);
     words[7] = host_numbers::bits_of(collector.welford.m2);
+    words[5] = collector.welford.origin;
+    words[8] = collector.jitter.sum.high;
+    words[9] = collector.jitter.sum.low;
+    words[10] = collector.jitter.count;
+    words[11] = collector.jitter.last;
+}
+
+// The bits of a number, which is what is equal to itself.
+fn bits_of_number(x: f64) -> u64
+    requires { ⌜ eq x x ≡ true ⌝ }
+    ensures { λ r. ⌜ r ≡ toBits binary64 x ⌝ }
+{
+    f64::to_bits(x)
+}
+
+// A collector whose floats are numbers, as from fresh they are.
+fn store_numbers(words: &mut [u64; 12], collector: RttCollector)
+    requires { ⌜ (eq (collector .welford .mean) (collector .welford .mean) ≡ true) × (eq (collector .welford .m2) (collector .welford .m2) ≡ true) ⌝ }
+    ensures { λ _. ⌜ now (words .exit) ≡ sets (now (words .entry)) 0 (collectorWords collector) ⌝ }
+{
+    words[0] = collector.quantiles.count;
+    words[1] = collector.quantiles.min;
+    words[2] = collector.quantiles.max;
+    words[3] = collector.sum.high;
+    words[4] = collector.sum.low;
+    words[5] = collector.welford.origin;
+    words[6] = bits_of_number(collector.welford.mean);
+    words[7] = bits_of_number(collector.welford.m2);
     words[8] = collector.jitter.sum.high;
     words[9] = collector.jitter.sum.low;
     words[10] = collector.jitter.count;
@@ -133,6 +162,14 @@ fn record_any(spread: &mut [u64; 12], room: &mut [u64], value: u64, recorded: &m
             0
         }
         Recording::Counted(next) => {
+            let steps = next.welford;
+            if steps.mean == steps.mean {
+                if steps.m2 == steps.m2 {
+                    store_numbers(spread, next);
+                    recorded[0] = 1;
+                    return 0;
+                }
+            }
             store(spread, next);
             recorded[0] = 1;
             0

@@ -3,12 +3,12 @@
 use mathlib.Core.Path.{_≡_, refl, sym, ap, _∙_, subst}
 use mathlib.Core.Bool.{Bool, true, false, not, cond, true≢false}
 use Prim.Native.Nat.{ℕ, zero, suc, _+_, _-_, _*_, _/_, _%_, _^_, _≤_, _<_}
-use native.Mathlib.Nat.{zero-lt-suc, mul-pos, mul-assoc, mul-comm, mul-right-comm, mul-one, mul-le-mul-right, mul-lt-mul-of-pos-right, mul-sub}
+use native.Mathlib.Nat.{zero-lt-suc, mul-pos, mul-assoc, mul-comm, mul-one, mul-le-mul-right, mul-lt-mul-of-pos-right, mul-sub}
 use native.Mathlib.Omega.{arith}
 use borrow.Author.Tests.{lt-ltb, le-ltb, lt-leb, le-leb, ltb-true, ltb-false}
 use lib.Dec.{T, leb, ltb}
 use lib.Pow.{pow-pos}
-use lib.IntN.{pos, negsuc, negℤ, _-ℤ_}
+use lib.IntN.{pos, negℤ, _-ℤ_}
 use lib.Ieee.{Float, nan, inf, fin, Format, binary64, up, down, round, odd, add, sub, neg, sum, ofInt, ofBits, ofFields, nanBits}
 use lib.Ieee.Fits.{down-pos}
 use lib.Ieee.Bits.{nanBits-above}

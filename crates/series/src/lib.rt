@@ -9,7 +9,7 @@ use quantiles::Quantiles;
 use quantiles::Recording;
 ghost use mathlib.Core.Path.{_≡_};
 ghost use mathlib.Core.Bool.{true, false};
-ghost use Prim.Native.Nat.{_+_, _^_, _≤_, _<_};
+ghost use Prim.Native.Nat.{_^_, _≤_, _<_};
 ghost use lib.IntN.{_+ℤ_};
 ghost use Rattle.delays.specs.Sums.{nanosecondsOf, valueOf, totalOf, sumOf};
 ghost use Rattle.delays.specs.Summary.{summaryOf};

@@ -1,5 +1,5 @@
 -- `host_spread::store` meets its contract. Assumes nothing.
-use Rattle.host_spread.proofs.Answers.{store-said}
+use Rattle.host_spread.proofs.Answers.{store-any-said}
 use borrow.Author.Needs.{needs}
 use Rattle.host_spread.proofs.store.Statement.{statement}
 use Rattle.host_spread.proofs.store.Tie as tie
@@ -19,17 +19,17 @@ element-write-words-4 c = search needs
 element-write-words-5 : tie.Need-element-write-words-5
 element-write-words-5 c = search needs
 
-element-write-words-6 : tie.Need-element-write-words-6
-element-write-words-6 c = search needs
-
 bits-of-requires : tie.Need-bits-of-requires
 bits-of-requires c κs = search needs
 
-element-write-words-7 : tie.Need-element-write-words-7
-element-write-words-7 c = search needs
+element-write-words-6 : tie.Need-element-write-words-6
+element-write-words-6 c = search needs
 
 bits-of-requires-2 : tie.Need-bits-of-requires-2
 bits-of-requires-2 c κs = search needs
+
+element-write-words-7 : tie.Need-element-write-words-7
+element-write-words-7 c = search needs
 
 element-write-words-8 : tie.Need-element-write-words-8
 element-write-words-8 c = search needs
@@ -49,7 +49,7 @@ element-write-words-12 c = search needs
 returns : tie.Need-returns
 returns c =
     let a = c .before .before .args in
-    store-said (a .words .now) (a .collector) _ _ (c .before .bits-of .ensures .0) (c .bits-of2 .ensures .0)
+    store-any-said (a .words .now) (a .collector) _ _ (c .before .bits-of .ensures .0) (c .bits-of2 .ensures .0)
 
 pub store-spec : {M : Type 1} → statement M
 store-spec =
@@ -60,10 +60,10 @@ store-spec =
     element-write-words-3
     element-write-words-4
     element-write-words-5
-    element-write-words-6
     bits-of-requires
-    element-write-words-7
+    element-write-words-6
     bits-of-requires-2
+    element-write-words-7
     element-write-words-8
     element-write-words-9
     element-write-words-10
