@@ -1,7 +1,6 @@
--- Follow-ups without the last estimates of both sides. Assumes nothing.
+-- A clock quality without the last estimates of both sides. Assumes nothing.
 use Rattle.clock_quality.specs.declared.ClockQuality.{ClockQuality}
 use Rattle.clock_quality.specs.declared.LastEstimate.the-variants as last
-use Rattle.follow_ups.specs.declared.FollowUps.{FollowUps}
 
 -- a clock quality with no last estimate of either side
 abbrev pub qualityWithoutLast : ClockQuality → ClockQuality
@@ -18,7 +17,3 @@ qualityWithoutLast q = record {
   reflector = last.Absent;
   largest = q .largest;
 }
-
--- follow-ups whose clock quality has none
-abbrev pub withoutLast : FollowUps → FollowUps
-withoutLast f = record { counts = f .counts; delay = f .delay; quality = qualityWithoutLast (f .quality) }

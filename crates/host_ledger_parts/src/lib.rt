@@ -3,15 +3,14 @@
 ghost use mathlib.Core.Path.{_≡_};
 ghost use lib.Seq.{sets};
 ghost use Rattle.host_quality.specs.Words.{qualityAt, qualityWords, QualityKept};
-ghost use Rattle.host_ledger.specs.Parts.{delaysAt, delaysWords, windowWords, WindowKept, directWords, DirectKept, followAt, followCountsWords, followWords, FollowKept};
-ghost use Rattle.host_ledger_parts.specs.Last.{qualityWithoutLast, withoutLast};
+ghost use Rattle.host_ledger.specs.Parts.{delaysAt, delaysWords, windowWords, WindowKept, directWords, DirectKept, followAt, followCountsWords};
+ghost use Rattle.host_ledger_parts.specs.Last.{qualityWithoutLast};
 use clock_quality::ClockQuality;
 use clock_quality::LastEstimate;
 use delays::Delays;
 use direct::Direct;
 use direct::Window;
 use follow_ups::FollowCounts;
-use follow_ups::FollowUps;
 use host_ledger::LEDGER_WORDS;
 use host_ledger::parts::delays_of;
 use host_ledger::parts::epoch_words;
@@ -64,6 +63,7 @@ pub fn delay_of(state: &[u64; LEDGER_WORDS]) -> Delays
     )
 }
 
+// A sample replaces the last estimates, whatever they were, so they are not read for it.
 pub fn quality_without_last(state: &[u64; LEDGER_WORDS]) -> ClockQuality
     ensures { λ r. ⌜ r ≡ qualityWithoutLast (qualityAt 58 (now (state .entry))) ⌝ }
 {
@@ -80,20 +80,6 @@ pub fn quality_without_last(state: &[u64; LEDGER_WORDS]) -> ClockQuality
         sender: LastEstimate::Absent,
         reflector: LastEstimate::Absent,
         largest,
-    }
-}
-
-// A matched follow-up replaces the last estimates, whatever they were, so they are not read for it.
-pub fn follow_without_last(state: &[u64; LEDGER_WORDS]) -> FollowUps
-    ensures { λ r. ⌜ r ≡ withoutLast (followAt 44 (now (state .entry))) ⌝ }
-{
-    let counts = follow_counts_of(state);
-    let delay = delay_of(state);
-    let quality = quality_without_last(state);
-    FollowUps {
-        counts,
-        delay,
-        quality,
     }
 }
 
@@ -201,15 +187,4 @@ pub fn store_follow_counts(state: &mut [u64; LEDGER_WORDS], counts: FollowCounts
     state[47] = counts.unmatched;
     state[48] = counts.ambiguous;
     state[49] = counts.unavailable;
-}
-
-pub fn store_follow(state: &mut [u64; LEDGER_WORDS], follow: FollowUps)
-    ensures { λ _. ⌜ (now (state .exit) ≡ sets (now (state .entry)) 44 (followWords follow)) × FollowKept follow ⌝ }
-{
-    let counts = follow.counts;
-    let delay = follow.delay;
-    let quality = follow.quality;
-    store_follow_counts(state, counts);
-    store_delay(state, delay);
-    store_quality(state, quality);
 }
