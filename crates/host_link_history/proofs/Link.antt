@@ -5,7 +5,7 @@ use mathlib.Core.Path.{_≡_, refl, ap, _∙_}
 use mathlib.Core.List.{List, [], _∷_, map}
 use Prim.Native.Nat.{ℕ}
 use lib.ListN.{length}
-use Rattle.link_steps.specs.Steps.{Standing, refuses, after, played}
+use Rattle.link_steps.specs.Steps.{LinkStand, refuses, after, played}
 use Rattle.host_link_history.specs.Hosted.{HostLink, HostCall, sent, accept, observe, advance, idle, said, told, playHost, hostPlayed, Typed, AllTyped}
 use Rattle.host_link_history.proofs.Agreeing.{Agrees}
 use Rattle.host_link_history.proofs.Sent.{sent-agrees}
@@ -28,11 +28,11 @@ played-agrees x long [] t = (refl, long)
 played-agrees x long (c ∷ cs) t =
     let r = played-agrees x long cs (t .1) in
     let a = agrees (hostPlayed x cs) c (r .1) (t .0) in
-    (a .1 ∙ ap (λ (k : Standing). after k (told c)) (r .0), a .2)
+    (a .1 ∙ ap (λ (k : LinkStand). after k (told c)) (r .0), a .2)
 
 -- the number of the next call is the library's
 pub number-agrees : (x : HostLink) → length (x .ledger) ≡ 80 → (cs : List HostCall) → AllTyped cs → (c : HostCall) → Typed c
     → playHost (hostPlayed x cs) c .number ≡ refuses (played (said x) (map told cs)) (told c)
 number-agrees x long cs t c h =
     let r = played-agrees x long cs t in
-    agrees (hostPlayed x cs) c (r .1) h .0 ∙ ap (λ (k : Standing). refuses k (told c)) (r .0)
+    agrees (hostPlayed x cs) c (r .1) h .0 ∙ ap (λ (k : LinkStand). refuses k (told c)) (r .0)

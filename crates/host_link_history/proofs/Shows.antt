@@ -9,7 +9,7 @@ use lib.ListN.{length}
 use lib.Dec.{eqb}
 use Rattle.ledger_state.specs.State.{atLeastOne, secretOf, freshLedger}
 use Rattle.link_steps.specs.declared.Watch.the-variants.{Present}
-use Rattle.link_steps.specs.Steps.{Standing, played, served}
+use Rattle.link_steps.specs.Steps.{LinkStand, played, served}
 use Rattle.history.specs.Ledger.{copiesOf}
 use Rattle.link_history.specs.Fresh.{Watching, alone, watching, Making, MakingFits, freshLink, AllFits}
 use Rattle.link_history.specs.Fresh as history
@@ -63,5 +63,5 @@ pub host-shows : (m : Making) → MakingFits m → HostFits m → (cs : List Hos
     → LinkShows (copiesOf (m .copies)) (m .monitor) (served (freshLink m) (map told cs)) (said (hostPlayed (hostFresh m) cs))
 host-shows m ok fits cs t w =
     let r = played-agrees (hostFresh m) (long m) cs t in
-    subst (λ (k : Standing). LinkShows (copiesOf (m .copies)) (m .monitor) (served (freshLink m) (map told cs)) k)
-    (sym (r .0 ∙ ap (λ (k : Standing). played k (map told cs)) (begins m ok fits))) (link-shows m ok (map told cs) w)
+    subst (λ (k : LinkStand). LinkShows (copiesOf (m .copies)) (m .monitor) (served (freshLink m) (map told cs)) k)
+    (sym (r .0 ∙ ap (λ (k : LinkStand). played k (map told cs)) (begins m ok fits))) (link-shows m ok (map told cs) w)

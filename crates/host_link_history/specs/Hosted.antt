@@ -10,7 +10,7 @@ use Rattle.probe_queue.specs.declared.QueuedProbe.{QueuedProbe}
 use Rattle.ledger_steps.specs.Rooms.{Rooms}
 use Rattle.link_steps.specs.declared.Watch.{Watch}
 use Rattle.link_steps.specs.declared.Watch.the-variants.{Absent, Present}
-use Rattle.link_steps.specs.Steps.{Standing}
+use Rattle.link_steps.specs.Steps.{LinkStand}
 use Rattle.link_history.specs.Fresh.{Watching, Making}
 use Rattle.link_history.specs.Fresh as history
 use Rattle.host_calls.specs.Calls.{sentProbeOf, replyOf}
@@ -49,7 +49,7 @@ watchSaid alone = Absent
 watchSaid (watching words) = Present (monitorAt words)
 
 -- the link that the words say, with the rooms and the queue as they are
-abbrev pub said : HostLink → Standing
+abbrev pub said : HostLink → LinkStand
 said x = record { link = record { ledger = ledgerAt (x .ledger); watch = watchSaid (x .watch) }; rooms = x .rooms; queue = x .queue }
 
 -- a call, as the numbers that the host hands over

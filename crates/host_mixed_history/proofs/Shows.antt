@@ -7,11 +7,11 @@ use Prim.Native.Nat.{ℕ}
 use lib.ListN.{length}
 use Rattle.ledger_steps.specs.Rooms.{Rooms}
 use Rattle.probe_queue.specs.declared.QueuedProbe.{QueuedProbe}
-use Rattle.monitor.specs.Operations.{Stand}
+use Rattle.monitor.specs.Operations.{MonitorStand}
 use Rattle.monitor_model.specs.Playing as monitor
 use Rattle.history.specs.Ledger.{copiesOf}
 use Rattle.link_steps.specs.declared.Watch.the-variants.{Present}
-use Rattle.link_steps.specs.Steps.{Standing, refuses, after}
+use Rattle.link_steps.specs.Steps.{LinkStand, refuses, after}
 use Rattle.link_history.specs.Fresh.{Making, MakingFits, freshLink}
 use Rattle.link_mixed_history.specs.Mixed.{numberOf, leaves, mixedPlayed, ledgerServed, monitorServed}
 use Rattle.link_mixed_history.specs.Mixed as mixed
@@ -41,7 +41,7 @@ unfolding playMixed numberOf leaves
 alone-agrees ledger l link.alone rooms queue c h = (refl, refl, l)
 alone-agrees ledger l (link.watching words) rooms queue c h =
     let a = monitorCall.agrees c (record { words = words; queue = queue }) h in
-    (a .0, ap (λ (y : Stand). mixed.withMonitor (said (hostLink ledger (link.watching words) rooms queue)) y) (a .1), l)
+    (a .0, ap (λ (y : MonitorStand). mixed.withMonitor (said (hostLink ledger (link.watching words) rooms queue)) y) (a .1), l)
 
 -- one call
 pub agrees : (x : HostLink) (c : MixedHostCall) → Long x → MixedTyped c → Agrees x c
@@ -49,7 +49,7 @@ unfolding playMixed numberOf leaves
 agrees x (watched c) l h = call.agrees x c l h
 agrees x (plain c) l h =
     let a = call.agrees (unwatched x) c l h in
-    (a .0, ap (λ (y : Standing). mixed.beside y (said x)) (a .1), a .2)
+    (a .0, ap (λ (y : LinkStand). mixed.beside y (said x)) (a .1), a .2)
 agrees x (alone c) l h = alone-agrees (x .ledger) l (x .watch) (x .rooms) (x .queue) c h
 
 -- all calls, newest first
@@ -60,14 +60,14 @@ mixed-agrees x l [] t = (refl, l)
 mixed-agrees x l (c ∷ cs) t =
     let r = mixed-agrees x l cs (t .1) in
     let a = agrees (hostMixedPlayed x cs) c (r .1) (t .0) in
-    (a .1 ∙ ap (λ (k : Standing). leaves k (mixedTold c)) (r .0), a .2)
+    (a .1 ∙ ap (λ (k : LinkStand). leaves k (mixedTold c)) (r .0), a .2)
 
 -- the number of the next call is the library's
 pub mixed-number-agrees : (x : HostLink) → Long x → (cs : List MixedHostCall) → AllMixedTyped cs → (c : MixedHostCall) → MixedTyped c
     → playMixed (hostMixedPlayed x cs) c .number ≡ numberOf (mixedPlayed (said x) (map mixedTold cs)) (mixedTold c)
 mixed-number-agrees x l cs t c h =
     let r = mixed-agrees x l cs t in
-    agrees (hostMixedPlayed x cs) c (r .1) h .0 ∙ ap (λ (k : Standing). numberOf k (mixedTold c)) (r .0)
+    agrees (hostMixedPlayed x cs) c (r .1) h .0 ∙ ap (λ (k : LinkStand). numberOf k (mixedTold c)) (r .0)
 
 -- THE THEOREM. Whatever the words, the rooms and the queue held before, whatever a host calls on them, each call of the ledger alone, with the monitor or of
 -- the monitor alone, and whatever is refused: what its words and rooms then say is what the calls that ledger and monitor were served call for.
@@ -77,5 +77,5 @@ pub any-calls-show : (m : Making) → MakingFits m → HostFits m → (cs : List
 any-calls-show m ok fits cs t w =
     let r = mixed-agrees (hostFresh m) (long m) cs t in
     subst
-    (λ (k : Standing). MixedShows (copiesOf (m .copies)) (m .monitor) (ledgerServed (freshLink m) (map mixedTold cs)) (monitorServed (freshLink m) (map mixedTold cs)) k)
-    (sym (r .0 ∙ ap (λ (k : Standing). mixedPlayed k (map mixedTold cs)) (begins m ok fits))) (mixed-shows m ok (map mixedTold cs) w)
+    (λ (k : LinkStand). MixedShows (copiesOf (m .copies)) (m .monitor) (ledgerServed (freshLink m) (map mixedTold cs)) (monitorServed (freshLink m) (map mixedTold cs)) k)
+    (sym (r .0 ∙ ap (λ (k : LinkStand). mixedPlayed k (map mixedTold cs)) (begins m ok fits))) (mixed-shows m ok (map mixedTold cs) w)

@@ -13,7 +13,7 @@ use Rattle.probe_queue.specs.Queue.{choose}
 use Rattle.monitor.specs.declared.Monitor.{Monitor}
 use Rattle.monitor.specs.declared.MonitorAnswer.the-variants.{Served, Refused}
 use Rattle.monitor.specs.Refusals.{refusalOf, refusalOfSent}
-use Rattle.monitor.specs.Operations.{Stand, fresh, sentOn, replyOn, advanceOn, idleOn, unchanged, sentIf, replyIf, advanceIf}
+use Rattle.monitor.specs.Operations.{MonitorStand, fresh, sentOn, replyOn, advanceOn, idleOn, unchanged, sentIf, replyIf, advanceIf}
 use Rattle.monitor.specs.Answers.{answered}
 use Rattle.monitor.specs.Answers as monitor
 use Rattle.host_monitor_words.specs.Words.{Fits, monitorAt, wordsOf, wordsAfter}
@@ -38,7 +38,7 @@ sent-stands words queue s t h =
     let n = refusalOfSent m (length queue) t in
     (stands words (sentIf true m queue s t .monitor) (eqb n 0) n (fits-sent true m queue s t h (fits-at words)) (λ e. ap (λ (b : Bool). choose b (sentOn m queue s t) (unchanged m queue) .monitor) e), refl)
 
-held : (a b : Bool) (on off : Stand) → a ≡ false → choose (a && b) on off .monitor ≡ off .monitor
+held : (a b : Bool) (on off : MonitorStand) → a ≡ false → choose (a && b) on off .monitor ≡ off .monitor
 held a b on off e = ap (λ (c : Bool). choose (c && b) on off .monitor) e
 
 pub reply-stands : (words : List ℕ) (queue : List QueuedProbe) (s : ℕ) →

@@ -14,7 +14,7 @@ use Rattle.monitor.specs.declared.Monitor.{Monitor}
 use Rattle.monitor.specs.declared.MonitorAnswer.{MonitorAnswer}
 use Rattle.monitor.specs.declared.MonitorAnswer.the-variants.{Served, Refused}
 use Rattle.monitor.specs.Refusals.{refusalOf, refusalOfSent}
-use Rattle.monitor.specs.Operations.{Stand, fresh, idleOn, sentIf, replyIf, advanceIf}
+use Rattle.monitor.specs.Operations.{MonitorStand, fresh, idleOn, sentIf, replyIf, advanceIf}
 use Rattle.monitor.specs.Answers.{answered, deadlineOf}
 use Rattle.monitor.specs.Answers as monitor
 use Rattle.monitor_model.specs.Plain.{new, deadline}
@@ -73,7 +73,7 @@ agree-all (c ∷ cs) x h =
     let r = agree-all cs (playHost c x .lent) (h .1) in
     ((λ i. a .0 i ∷ (r .0 ∙ ap (ringNumbers cs) (a .1)) i), r .1 ∙ ap (ringAfter cs) (a .1))
 
-abbrev at-once : ℕ → ℕ → List QueuedProbe → Stand
+abbrev at-once : ℕ → ℕ → List QueuedProbe → MonitorStand
 at-once threshold timeout queue = record { monitor = fresh threshold timeout; room = queue }
 
 pub begins : (threshold timeout : ℕ) (queue : List QueuedProbe) → threshold < 2 ^ 16 → said (begun threshold timeout queue) ≡ at-once threshold timeout queue
@@ -87,7 +87,7 @@ host-follows threshold timeout queue calls h long typed =
     let e = begins threshold timeout queue h in
     let a = agree-all calls x typed in
     let f = follows threshold timeout queue calls long in
-    (a .0 ∙ ap (ringNumbers calls) e ∙ f .0, subst (λ (y : Stand). Shows y (plainAfter calls (new threshold timeout))) (sym (a .1 ∙ ap (ringAfter calls) e)) (f .1))
+    (a .0 ∙ ap (ringNumbers calls) e ∙ f .0, subst (λ (y : MonitorStand). Shows y (plainAfter calls (new threshold timeout))) (sym (a .1 ∙ ap (ringAfter calls) e)) (f .1))
 
 -- and the deadline that `ambrulicciu_monitor_deadline` answers then
 pub host-deadline : (threshold timeout : ℕ) (queue : List QueuedProbe) (calls : List Call) → threshold < 2 ^ 16 → length queue ≡ capacity → AllTyped calls
@@ -96,4 +96,4 @@ host-deadline threshold timeout queue calls h long typed =
     let x = begun threshold timeout queue in
     let e = begins threshold timeout queue h in
     let a = agree-all calls x typed in
-    ap (λ (y : Stand). deadlineOf (y .monitor) (y .room)) (a .1 ∙ ap (ringAfter calls) e) ∙ deadline-follows threshold timeout queue calls long
+    ap (λ (y : MonitorStand). deadlineOf (y .monitor) (y .room)) (a .1 ∙ ap (ringAfter calls) e) ∙ deadline-follows threshold timeout queue calls long

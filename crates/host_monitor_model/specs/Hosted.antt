@@ -3,7 +3,7 @@
 use mathlib.Core.List.{List, [], _∷_}
 use Prim.Native.Nat.{ℕ, _<_, _^_}
 use Rattle.probe_queue.specs.declared.QueuedProbe.{QueuedProbe}
-use Rattle.monitor.specs.Operations.{Stand}
+use Rattle.monitor.specs.Operations.{MonitorStand}
 use Rattle.monitor_model.specs.Playing.{Call, sending, replying, advancing, idling}
 use Rattle.host_monitor_words.specs.Words.{monitorAt}
 use Rattle.host_monitor.specs.Calls.{Left, freshTo, sentTo, replyTo, advanceTo, idleTo}
@@ -14,7 +14,7 @@ pub record Lent : Type 0 where
   pub queue : List QueuedProbe
 
 -- what it says: a monitor with its room
-abbrev pub said : Lent → Stand
+abbrev pub said : Lent → MonitorStand
 said x = record { monitor = monitorAt (x .words); room = x .queue }
 
 -- a call's number, and what stands after it

@@ -18,7 +18,7 @@ use Rattle.monitor.specs.declared.Summary.{Summary}
 use Rattle.monitor.specs.declared.Monitor.{Monitor}
 use Rattle.monitor.specs.Refusals.{refusalOf, refusalOfSent, served}
 use Rattle.monitor.specs.States.{mostLosses, same, losing, enters, saturated, failing, loses, hears, stops}
-use Rattle.monitor.specs.Operations.{Stand, fresh, standing, queues, starts, sentOn, searched, taken, replyOn, due, advanceOn, idleOn, unchanged, sentIf, replyIf, advanceIf}
+use Rattle.monitor.specs.Operations.{MonitorStand, fresh, standing, queues, starts, sentOn, searched, taken, replyOn, due, advanceOn, idleOn, unchanged, sentIf, replyIf, advanceIf}
 use Rattle.host_monitor_words.specs.Words.{Fits, word, summaryAt, monitorAt}
 
 -- ---- of a summary
@@ -61,7 +61,7 @@ fits-with m s ring f p = record { threshold = p .0; losses = p .1; latest = f .l
 sound-of : (m : Monitor) → Fits m → Sound (m .summary)
 sound-of m f = (f .threshold, f .losses)
 
-fits-choose : (b : Bool) (x y : Stand) → Fits (x .monitor) → Fits (y .monitor) → Fits (choose b x y .monitor)
+fits-choose : (b : Bool) (x y : MonitorStand) → Fits (x .monitor) → Fits (y .monitor) → Fits (choose b x y .monitor)
 fits-choose true x y p q = p
 fits-choose false x y p q = q
 

@@ -18,7 +18,7 @@ use Rattle.link_history.specs.Link.{ledgerRefuses}
 use Rattle.link_mixed_history.specs.Shows.{plainFrom, numberFrom}
 use Rattle.link_mixed_history.proofs.Whole.{mixed-shows}
 use Rattle.monitor_model.specs.Playing as monitor
-use Rattle.link_steps.specs.Steps.{Standing}
+use Rattle.link_steps.specs.Steps.{LinkStand}
 use Rattle.link_history.specs.Fresh.{Making, MakingFits, freshLink}
 use Rattle.link_history.specs.Fresh as making
 use Rattle.link_mixed_history.specs.Mixed.{MixedCall, numberOf, mixedPlayed, ledgerKept, ledgerServed, monitorKept, monitorServed}
@@ -207,7 +207,7 @@ module _ (s : Settings) (x : Memory) (fits : Fits s x) where
       play-is (after (begun s x) cs) c .0
       ∙ ap (λ (y : HostLink). playMixed y (mixedOf c) .number) (after-is (begun s x) cs)
       ∙ mixed-number-agrees (hostFresh (makingOf s x)) (long (makingOf s x)) (allOf cs) (all-fit (allOf cs) (fit-all cs w) .0) (mixedOf c) (mixed-fits (mixedOf c) (fit c h) .0)
-      ∙ ap (λ (k : Standing). numberOf (mixedPlayed k (saidOf cs)) (mixedTold (mixedOf c))) (begins (makingOf s x) making-fits host-fits)
+      ∙ ap (λ (k : LinkStand). numberOf (mixedPlayed k (saidOf cs)) (mixedTold (mixedOf c))) (begins (makingOf s x) making-fits host-fits)
 
   pub ledger-calls : (cs : List HostCall) → AllTyped cs → ledgerCalls (begun s x) cs ≡ ledgerServed (freshLink (makingOf s x)) (saidOf cs)
   unfolding ledgerCalls ledgerServed AllTyped

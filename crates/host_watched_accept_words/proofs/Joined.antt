@@ -9,7 +9,7 @@ use Rattle.call_types.specs.declared.Reply.{Reply}
 use Rattle.probe_queue.specs.declared.QueuedProbe.{QueuedProbe}
 use Rattle.monitor.specs.declared.Monitor.{Monitor}
 use Rattle.monitor.specs.Refusals.{refusalOf}
-use Rattle.monitor.specs.Operations.{Stand, Leaves, replyIf}
+use Rattle.monitor.specs.Operations.{MonitorStand, Leaves, replyIf}
 use Rattle.ledger_steps.specs.declared.Accepted.{Accepted}
 use Rattle.ledger_steps.specs.declared.Accepted.the-variants as accepted
 use Rattle.ledger_steps.specs.Refusals.{refusalOfAccept}
@@ -34,7 +34,7 @@ heard-is (accepted.Unique packet (ordinal.Number n) train) = refl
 
 module _ (w monitor : List ℕ) (keys slots probes links : List (List ℕ)) (queue : List QueuedProbe) (a : Reply) where
   -- what the ledger's part left, with the monitor and its queue as they then stand
-  abbrev stoodBy : AcceptLeft → Stand → Left
+  abbrev stoodBy : AcceptLeft → MonitorStand → Left
   stoodBy x s = left (x .number) (x .ledger) (storedUnless (x .number) monitor (s .monitor)) (x .keys) (x .slots) (x .probes) (x .links) (s .room) (x .answer)
 
   -- the monitor hears what the answer's words tell

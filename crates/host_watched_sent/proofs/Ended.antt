@@ -12,7 +12,7 @@ use Rattle.call_types.specs.declared.SentProbe.{SentProbe}
 use Rattle.probe_queue.specs.declared.QueuedProbe.{QueuedProbe}
 use Rattle.monitor.specs.declared.Monitor.{Monitor}
 use Rattle.monitor.specs.Refusals.{refusalOfSent}
-use Rattle.monitor.specs.Operations.{Stand, Leaves, sentIf}
+use Rattle.monitor.specs.Operations.{MonitorStand, Leaves, sentIf}
 use Rattle.ledger_steps.specs.Refusals as ledger-refusals
 use Rattle.ledger_steps.specs.Sent.{SentOutcome, sentOn}
 use Rattle.ledger_steps.specs.Calls as ledger
@@ -29,7 +29,7 @@ module _ (w monitor : List ℕ) (probes links : List (List ℕ)) (queue : List Q
   told = sentProbeOf sequence ordinal train time tag
 
   -- what the ledger's part left, with the monitor and its queue as they then stand
-  abbrev stoodBy : SentLeft → Stand → Left
+  abbrev stoodBy : SentLeft → MonitorStand → Left
   stoodBy x s = left (x .number) (x .ledger) (storedUnless (x .number) monitor (s .monitor)) (x .probes) (x .links) (s .room)
 
   -- the monitor goes on where the number is 0

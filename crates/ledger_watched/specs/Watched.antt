@@ -9,7 +9,7 @@ use Rattle.call_types.specs.declared.Reply.{Reply}
 use Rattle.probe_queue.specs.declared.QueuedProbe.{QueuedProbe}
 use Rattle.monitor.specs.declared.Monitor.{Monitor}
 use Rattle.monitor.specs.Refusals as monitor
-use Rattle.monitor.specs.Operations.{Stand, sentIf, replyIf}
+use Rattle.monitor.specs.Operations.{MonitorStand, sentIf, replyIf}
 use Rattle.ledger_state.specs.declared.Ledger.{Ledger}
 use Rattle.ledger_steps.specs.declared.LedgerAnswer.{LedgerAnswer}
 use Rattle.ledger_steps.specs.declared.LedgerAnswer.the-variants as answer
@@ -53,7 +53,7 @@ bothSent (answer.Served l) m = watched.Served l m
 bothSent (answer.Refused n) m = watched.Refused n
 
 -- the ledger's answer and rooms, with the monitor and its queue as they then stand
-abbrev pub sentWith : ledger.SentResult → Stand → SentResult
+abbrev pub sentWith : ledger.SentResult → MonitorStand → SentResult
 sentWith r stand = sentResult (bothSent (r .answer) (stand .monitor)) (r .probes) (r .links) (stand .room)
 
 -- the monitor goes on where the ledger was served
@@ -85,7 +85,7 @@ bothAccept (accepts.Served l a) m = watchedAccept.Served l m a
 bothAccept (accepts.Refused n) m = watchedAccept.Refused n
 
 -- the ledger's answer and rooms, with the monitor and its queue as they then stand
-abbrev pub acceptWith : ledger.AcceptResult → Stand → AcceptResult
+abbrev pub acceptWith : ledger.AcceptResult → MonitorStand → AcceptResult
 acceptWith r stand = acceptResult (bothAccept (r .answer) (stand .monitor)) (r .keys) (r .slots) (r .probes) (r .links) (stand .room)
 
 -- the monitor hears a unique reply

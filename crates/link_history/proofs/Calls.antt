@@ -13,25 +13,25 @@ use Rattle.call_types.specs.declared.Call.the-variants.{Sent, Accept, Observe, 
 use Rattle.chains.specs.Hash.{numberHash}
 use Rattle.key_ring.specs.Table.{hashOf}
 use Rattle.ledger_state.specs.State.{hashWords}
-use Rattle.ledger_steps.specs.Rooms.{Stand}
+use Rattle.ledger_steps.specs.Rooms.{LedgerStand}
 use Rattle.ledger_steps.specs.Refusals.{refusalOfSent, refusalOfAccept, refusalOfObserve}
 use Rattle.ledger_steps.specs.Calls.{sentTo, acceptTo, observeTo}
 use Rattle.reply_history.specs.Stands.{stepped}
 use Rattle.observe_history.specs.Follows.{ServedAt}
 use Rattle.observe_history.proofs.Served.{observe-served}
-use Rattle.link_steps.specs.Steps.{Standing, watchRefusesSent, watchRefuses, refuses, after, played, keptIf, served}
+use Rattle.link_steps.specs.Steps.{LinkStand, watchRefusesSent, watchRefuses, refuses, after, played, keptIf, served}
 use Rattle.link_history.specs.Fresh.{standOf, EstimatesFit, Fits, AllFits}
 
 -- the ledger's step, at 4,096, with the hashes of the code
-abbrev pub stepOf : Stand → Call → Stand
+abbrev pub stepOf : LedgerStand → Call → LedgerStand
 stepOf s c = stepped capacity (hashOf (hashWords (s .ledger))) (numberHash (hashWords (s .ledger))) s c
 
 -- what a call does to the ledger: served, it steps; refused, it changes nothing
-pub data After (k : Standing) (c : Call) : Type 0 where
+pub data After (k : LinkStand) (c : Call) : Type 0 where
   goes : refuses k c ≡ 0 → (EstimatesFit c → ServedAt capacity (standOf k) c) → standOf (after k c) ≡ stepOf (standOf k) c → After k c
   stays : (n : ℕ) → refuses k c ≡ suc n → standOf (after k c) ≡ standOf k → After k c
 
-module _ (k : Standing) where
+module _ (k : LinkStand) where
   after-sent : (p : SentProbe) → After k (Sent p)
   unfolding refuses after sentTo
   after-sent p = go (refusalOfSent other (k .link .ledger) (length (k .rooms .probes)) (length (k .rooms .links))) refl
@@ -87,7 +87,7 @@ module _ (k : Standing) where
   after-is Idle = after-idle
 
 -- a call that is served is one of those that were made
-pub served-fit : (k : Standing) (cs : List Call) → AllFits cs → AllFits (served k cs)
+pub served-fit : (k : LinkStand) (cs : List Call) → AllFits cs → AllFits (served k cs)
 unfolding AllFits served
 served-fit k [] w = tt
 served-fit k (c ∷ cs) w = go (refuses (played k cs) c) (served-fit k cs (w .1))
@@ -97,9 +97,9 @@ served-fit k (c ∷ cs) w = go (refuses (played k cs) c) (served-fit k cs (w .1)
     go (suc n) ih = ih
 
 -- WHAT FRESH HAS AND EVERY SERVED CALL KEEPS, ANY CALLS LEAVE: each given what the last one left, the refused ones change nothing and are not counted.
-pub played-keeps : (P : List Call → Stand → Type 0) (k : Standing)
+pub played-keeps : (P : List Call → LedgerStand → Type 0) (k : LinkStand)
     → P [] (standOf k)
-    → ((h : List Call) (s : Stand) (c : Call) → AllFits h → Fits c → ServedAt capacity s c → P h s → P (c ∷ h) (stepOf s c))
+    → ((h : List Call) (s : LedgerStand) (c : Call) → AllFits h → Fits c → ServedAt capacity s c → P h s → P (c ∷ h) (stepOf s c))
     → (cs : List Call) → AllFits cs → P (served k cs) (standOf (played k cs))
 unfolding played served AllFits
 played-keeps P k fresh keeps [] w = fresh

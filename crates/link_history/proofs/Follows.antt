@@ -23,7 +23,7 @@ use Rattle.replies.specs.Served.{classBy}
 use Rattle.history.specs.Ledger.{copiesOf, count}
 use Rattle.ledger_state.specs.declared.Ledger.{Ledger}
 use Rattle.ledger_state.specs.State.{wordsOf, hashWords}
-use Rattle.ledger_steps.specs.Rooms.{Stand}
+use Rattle.ledger_steps.specs.Rooms.{LedgerStand}
 use Rattle.ledger_steps.specs.Sent.{sentIn}
 use Rattle.ledger_steps.specs.Accept.{isPending, keySlot, probeSlot, acceptBy, acceptIn, uniqueIn}
 use Rattle.ledger_steps.specs.Observe.{observeIn}
@@ -49,7 +49,7 @@ module _ (N : ℕ) (byKey : ReplyKey → ℕ) (byNumber : ℕ → ℕ) where
   accept-calls class.Unique l keys slots probes links at a = refl
 
   -- one more for each of the three
-  pub calls-counted : (s : Stand) (c : Call) (h : List Call) → s .ledger .calls ≡ callsIn h → stepped N byKey byNumber s c .ledger .calls ≡ callsIn (c ∷ h)
+  pub calls-counted : (s : LedgerStand) (c : Call) (h : List Call) → s .ledger .calls ≡ callsIn h → stepped N byKey byNumber s c .ledger .calls ≡ callsIn (c ∷ h)
   unfolding sentIn acceptIn observeIn count
   calls-counted s (Sent p) h e = add-one (s .ledger .calls) ∙ ap suc e
   calls-counted s (Accept a) h e =
@@ -64,7 +64,7 @@ module _ (N : ℕ) (byKey : ReplyKey → ℕ) (byNumber : ℕ → ℕ) where
 -- ---- the whole
 
 -- All that the ledger and its rooms hold, with the words of the hash and the calls counted.
-pub record Follow (words : List ℕ) (copies : ℕ) (h : List Call) (s : Stand) : Type 0 where
+pub record Follow (words : List ℕ) (copies : ℕ) (h : List Call) (s : LedgerStand) : Type 0 where
   pub words-are : hashWords (s .ledger) ≡ words
   pub calls-are : s .ledger .calls ≡ callsIn h
   pub replies : RepliesFollow capacity (hashOf words) (numberHash words) copies h s
@@ -90,7 +90,7 @@ calls-fit (c ∷ h) w = (w .0 .0, calls-fit h (w .1))
 
 module _ (words : List ℕ) (copies : ℕ) (copies-in : copies < 2 ^ 16) where
   -- ONE SERVED CALL MORE.
-  pub served-follows : (h : List Call) (s : Stand) (c : Call) → AllFits h → Fits c → ServedAt capacity s c → Follow words copies h s → Follow words copies (c ∷ h) (stepOf s c)
+  pub served-follows : (h : List Call) (s : LedgerStand) (c : Call) → AllFits h → Fits c → ServedAt capacity s c → Follow words copies h s → Follow words copies (c ∷ h) (stepOf s c)
   served-follows h s c w fits v f =
       rw (f .words-are) (record {
         words-are = ap wordsOf (secret-kept capacity (hashOf words) (numberHash words) s c) ∙ f .words-are;

@@ -11,7 +11,7 @@ use Rattle.limits.specs.Refusals.{wrongRoom, queueFull}
 use Rattle.call_types.specs.declared.Call.{Call}
 use Rattle.history.specs.Ledger.{copiesOf}
 use Rattle.ledger_state.specs.Refusal.{countsFit}
-use Rattle.link_steps.specs.Steps.{Standing, refuses, played, keptIf, served, oneIf, turnedAway}
+use Rattle.link_steps.specs.Steps.{LinkStand, refuses, played, keptIf, served, oneIf, turnedAway}
 use Rattle.link_history.specs.Fresh.{Making, MakingFits, freshLink, wordsIn, AllFits}
 use Rattle.link_history.specs.Shows.{callsIn}
 use Rattle.link_history.specs.Link.{refusesFrom, servedFrom, QueueFull, LinkShows}
@@ -23,7 +23,7 @@ use Rattle.link_history.proofs.Watched.{watch-follows, watch-shows}
 use Rattle.link_history.proofs.Refused.{refuses-is, from-five, three-full}
 
 module _ (m : Making) (ok : MakingFits m) where
-  abbrev k₀ : Standing
+  abbrev k₀ : LinkStand
   k₀ = freshLink m
 
   -- the refusal of each call to come
@@ -68,7 +68,7 @@ module _ (m : Making) (ok : MakingFits m) where
       ∙ counts-fit (copiesOf (m .copies)) (copies-fit (m .copies) (ok .copies-in)) (served k₀ cs) l (events-in k₀ cs w)
 
 -- each call that was made was served or turned away
-pub turned-away-adds-up : (k : Standing) (cs : List Call) → length (served k cs) + turnedAway k cs ≡ length cs
+pub turned-away-adds-up : (k : LinkStand) (cs : List Call) → length (served k cs) + turnedAway k cs ≡ length cs
 unfolding served turnedAway
 turned-away-adds-up k [] = refl
 turned-away-adds-up k (c ∷ cs) = go (refuses (played k cs) c) (turned-away-adds-up k cs)

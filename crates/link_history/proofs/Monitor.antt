@@ -42,7 +42,7 @@ use Rattle.link_history.proofs.Unchanged.{reply-off}
 
 -- ---- one call that the monitor serves
 
-module _ (x : monitor.Stand) (marks : Marks) (ok : Kept x marks) where
+module _ (x : monitor.MonitorStand) (marks : Marks) (ok : Kept x marks) where
   abbrev m : Monitor
   m = x .monitor
 
@@ -50,7 +50,7 @@ module _ (x : monitor.Stand) (marks : Marks) (ok : Kept x marks) where
   p = seen x marks
 
   -- what stands after a served call
-  kept-served : (n : ℕ) (y : monitor.Stand) → n ≡ 0 → keep x (choose (eqb n 0) (answer.Served (y .monitor)) (answer.Refused n)) (y .room) ≡ y
+  kept-served : (n : ℕ) (y : monitor.MonitorStand) → n ≡ 0 → keep x (choose (eqb n 0) (answer.Served (y .monitor)) (answer.Refused n)) (y .room) ≡ y
   kept-served n y e = ap (λ (r : ℕ). keep x (choose (eqb r 0) (answer.Served (y .monitor)) (answer.Refused r)) (y .room)) e
 
   plain-served : (n : ℕ) (q : Plain) → n ≡ 0 → choose (eqb n 0) q p ≡ q
@@ -67,7 +67,7 @@ module _ (x : monitor.Stand) (marks : Marks) (ok : Kept x marks) where
   sent-next : (s t : ℕ) → refusalOfSent m (length (x .room)) t ≡ 0 → Next (sentIf true m (x .room) s t) (sent p s t)
   sent-next s t e =
       subst (λ (q : Plain). Next (sentIf true m (x .room) s t) q) (plain-sent s t e)
-      (subst (λ (y : monitor.Stand). Next y (playPlain (sending s t) p .plain)) (ring-sent s t e) (agrees x marks ok (sending s t) .1))
+      (subst (λ (y : monitor.MonitorStand). Next y (playPlain (sending s t) p .plain)) (ring-sent s t e) (agrees x marks ok (sending s t) .1))
 
   pub ring-reply : (s : ℕ) → refusalOf m (length (x .room)) ≡ 0 → playRing (replying s) x .stand ≡ replyIf true m (x .room) s
   unfolding playRing replyTo answered
@@ -80,7 +80,7 @@ module _ (x : monitor.Stand) (marks : Marks) (ok : Kept x marks) where
   reply-next : (s : ℕ) → refusalOf m (length (x .room)) ≡ 0 → Next (replyIf true m (x .room) s) (reply p s)
   reply-next s e =
       subst (λ (q : Plain). Next (replyIf true m (x .room) s) q) (plain-reply s e)
-      (subst (λ (y : monitor.Stand). Next y (playPlain (replying s) p .plain)) (ring-reply s e) (agrees x marks ok (replying s) .1))
+      (subst (λ (y : monitor.MonitorStand). Next y (playPlain (replying s) p .plain)) (ring-reply s e) (agrees x marks ok (replying s) .1))
 
   pub ring-advance : (t : ℕ) → refusalOf m (length (x .room)) ≡ 0 → playRing (advancing t) x .stand ≡ advanceIf true m (x .room) t
   unfolding playRing advanceTo answered
@@ -93,7 +93,7 @@ module _ (x : monitor.Stand) (marks : Marks) (ok : Kept x marks) where
   advance-next : (t : ℕ) → refusalOf m (length (x .room)) ≡ 0 → Next (advanceIf true m (x .room) t) (advance p t)
   advance-next t e =
       subst (λ (q : Plain). Next (advanceIf true m (x .room) t) q) (plain-advance t e)
-      (subst (λ (y : monitor.Stand). Next y (playPlain (advancing t) p .plain)) (ring-advance t e) (agrees x marks ok (advancing t) .1))
+      (subst (λ (y : monitor.MonitorStand). Next y (playPlain (advancing t) p .plain)) (ring-advance t e) (agrees x marks ok (advancing t) .1))
 
   pub ring-idle : refusalOf m capacity ≡ 0 → playRing idling x .stand ≡ record { monitor = idleOn m; room = x .room }
   unfolding playRing idleTo
@@ -106,7 +106,7 @@ module _ (x : monitor.Stand) (marks : Marks) (ok : Kept x marks) where
   idle-next : refusalOf m capacity ≡ 0 → Next (record { monitor = idleOn m; room = x .room }) (idle p)
   idle-next e =
       subst (λ (q : Plain). Next (record { monitor = idleOn m; room = x .room }) q) (plain-idle e)
-      (subst (λ (y : monitor.Stand). Next y (playPlain idling p .plain)) (ring-idle e) (agrees x marks ok idling .1))
+      (subst (λ (y : monitor.MonitorStand). Next y (playPlain idling p .plain)) (ring-idle e) (agrees x marks ok idling .1))
 
 -- ---- the monitor of a link
 

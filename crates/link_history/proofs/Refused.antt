@@ -32,7 +32,7 @@ use Rattle.ledger_steps.specs.Observe.{ObserveOutcome}
 use Rattle.ledger_steps.specs.Calls.{number, acceptNumber, sentBy, acceptBy, observeBy, sentTo, acceptTo, observeTo}
 use Rattle.link_steps.specs.declared.Watch.{Watch}
 use Rattle.link_steps.specs.declared.Watch.the-variants.{Absent, Present}
-use Rattle.link_steps.specs.Steps.{Standing, watchRefusesSent, watchRefuses, refuses}
+use Rattle.link_steps.specs.Steps.{LinkStand, watchRefusesSent, watchRefuses, refuses}
 use Rattle.link_history.specs.Fresh.{Watching, alone, watching, standOf}
 use Rattle.link_history.specs.Shows.{callsIn, awaitsFrom}
 use Rattle.link_history.specs.Monitor.{monitorFrom}
@@ -92,7 +92,7 @@ module _ (v : Watching) (h : List Call) where
 
 -- ---- the calls
 
-module _ (v : Watching) (words : List ℕ) (copies : ℕ) (copies-in : copies < 2 ^ 16) (h : List Call) (fit : EventsIn (events capacity h)) (k : Standing)
+module _ (v : Watching) (words : List ℕ) (copies : ℕ) (copies-in : copies < 2 ^ 16) (h : List Call) (fit : EventsIn (events capacity h)) (k : LinkStand)
     (f : Follow words copies h (standOf k)) (g : WatchFollows v h (k .link .watch) (k .queue)) where
   abbrev l : Ledger
   l = k .link .ledger

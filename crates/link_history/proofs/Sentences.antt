@@ -44,7 +44,7 @@ use Rattle.observe_history.specs.Direct.{packetsOf, since}
 use Rattle.observe_history.specs.FollowUps.{slotHeld}
 use Rattle.observe_history.proofs.DirectShown.{reverse-shows}
 use Rattle.observe_history.proofs.Quality.{quality-adds-up}
-use Rattle.link_steps.specs.Steps.{Standing, acceptResult, refuses, after, played, served}
+use Rattle.link_steps.specs.Steps.{LinkStand, acceptResult, refuses, after, played, served}
 use Rattle.link_history.specs.Fresh.{Making, MakingFits, freshLink, wordsIn, standOf, AllFits}
 use Rattle.link_history.specs.Shows.{LedgerShows}
 use Rattle.link_history.proofs.Follows.{Follow, link-follows}
@@ -70,7 +70,7 @@ absent-exactly u (suc n) = (
 
 module _ (m : Making) (ok : MakingFits m) (cs : List Call) (w : AllFits cs) where
   -- the link after these calls, and those that were served
-  abbrev k : Standing
+  abbrev k : LinkStand
   k = played (freshLink m) cs
 
   abbrev h : List Call

@@ -27,7 +27,7 @@ use Rattle.thousandths.specs.Thousandths.{thousandthsOf}
 use Rattle.direct.specs.Outcomes.{seenIn}
 use Rattle.ledger_steps.specs.declared.AcceptAnswer.the-variants as accepts
 use Rattle.ledger_steps.specs.declared.AnsweredAnswer.the-variants as answers
-use Rattle.ledger_steps.specs.Rooms.{Stand}
+use Rattle.ledger_steps.specs.Rooms.{LedgerStand}
 use Rattle.ledger_steps.specs.Accept.{AcceptOutcome, acceptIn, acceptOn}
 use Rattle.ledger_steps.specs.Readers.{answeredIn, answeredOn}
 use Rattle.ledger_steps.specs.Refusals.{awaitsKey, refusalOfAccept, refusalOfAnswered}
@@ -36,7 +36,7 @@ use Rattle.reply_history.specs.Fits.{KeyFits, AllFit}
 use Rattle.reply_history.proofs.Accept.{accept-follows}
 use Rattle.reply_history.proofs.Shown.{shown-wait, shown-answered, shown-awaits}
 use Rattle.observe_history.proofs.Steps.{shown-follows}
-use Rattle.link_steps.specs.Steps.{Standing, watchRefuses, ledgerOfAccept, acceptResult, refuses, after, played, served}
+use Rattle.link_steps.specs.Steps.{LinkStand, watchRefuses, ledgerOfAccept, acceptResult, refuses, after, played, served}
 use Rattle.link_history.specs.Fresh.{Making, MakingFits, freshLink, wordsIn, standOf, AllFits}
 use Rattle.link_history.specs.Shows.{lostOf, thousandthsFrom, snapshotFrom, countsFrom, waitFrom, answeredFrom, awaitsFrom, acceptedFrom, LedgerShows}
 use Rattle.link_history.proofs.Calls.{served-fit}
@@ -55,11 +55,11 @@ unfolding thousandthsOf
 thousandths-same lost zero = refl
 thousandths-same lost (suc n) = rw (eq-false (suc n) 0 (λ e. omega (arith, e)))
 
-module _ (words : List ℕ) (copies : ℕ) (h : List Call) (k : Standing) (f : Follow words copies h (standOf k)) where
+module _ (words : List ℕ) (copies : ℕ) (h : List Call) (k : LinkStand) (f : Follow words copies h (standOf k)) where
   abbrev l : Ledger
   l = k .link .ledger
 
-  abbrev s : Stand
+  abbrev s : LedgerStand
   s = standOf k
 
   -- ---- rooms and rings are in place, always

@@ -32,9 +32,9 @@ use Rattle.history.specs.Given.{EstimatePair, packetOf, timeOf, followOf, estim
 use Rattle.history.specs.Ledger.{Event, remembered, replied, observed, noPacket, accepted, held, Class, duplicate, unknown, unique, replyClass, ready, afterReply, events}
 use Rattle.history.specs.FollowUps.{Kept, Slot, free, taken, recordOf, raise, lower, correct, sameFollow, matched, followClass, classAt, evicting, following, convertedIn, delay, Measured, withTimes, withSlot, evicted, slotAt, withFollow, measured, roundTrips}
 use Rattle.history.specs.Figures.{total, delays}
-use Rattle.ledger_steps.specs.Rooms.{Stand}
+use Rattle.ledger_steps.specs.Rooms.{LedgerStand}
 use Rattle.observe_history.specs.Follows.{ServedAt}
-use Rattle.link_steps.specs.Steps.{Standing, served}
+use Rattle.link_steps.specs.Steps.{LinkStand, served}
 use Rattle.link_history.specs.Fresh.{Fits, AllFits}
 use Rattle.link_history.proofs.Calls.{played-keeps}
 
@@ -88,7 +88,7 @@ reply-in unknown es k p w = w
 reply-in unique es k p w = ready-in es k p w
 
 -- a served observation is in range
-stepped-in : (h : List Call) (s : Stand) (c : Call) → AllFits h → Fits c → ServedAt capacity s c → EventsIn (events capacity h) → EventsIn (events capacity (c ∷ h))
+stepped-in : (h : List Call) (s : LedgerStand) (c : Call) → AllFits h → Fits c → ServedAt capacity s c → EventsIn (events capacity h) → EventsIn (events capacity (c ∷ h))
 unfolding events EventsIn
 stepped-in h s (Sent p) w fits v g = g
 stepped-in h s (Accept a) w fits v g = reply-in (replyClass capacity (events capacity h) (a .key) (packetOf (a .pending))) (events capacity h) (a .key) (packetOf (a .pending)) g
@@ -96,7 +96,7 @@ stepped-in h s (Observe o) w fits v g = (observed-in o (fits .0 .rtt-in) (v .ran
 stepped-in h s (Advance t) w fits v g = g
 stepped-in h s Idle w fits v g = g
 
-pub events-in : (k : Standing) (cs : List Call) → AllFits cs → EventsIn (events capacity (served k cs))
+pub events-in : (k : LinkStand) (cs : List Call) → AllFits cs → EventsIn (events capacity (served k cs))
 unfolding events EventsIn
 events-in k cs w = played-keeps (λ h s. EventsIn (events capacity h)) k tt stepped-in cs w
 

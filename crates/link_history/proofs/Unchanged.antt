@@ -22,7 +22,7 @@ use Rattle.ledger_steps.specs.Observe.{ObserveOutcome, observeOn}
 use Rattle.ledger_steps.specs.Calls.{number, acceptNumber, sentBy, acceptBy, observeBy, sentTo, acceptTo, observeTo}
 use Rattle.link_steps.specs.declared.Watch.{Watch}
 use Rattle.link_steps.specs.declared.Watch.the-variants.{Absent, Present}
-use Rattle.link_steps.specs.Steps.{Standing, Watched, standing, watchRefusesSent, watchRefuses, watchSent, watchReply, watchAdvance, watchIdle, sentLeaves, acceptLeaves, observeLeaves, refuses, after}
+use Rattle.link_steps.specs.Steps.{LinkStand, Watched, standing, watchRefusesSent, watchRefuses, watchSent, watchReply, watchAdvance, watchIdle, sentLeaves, acceptLeaves, observeLeaves, refuses, after}
 
 -- a monitor and its queue, as they are
 abbrev pub kept : Watch → List QueuedProbe → Watched
@@ -51,9 +51,9 @@ idle-off (Present m) queue n e = rw (e, eq-false (suc n) 0 (λ q. omega (arith, 
 
 -- ---- the calls
 
-module _ (k : Standing) where
+module _ (k : LinkStand) where
   -- the link with another monitor or queue
-  abbrev with : Watched → Standing
+  abbrev with : Watched → LinkStand
   with x = standing (k .link .ledger) (k .rooms) x
 
   sent-same : (s : SentProbe) (n : ℕ) → refuses k (Sent s) ≡ suc n → after k (Sent s) ≡ k

@@ -16,7 +16,7 @@ use Rattle.ledger_steps.specs.Sent.{SentOutcome, sentOn}
 use Rattle.ledger_steps.specs.Accept.{AcceptOutcome, acceptOn}
 use Rattle.ledger_steps.specs.Calls.{number, acceptNumber, sentBy, acceptBy, sentTo, acceptTo}
 use Rattle.reply_history.specs.Fits.{KeyFits}
-use Rattle.link_steps.specs.Steps.{Standing, watchRefusesSent, watchRefuses, watchReply, wasUnique, sentLeaves, refuses, after, played, keptIf, served}
+use Rattle.link_steps.specs.Steps.{LinkStand, watchRefusesSent, watchRefuses, watchReply, wasUnique, sentLeaves, refuses, after, played, keptIf, served}
 use Rattle.link_history.specs.Fresh.{Watching, Making, MakingFits, freshLink, Fits, AllFits}
 use Rattle.link_history.specs.Shows.{LedgerShows}
 use Rattle.link_history.specs.Monitor.{WatchShows}
@@ -26,9 +26,9 @@ use Rattle.link_history.proofs.Monitor.{WatchFollows, watch-fresh, watc
 
 -- ---- the monitor, by one call of the link that is served
 
-module _ (v : Watching) (copies : ℕ) (h : List Call) (k : Standing) (shows : LedgerShows copies h k) (f : WatchFollows v h (k .link .watch) (k .queue)) where
+module _ (v : Watching) (copies : ℕ) (h : List Call) (k : LinkStand) (shows : LedgerShows copies h k) (f : WatchFollows v h (k .link .watch) (k .queue)) where
   -- what a call leaves of it
-  abbrev Left : Call → Standing → Type 0
+  abbrev Left : Call → LinkStand → Type 0
   Left c x = WatchFollows v (c ∷ h) (x .link .watch) (x .queue)
 
   sent-left : (s : SentProbe) → refuses k (Sent s) ≡ 0 → Left (Sent s) (after k (Sent s))
@@ -80,7 +80,7 @@ module _ (v : Watching) (copies : ℕ) (h : List Call) (k : Standing) (shows : L
 -- ---- any calls
 
 module _ (m : Making) (ok : MakingFits m) where
-  abbrev k₀ : Standing
+  abbrev k₀ : LinkStand
   k₀ = freshLink m
 
   pub watch-follows : (cs : List Call) → AllFits cs → WatchFollows (m .monitor) (served k₀ cs) (played k₀ cs .link .watch) (played k₀ cs .queue)
@@ -88,7 +88,7 @@ module _ (m : Making) (ok : MakingFits m) where
   watch-follows [] w = watch-fresh (m .monitor) (m .queue) (ok .queue-fits)
   watch-follows (c ∷ cs) w = go (refuses k c) refl (watch-follows cs (w .1))
     where
-      k : Standing
+      k : LinkStand
       k = played k₀ cs
 
       go : (n : ℕ) → refuses k c ≡ n → WatchFollows (m .monitor) (served k₀ cs) (k .link .watch) (k .queue)

@@ -10,13 +10,13 @@ use Rattle.call_types.specs.declared.Call.the-variants.{Sent, Accept, Observe, 
 use Rattle.probe_queue.specs.declared.QueuedProbe.{QueuedProbe}
 use Rattle.monitor.specs.Operations.{fresh}
 use Rattle.ledger_state.specs.State.{freshLedger, hashWords}
-use Rattle.ledger_steps.specs.Rooms.{Rooms, Stand}
+use Rattle.ledger_steps.specs.Rooms.{Rooms, LedgerStand}
 use Rattle.reply_history.specs.Fits.{CallFits}
 use Rattle.reply_history.specs.Stands.{RoomsFit}
 use Rattle.observe_history.specs.FollowUps.{QualityFits}
 use Rattle.link_steps.specs.declared.Watch.{Watch}
 use Rattle.link_steps.specs.declared.Watch.the-variants.{Absent, Present}
-use Rattle.link_steps.specs.Steps.{Standing}
+use Rattle.link_steps.specs.Steps.{LinkStand}
 
 -- ---- how a link is made
 
@@ -52,7 +52,7 @@ freshWatch alone = Absent
 freshWatch (watching threshold timeout) = Present (fresh threshold timeout)
 
 -- the ledger and the monitor, with the rooms as they are
-abbrev pub freshLink : Making → Standing
+abbrev pub freshLink : Making → LinkStand
 freshLink m = record { link = record { ledger = freshLedger (m .copies) (m .secret); watch = freshWatch (m .monitor) }; rooms = m .rooms; queue = m .queue }
 
 -- the words of its hash
@@ -60,7 +60,7 @@ abbrev pub wordsIn : Making → List ℕ
 wordsIn m = hashWords (freshLedger (m .copies) (m .secret))
 
 -- the ledger of a link with its rooms, beside its monitor
-abbrev pub standOf : Standing → Stand
+abbrev pub standOf : LinkStand → LedgerStand
 standOf k = record { ledger = k .link .ledger; rooms = k .rooms }
 
 -- ---- calls whose numbers fit their types

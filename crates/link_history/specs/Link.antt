@@ -14,7 +14,7 @@ use Rattle.ranges.specs.Ranges.{inRange}
 use Rattle.monitor_model.specs.Plain.{refusal, sentRefusal}
 use Rattle.ledger_state.specs.Refusal.{firstRefusal}
 use Rattle.ledger_steps.specs.Refusals.{earlier}
-use Rattle.link_steps.specs.Steps.{Standing, refuses, keptIf}
+use Rattle.link_steps.specs.Steps.{LinkStand, refuses, keptIf}
 use Rattle.link_history.specs.Fresh.{Watching, alone, watching}
 use Rattle.link_history.specs.Shows.{callsIn, awaitsFrom, LedgerShows}
 use Rattle.link_history.specs.Monitor.{monitorFrom, WatchShows}
@@ -58,7 +58,7 @@ QueueFull (watching threshold timeout) h = capacity ≤ length (monitorFrom thre
 -- ---- the whole
 
 -- WHAT A LINK SHOWS FOLLOWS FROM ITS SERVED CALLS h: the ledger's counts and answers, the monitor, and the refusal of each call to come.
-pub record LinkShows (copies : ℕ) (v : Watching) (h : List Call) (k : Standing) : Type 0 where
+pub record LinkShows (copies : ℕ) (v : Watching) (h : List Call) (k : LinkStand) : Type 0 where
   pub ledger : LedgerShows copies h k
   pub monitor : WatchShows v h (k .link .watch) (k .queue)
   pub refusals : (c : Call) → refuses k c ≡ refusesFrom v h c

@@ -34,7 +34,7 @@ use Rattle.ledger_steps.specs.declared.AcceptAnswer.the-variants as accepts
 use Rattle.ledger_steps.specs.declared.AnsweredAnswer.the-variants as answers
 use Rattle.ledger_steps.specs.Refusals.{awaitsKey}
 use Rattle.ledger_steps.specs.Calls.{answeredTo}
-use Rattle.link_steps.specs.Steps.{Standing, acceptResult, refuses, after}
+use Rattle.link_steps.specs.Steps.{LinkStand, acceptResult, refuses, after}
 
 -- ---- the counts
 
@@ -102,7 +102,7 @@ abbrev pub awaitsFrom : List Call → ReplyKey → Bool
 awaitsFrom h key = awaitsIn (awaiting (events capacity h)) key
 
 -- WHAT THE LEDGER OF A LINK SHOWS IS WHAT THE SERVED CALLS h CALL FOR: each count, each figure, and the answer of each call to come.
-pub record LedgerShows (copies : ℕ) (h : List Call) (k : Standing) : Type 0 where
+pub record LedgerShows (copies : ℕ) (h : List Call) (k : LinkStand) : Type 0 where
   pub snapshot : snapshotOf (k .link .ledger) ≡ snapshotFrom copies h
   pub counts : k .link .ledger .counts ≡ countsFrom copies h
   pub calls : k .link .ledger .calls ≡ callsIn h

@@ -8,7 +8,7 @@ use Prim.Native.Nat.{ℕ, _<_, _^_}
 use lib.ListN.{length}
 use Rattle.limits.specs.Limits.{capacity}
 use Rattle.probe_queue.specs.declared.QueuedProbe.{QueuedProbe}
-use Rattle.monitor.specs.Operations.{Stand}
+use Rattle.monitor.specs.Operations.{MonitorStand}
 use Rattle.monitor_model.specs.Plain.{Plain, new}
 use Rattle.monitor_model.proofs.Standing.{Next}
 use Rattle.monitor_model.proofs.Model as model
@@ -16,7 +16,7 @@ use Rattle.monitor_in_time.specs.InTime.{counting, InTime}
 use Rattle.monitor_in_time.proofs.Sound.{counting-positive, new-keeps}
 use Rattle.monitor_in_time.proofs.InTime.{Steps, Models, holds}
 use Rattle.monitor_in_time.proofs.Core.{counting-few, core-models}
-use Rattle.link_steps.specs.Steps.{Standing}
+use Rattle.link_steps.specs.Steps.{LinkStand}
 use Rattle.link_history.specs.Fresh.{Watching, watching, Making, MakingFits}
 use Rattle.host_monitor_model.specs.Hosted.{Lent, said, begun, Typed}
 use Rattle.host_monitor_model.proofs.Follows.{agrees, begins}
@@ -39,7 +39,7 @@ host-models = record {
   steps = λ x p n c typed.
       let a = agrees c x typed in
       let s = core-models .steps (said x) p n c tt in
-      (s .0, subst (λ (y : Stand). Next y (s .0)) (sym (a .1)) (s .1), subst (λ (k : ℕ). Steps (some c) k p (s .0)) (sym (a .0)) (s .2));
+      (s .0, subst (λ (y : MonitorStand). Next y (s .0)) (sym (a .1)) (s .1), subst (λ (k : ℕ). Steps (some c) k p (s .0)) (sym (a .0)) (s .2));
 }
 
 -- THE THEOREM, of the monitor's words
@@ -47,7 +47,7 @@ pub host-in-time : (threshold timeout : ℕ) (queue : List QueuedProbe) → thre
 host-in-time threshold timeout queue h long =
     holds hostMonitor Typed Says host-models (counting threshold) (counting-positive threshold) (counting-few threshold h)
     (begun threshold timeout queue) (new threshold timeout)
-    (subst (λ (y : Stand). Next y (new threshold timeout)) (sym (begins threshold timeout queue h)) (λ s. false, (refl, model.begins threshold timeout queue long)))
+    (subst (λ (y : MonitorStand). Next y (new threshold timeout)) (sym (begins threshold timeout queue h)) (λ s. false, (refl, model.begins threshold timeout queue long)))
     (new-keeps threshold timeout)
 
 -- ---- a link with a monitor
@@ -64,7 +64,7 @@ module _ (m : Making) (ok : MakingFits m) (fits : hosted.HostFits m) (threshold 
         let a = agreeing.agrees x c (s .1) (f .0) in
         let t = link-models m ok threshold timeout with-monitor .steps (hosted.said x) p (s .0) (told c) (f .1) in (
           t .0,
-          (subst (λ (k : Standing). Stands m ok threshold timeout with-monitor k (t .0)) (sym (a .1)) (t .1), a .2),
+          (subst (λ (k : LinkStand). Stands m ok threshold timeout with-monitor k (t .0)) (sym (a .1)) (t .1), a .2),
           subst (λ (n : ℕ). Steps (drivesOf (hosted.said x) (told c)) n p (t .0)) (sym (a .0)) (t .2),
         );
   }
@@ -74,5 +74,5 @@ module _ (m : Making) (ok : MakingFits m) (fits : hosted.HostFits m) (threshold 
   host-link-in-time =
       holds hostLink HostFits SaysLink host-link-models (counting threshold) (counting-positive threshold)
       (counting-few threshold (subst (λ (v : Watching). hosted.ThresholdFits v) with-monitor (fits .threshold))) (hostFresh m) (new threshold timeout)
-      (subst (λ (k : Standing). Stands m ok threshold timeout with-monitor k (new threshold timeout)) (sym (shown.begins m ok fits)) (link-begins m ok threshold timeout with-monitor), shown.long m)
+      (subst (λ (k : LinkStand). Stands m ok threshold timeout with-monitor k (new threshold timeout)) (sym (shown.begins m ok fits)) (link-begins m ok threshold timeout with-monitor), shown.long m)
       (new-keeps threshold timeout)

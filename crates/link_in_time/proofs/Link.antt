@@ -22,7 +22,7 @@ use Rattle.history.specs.Given.{packetOf}
 use Rattle.history.specs.Ledger.{copiesOf, unique?, events}
 use Rattle.link_steps.specs.declared.Watch.{Watch}
 use Rattle.link_steps.specs.declared.Watch.the-variants.{Absent, Present}
-use Rattle.link_steps.specs.Steps.{Standing, acceptResult, wasUnique, refuses, after, played, keptIf, served}
+use Rattle.link_steps.specs.Steps.{LinkStand, acceptResult, wasUnique, refuses, after, played, keptIf, served}
 use Rattle.link_history.specs.Fresh.{Watching, watching, Making, MakingFits, freshLink, Fits, AllFits}
 use Rattle.link_history.specs.Shows.{LedgerShows}
 use Rattle.link_history.specs.Monitor.{monitorFrom, WatchShows}
@@ -52,7 +52,7 @@ module _ (threshold timeout : ℕ) (h : List Call) where
   turned-away none n = refl
   turned-away (some c) n = refl
 
-  module _ (copies : ℕ) (k : Standing) (shows : LedgerShows copies h k) where
+  module _ (copies : ℕ) (k : LinkStand) (shows : LedgerShows copies h k) where
     served-steps : (c : Call) → Fits c → refuses k c ≡ 0 → Steps (drivesOf k c) 0 p (monitorFrom threshold timeout (c ∷ h))
     unfolding monitorFrom does
     served-steps (Sent s) f e = refl
@@ -69,7 +69,7 @@ module _ (threshold timeout : ℕ) (h : List Call) where
 
 module _ (m : Making) (ok : MakingFits m) (threshold timeout : ℕ) (with-monitor : m .monitor ≡ watching threshold timeout) where
   -- the link stands after these calls, and the plain monitor is that of the served ones
-  pub record Stands (k : Standing) (p : Plain) : Type 0 where
+  pub record Stands (k : LinkStand) (p : Plain) : Type 0 where
     pub made : List Call
     pub fit : AllFits made
     pub stands : k ≡ played (freshLink m) made
@@ -79,7 +79,7 @@ module _ (m : Making) (ok : MakingFits m) (threshold timeout : ℕ) (with-monito
   unfolding played served AllFits
   link-models = record {
     shows = λ k p s.
-        ap (λ (x : Standing). seenWatch (x .link .watch) (x .queue)) (s .stands)
+        ap (λ (x : LinkStand). seenWatch (x .link .watch) (x .queue)) (s .stands)
         ∙ seen-shown threshold timeout (served (freshLink m) (s .made)) (played (freshLink m) (s .made) .link .watch) (played (freshLink m) (s .made) .queue)
         (subst (λ (v : Watching). WatchShows v (served (freshLink m) (s .made)) (played (freshLink m) (s .made) .link .watch) (played (freshLink m) (s .made) .queue)) with-monitor (watch-shows m ok (s .made) (s .fit)))
         ∙ ap seenPlain (sym (s .model));
@@ -89,8 +89,8 @@ module _ (m : Making) (ok : MakingFits m) (threshold timeout : ℕ) (with-monito
         let q = monitorFrom threshold timeout (keptIf (refuses x c) c h) in
         let t : Steps (drivesOf x c) (refuses x c) (monitorFrom threshold timeout h) q = call-steps threshold timeout h (copiesOf (m .copies)) x (ledger-follows m ok (s .made) (s .fit)) c f (refuses x c) refl in (
           q,
-          record { made = c ∷ s .made; fit = (f, s .fit); stands = ap (λ (y : Standing). after y c) (s .stands); model = refl },
-          subst (λ (y : Standing). Steps (drivesOf y c) (refuses y c) p q) (sym (s .stands)) (subst (λ (r : Plain). Steps (drivesOf x c) (refuses x c) r q) (sym (s .model)) t),
+          record { made = c ∷ s .made; fit = (f, s .fit); stands = ap (λ (y : LinkStand). after y c) (s .stands); model = refl },
+          subst (λ (y : LinkStand). Steps (drivesOf y c) (refuses y c) p q) (sym (s .stands)) (subst (λ (r : Plain). Steps (drivesOf x c) (refuses x c) r q) (sym (s .model)) t),
         );
   }
 

@@ -13,10 +13,10 @@ use Rattle.monitor_in_time.specs.Calls.{Seen, Monitored}
 use Rattle.monitor_in_time.specs.Core.{seenPlain, seenStand}
 use Rattle.link_steps.specs.declared.Watch.{Watch}
 use Rattle.link_steps.specs.declared.Watch.the-variants.{Absent, Present}
-use Rattle.link_steps.specs.Steps.{Standing, acceptResult, wasUnique, refuses, after}
+use Rattle.link_steps.specs.Steps.{LinkStand, acceptResult, wasUnique, refuses, after}
 
 -- the call of the monitor that a call makes: a reply where an accept is answered as unique, and none at an observe or any other accept
-abbrev pub drivesOf : Standing → Call → Option monitor.Call
+abbrev pub drivesOf : LinkStand → Call → Option monitor.Call
 drivesOf k (Sent s) = some (sending (s .sequence) (s .packet .time))
 drivesOf k (Accept a) = cond (wasUnique (acceptResult k a .answer)) (some (replying (a .key .sender))) none
 drivesOf k (Observe o) = none
@@ -29,5 +29,5 @@ seenWatch Absent queue = seenPlain (new 0 0)
 seenWatch (Present m) queue = seenStand (record { monitor = m; room = queue })
 
 -- the calls of a link: `sent` and `accept` with the monitor beside, `observe`, `advance` and `idle`
-abbrev pub link : Monitored Call Standing
+abbrev pub link : Monitored Call LinkStand
 link = record { number = refuses; after = after; drives = drivesOf; seen = λ k. seenWatch (k .link .watch) (k .queue) }

@@ -17,15 +17,15 @@ use Rattle.ledger_steps.specs.Calls.{number, acceptNumber, SentResult, AcceptRe
 use Rattle.monitor_model.specs.Playing as monitor
 use Rattle.link_steps.specs.declared.Watch.{Watch}
 use Rattle.link_steps.specs.declared.Watch.the-variants.{Absent, Present}
-use Rattle.link_steps.specs.Steps.{Standing, watchRefusesSent, watchRefuses, sentResult, acceptResult, sentLeaves, acceptLeaves, refuses, after, played, keptIf, served}
+use Rattle.link_steps.specs.Steps.{LinkStand, watchRefusesSent, watchRefuses, sentResult, acceptResult, sentLeaves, acceptLeaves, refuses, after, played, keptIf, served}
 use Rattle.link_history.proofs.Unchanged.{refused-changes-nothing}
 use Rattle.link_history.proofs.Monitor.{watch-serves-sent, watch-serves}
 use Rattle.link_mixed_history.specs.Mixed.{MixedCall, watched, plain, alone, unwatched, beside, aloneLeaves, aloneNumber, numberOf, leaves, mixedPlayed, ledgerKept, ledgerServed}
 
 -- ---- a served call of the link is one of the ledger without the monitor
 
-module _ (k : Standing) where
-  abbrev u : Standing
+module _ (k : LinkStand) where
+  abbrev u : LinkStand
   u = unwatched k
 
   -- what both say of a call
@@ -94,26 +94,26 @@ module _ (k : Standing) where
 -- ---- any calls
 
 -- the ledger stands as after its served calls, and each of them is served there
-abbrev pub LedgerAlike : Standing → List Call → Standing → Type 0
+abbrev pub LedgerAlike : LinkStand → List Call → LinkStand → Type 0
 LedgerAlike k h x = (unwatched x ≡ played (unwatched k) h) × (served (unwatched k) h ≡ h)
 
-module _ (k : Standing) where
+module _ (k : LinkStand) where
   -- one served call more
-  serves : (h : List Call) (x : Standing) (c : Call) → LedgerAlike k h x → refuses (unwatched x) c ≡ 0 → (y : Standing) → unwatched y ≡ after (unwatched x) c → LedgerAlike k (c ∷ h) y
+  serves : (h : List Call) (x : LinkStand) (c : Call) → LedgerAlike k h x → refuses (unwatched x) c ≡ 0 → (y : LinkStand) → unwatched y ≡ after (unwatched x) c → LedgerAlike k (c ∷ h) y
   unfolding played served
   serves h x c a e y q = (
-    q ∙ ap (λ (z : Standing). after z c) (a .0),
-    ap (λ (n : ℕ). keptIf n c (served (unwatched k) h)) (ap (λ (z : Standing). refuses z c) (sym (a .0)) ∙ e) ∙ ap (λ (t : List Call). c ∷ t) (a .1),
+    q ∙ ap (λ (z : LinkStand). after z c) (a .0),
+    ap (λ (n : ℕ). keptIf n c (served (unwatched k) h)) (ap (λ (z : LinkStand). refuses z c) (sym (a .0)) ∙ e) ∙ ap (λ (t : List Call). c ∷ t) (a .1),
   )
 
   -- one call more of any kind
-  steps : (h : List Call) (x : Standing) (c : MixedCall) → LedgerAlike k h x → LedgerAlike k (ledgerKept (numberOf x c) c h) (leaves x c)
+  steps : (h : List Call) (x : LinkStand) (c : MixedCall) → LedgerAlike k h x → LedgerAlike k (ledgerKept (numberOf x c) c h) (leaves x c)
   unfolding numberOf leaves
   steps h x (watched c) a = go (refuses x c) refl
     where
       go : (n : ℕ) → refuses x c ≡ n → LedgerAlike k (keptIf n c h) (after x c)
       go zero e = serves h x c a (served-alike x c e .0) (after x c) (served-alike x c e .1)
-      go (suc n) e = subst (λ (y : Standing). LedgerAlike k h y) (sym (refused-changes-nothing x c n e)) a
+      go (suc n) e = subst (λ (y : LinkStand). LedgerAlike k h y) (sym (refused-changes-nothing x c n e)) a
   steps h x (plain c) a = go (refuses (unwatched x) c) refl
     where
       go : (n : ℕ) → refuses (unwatched x) c ≡ n → LedgerAlike k (keptIf n c h) (beside (after (unwatched x) c) x)

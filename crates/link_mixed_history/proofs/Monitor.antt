@@ -15,7 +15,7 @@ use Rattle.probe_queue.specs.declared.QueuedProbe.{QueuedProbe}
 use Rattle.probe_queue.specs.Queue.{choose}
 use Rattle.monitor.specs.declared.Monitor.{Monitor}
 use Rattle.monitor.specs.Refusals as refusals
-use Rattle.monitor.specs.Operations.{Stand, sentIf, replyIf, advanceIf, idleOn}
+use Rattle.monitor.specs.Operations.{MonitorStand, sentIf, replyIf, advanceIf, idleOn}
 use Rattle.monitor_model.specs.Plain.{Plain, refusal, sentRefusal, sent, reply, advance, idle, deadline}
 use Rattle.monitor_model.specs.Playing as monitor
 use Rattle.monitor_model.proofs.Standing.{seen, Next}
@@ -23,7 +23,7 @@ use Rattle.monitor_model.proofs.Following.{same-refusal, same-sent-refusal, sam
 use Rattle.monitor_model.proofs.Model.{begins}
 use Rattle.link_steps.specs.declared.Watch.{Watch}
 use Rattle.link_steps.specs.declared.Watch.the-variants.{Absent, Present}
-use Rattle.link_steps.specs.Steps.{Standing, watchSent, watchReply, watchAdvance, watchIdle, watchRefusesSent, watchRefuses}
+use Rattle.link_steps.specs.Steps.{LinkStand, watchSent, watchReply, watchAdvance, watchIdle, watchRefusesSent, watchRefuses}
 use Rattle.link_history.specs.Fresh.{Watching, QueueFits, freshWatch}
 use Rattle.link_history.specs.Fresh as making
 use Rattle.link_history.proofs.Monitor.{ring-sent, ring-reply, ring-advance, ring-idle}
@@ -45,7 +45,7 @@ follows-fresh (making.watching threshold timeout) queue fit = (λ s. false, (ref
 -- ---- one call that the monitor is served
 
 -- as its own call leaves it
-next-one : (x : Stand) (p : Plain) (c : monitor.Call) → Next x p → Next (monitor.playRing c x .stand) (monitor.playPlain c p .plain)
+next-one : (x : MonitorStand) (p : Plain) (c : monitor.Call) → Next x p → Next (monitor.playRing c x .stand) (monitor.playPlain c p .plain)
 next-one x p c f = subst (λ (q : Plain). Next (monitor.playRing c x .stand) (monitor.playPlain c q .plain)) (sym (f .1 .0)) (agrees x (f .0) (f .1 .1) c .1)
 
 module _ (ops : List monitor.Call) where
@@ -56,7 +56,7 @@ module _ (ops : List monitor.Call) where
   heard-sent making.alone (Present m) queue s e f = absurd f
   heard-sent (making.watching threshold timeout) Absent queue s e f = absurd f
   heard-sent (making.watching threshold timeout) (Present m) queue s e f =
-      subst (λ (y : Stand). Next y (monitor.playPlain (monitor.sending (s .sequence) (s .packet .time)) (plainFrom threshold timeout ops) .plain))
+      subst (λ (y : MonitorStand). Next y (monitor.playPlain (monitor.sending (s .sequence) (s .packet .time)) (plainFrom threshold timeout ops) .plain))
       (ring-sent (record { monitor = m; room = queue }) (f .0) (f .1 .1) (s .sequence) (s .packet .time) e)
       (next-one (record { monitor = m; room = queue }) (plainFrom threshold timeout ops) (monitor.sending (s .sequence) (s .packet .time)) f)
 
@@ -67,7 +67,7 @@ module _ (ops : List monitor.Call) where
   heard-reply making.alone (Present m) queue a e f = absurd f
   heard-reply (making.watching threshold timeout) Absent queue a e f = absurd f
   heard-reply (making.watching threshold timeout) (Present m) queue a e f =
-      subst (λ (y : Stand). Next y (monitor.playPlain (monitor.replying (a .key .sender)) (plainFrom threshold timeout ops) .plain))
+      subst (λ (y : MonitorStand). Next y (monitor.playPlain (monitor.replying (a .key .sender)) (plainFrom threshold timeout ops) .plain))
       (ring-reply (record { monitor = m; room = queue }) (f .0) (f .1 .1) (a .key .sender) e)
       (next-one (record { monitor = m; room = queue }) (plainFrom threshold timeout ops) (monitor.replying (a .key .sender)) f)
 
@@ -78,7 +78,7 @@ module _ (ops : List monitor.Call) where
   heard-advance making.alone (Present m) queue t e f = absurd f
   heard-advance (making.watching threshold timeout) Absent queue t e f = absurd f
   heard-advance (making.watching threshold timeout) (Present m) queue t e f =
-      subst (λ (y : Stand). Next y (monitor.playPlain (monitor.advancing t) (plainFrom threshold timeout ops) .plain))
+      subst (λ (y : MonitorStand). Next y (monitor.playPlain (monitor.advancing t) (plainFrom threshold timeout ops) .plain))
       (ring-advance (record { monitor = m; room = queue }) (f .0) (f .1 .1) t e)
       (next-one (record { monitor = m; room = queue }) (plainFrom threshold timeout ops) (monitor.advancing t) f)
 
@@ -89,7 +89,7 @@ module _ (ops : List monitor.Call) where
   heard-idle making.alone (Present m) queue e f = absurd f
   heard-idle (making.watching threshold timeout) Absent queue e f = absurd f
   heard-idle (making.watching threshold timeout) (Present m) queue e f =
-      rw e (subst (λ (y : Stand). Next y (monitor.playPlain monitor.idling (plainFrom threshold timeout ops) .plain))
+      rw e (subst (λ (y : MonitorStand). Next y (monitor.playPlain monitor.idling (plainFrom threshold timeout ops) .plain))
       (ring-idle (record { monitor = m; room = queue }) (f .0) (f .1 .1) e)
       (next-one (record { monitor = m; room = queue }) (plainFrom threshold timeout ops) monitor.idling f))
 
@@ -112,7 +112,7 @@ module _ (ops : List monitor.Call) where
       agrees (record { monitor = m; room = queue }) (f .0) (f .1 .1) c .0 ∙ ap (λ (p : Plain). monitor.playPlain c p .number) (sym (f .1 .0))
 
   -- what it leaves
-  pub alone-follows : (v : Watching) (k : Standing) (h : List _) (c : monitor.Call) (w : Watch) → PlainFollows v ops w (k .queue)
+  pub alone-follows : (v : Watching) (k : LinkStand) (h : List _) (c : monitor.Call) (w : Watch) → PlainFollows v ops w (k .queue)
       → PlainFollows v (monitorKept (aloneNumber w (k .queue) c) h (alone c) ops) (aloneLeaves w k c .link .watch) (aloneLeaves w k c .queue)
   unfolding plainFrom
   alone-follows making.alone k h c Absent f = tt
@@ -120,7 +120,7 @@ module _ (ops : List monitor.Call) where
   alone-follows (making.watching threshold timeout) k h c Absent f = absurd f
   alone-follows (making.watching threshold timeout) k h c (Present m) f = go (aloneNumber (Present m) (k .queue) c) refl
     where
-      x : Stand
+      x : MonitorStand
       x = record { monitor = m; room = k .queue }
 
       go : (n : ℕ) → aloneNumber (Present m) (k .queue) c ≡ n → Next (monitor.playRing c x .stand) (plainFrom threshold timeout (monitorKept n h (alone c) ops))

@@ -24,7 +24,7 @@ use Rattle.ledger_steps.specs.Calls.{number, acceptNumber, AcceptResult, sentBy
 use Rattle.reply_history.specs.Fits.{KeyFits}
 use Rattle.link_steps.specs.declared.Watch.{Watch}
 use Rattle.link_steps.specs.declared.Watch.the-variants.{Absent, Present}
-use Rattle.link_steps.specs.Steps.{Standing, watchRefusesSent, watchRefuses, watchSent, watchReply, wasUnique, acceptResult, sentLeaves, refuses, after, played, keptIf, served}
+use Rattle.link_steps.specs.Steps.{LinkStand, watchRefusesSent, watchRefuses, watchSent, watchReply, wasUnique, acceptResult, sentLeaves, refuses, after, played, keptIf, served}
 use Rattle.link_history.specs.Fresh.{Watching, Making, MakingFits, freshLink, standOf, wordsIn, Fits, AllFits}
 use Rattle.link_history.specs.Fresh as making
 use Rattle.link_history.specs.Shows.{LedgerShows, acceptedFrom}
@@ -49,7 +49,7 @@ plainly-fits : (m : Making) → MakingFits m → MakingFits (plainly m)
 plainly-fits m ok = record { copies-in = ok .copies-in; rooms-fit = ok .rooms-fit; queue-fits = tt }
 
 -- the numbers of the ledger's served calls fit their types
-served-fit : (k : Standing) (cs : List MixedCall) → AllMixedFit cs → AllFits (ledgerServed k cs)
+served-fit : (k : LinkStand) (cs : List MixedCall) → AllMixedFit cs → AllFits (ledgerServed k cs)
 unfolding AllMixedFit AllFits ledgerServed
 served-fit k [] w = tt
 served-fit k (c ∷ cs) w = go c (w .0) (served-fit k cs (w .1)) (numberOf (mixedPlayed k cs) c)
@@ -62,7 +62,7 @@ served-fit k (c ∷ cs) w = go c (w .0) (served-fit k cs (w .1)) (numberOf (mixe
     go (alone x) f rest n = rest
 
 module _ (m : Making) (ok : MakingFits m) where
-  abbrev k₀ : Standing
+  abbrev k₀ : LinkStand
   k₀ = freshLink m
 
   -- ---- the ledger
@@ -72,7 +72,7 @@ module _ (m : Making) (ok : MakingFits m) where
     abbrev h : List Call
     h = ledgerServed k₀ cs
 
-    abbrev k : Standing
+    abbrev k : LinkStand
     k = mixedPlayed k₀ cs
 
     fits : AllFits h
@@ -80,19 +80,19 @@ module _ (m : Making) (ok : MakingFits m) where
 
     pub ledger-shows : LedgerShows (copiesOf (m .copies)) h (unwatched k)
     ledger-shows =
-        subst (λ (x : Standing). LedgerShows (copiesOf (m .copies)) h x) (sym (ledger-alike k₀ cs .0))
+        subst (λ (x : LinkStand). LedgerShows (copiesOf (m .copies)) h x) (sym (ledger-alike k₀ cs .0))
         (subst (λ (t : List Call). LedgerShows (copiesOf (m .copies)) t (played (freshLink (plainly m)) h)) (ledger-alike k₀ cs .1)
         (ledger-follows (plainly m) (plainly-fits m ok) h fits))
 
     -- the refusal of a call without the monitor
     pub plain-number : (c : Call) → refuses (unwatched k) c ≡ refusesFrom making.alone h c
     plain-number c =
-        ap (λ (x : Standing). refuses x c) (ledger-alike k₀ cs .0) ∙ refusals-follow (plainly m) (plainly-fits m ok) h fits c
+        ap (λ (x : LinkStand). refuses x c) (ledger-alike k₀ cs .0) ∙ refusals-follow (plainly m) (plainly-fits m ok) h fits c
         ∙ ap (λ (t : List Call). refusesFrom making.alone t c) (ledger-alike k₀ cs .1)
 
     follow : Follow (wordsIn (plainly m)) (copiesOf (m .copies)) h (standOf (unwatched k))
     follow =
-        subst (λ (x : Standing). Follow (wordsIn (plainly m)) (copiesOf (m .copies)) h (standOf x)) (sym (ledger-alike k₀ cs .0))
+        subst (λ (x : LinkStand). Follow (wordsIn (plainly m)) (copiesOf (m .copies)) h (standOf x)) (sym (ledger-alike k₀ cs .0))
         (subst (λ (t : List Call). Follow (wordsIn (plainly m)) (copiesOf (m .copies)) t (standOf (played (freshLink (plainly m)) h))) (ledger-alike k₀ cs .1)
         (link-follows (plainly m) (plainly-fits m ok) h fits))
 
@@ -109,7 +109,7 @@ module _ (m : Making) (ok : MakingFits m) where
     -- ---- the monitor, by one call of the link that is served
 
     module _ (ops : List monitor.Call) (f : PlainFollows (m .monitor) ops (k .link .watch) (k .queue)) where
-      abbrev Left : Call → Standing → Type 0
+      abbrev Left : Call → LinkStand → Type 0
       Left c x = PlainFollows (m .monitor) (heard h c ops) (x .link .watch) (x .queue)
 
       sent-left : (s : SentProbe) → refuses k (Sent s) ≡ 0 → Left (Sent s) (after k (Sent s))

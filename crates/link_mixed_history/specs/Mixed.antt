@@ -8,13 +8,13 @@ use Rattle.limits.specs.Limits.{capacity}
 use Rattle.call_types.specs.declared.Call.{Call}
 use Rattle.call_types.specs.declared.Call.the-variants.{Sent, Accept, Observe, Advance, Idle}
 use Rattle.probe_queue.specs.declared.QueuedProbe.{QueuedProbe}
-use Rattle.monitor.specs.Operations.{Stand}
+use Rattle.monitor.specs.Operations.{MonitorStand}
 use Rattle.monitor_model.specs.Playing as monitor
 use Rattle.history.specs.Given.{packetOf}
 use Rattle.history.specs.Ledger.{unique?, events}
 use Rattle.link_steps.specs.declared.Watch.{Watch}
 use Rattle.link_steps.specs.declared.Watch.the-variants.{Absent, Present}
-use Rattle.link_steps.specs.Steps.{Standing, refuses, after, keptIf}
+use Rattle.link_steps.specs.Steps.{LinkStand, refuses, after, keptIf}
 
 -- a call of the host: of the link with its monitor, of the ledger without it, or of the monitor alone
 pub data MixedCall : Type 0 where
@@ -25,15 +25,15 @@ pub data MixedCall : Type 0 where
 -- ---- what a call does
 
 -- the ledger with its rooms, as a link that has no monitor
-abbrev pub unwatched : Standing → Standing
+abbrev pub unwatched : LinkStand → LinkStand
 unwatched k = record { link = record { ledger = k .link .ledger; watch = Absent }; rooms = k .rooms; queue = [] }
 
 -- a ledger with its rooms beside the monitor and the queue of a link
-abbrev pub beside : (ledger link : Standing) → Standing
+abbrev pub beside : (ledger link : LinkStand) → LinkStand
 beside l k = record { link = record { ledger = l .link .ledger; watch = k .link .watch }; rooms = l .rooms; queue = k .queue }
 
 -- the link with its monitor and queue as a call of the monitor alone left them
-abbrev pub withMonitor : Standing → Stand → Standing
+abbrev pub withMonitor : LinkStand → MonitorStand → LinkStand
 withMonitor k x = record { link = record { ledger = k .link .ledger; watch = Present (x .monitor) }; rooms = k .rooms; queue = x .room }
 
 -- the number of a call of the monitor alone; without a monitor there is nothing to call
@@ -42,24 +42,24 @@ aloneNumber Absent queue c = 0
 aloneNumber (Present m) queue c = monitor.playRing c (record { monitor = m; room = queue }) .number
 
 -- what it leaves, likewise
-abbrev pub aloneLeaves : Watch → Standing → monitor.Call → Standing
+abbrev pub aloneLeaves : Watch → LinkStand → monitor.Call → LinkStand
 aloneLeaves Absent k c = record { link = record { ledger = k .link .ledger; watch = Absent }; rooms = k .rooms; queue = k .queue }
 aloneLeaves (Present m) k c = withMonitor k (monitor.playRing c (record { monitor = m; room = k .queue }) .stand)
 
 -- the number of a call, 0 where it is served
-unfoldable pub numberOf : Standing → MixedCall → ℕ
+unfoldable pub numberOf : LinkStand → MixedCall → ℕ
 numberOf k (watched c) = refuses k c
 numberOf k (plain c) = refuses (unwatched k) c
 numberOf k (alone c) = aloneNumber (k .link .watch) (k .queue) c
 
 -- what it leaves: a call without the monitor leaves monitor and queue as they were
-unfoldable pub leaves : Standing → MixedCall → Standing
+unfoldable pub leaves : LinkStand → MixedCall → LinkStand
 leaves k (watched c) = after k c
 leaves k (plain c) = beside (after (unwatched k) c) k
 leaves k (alone c) = aloneLeaves (k .link .watch) k c
 
 -- calls one after the other, newest first, each given what the last one left
-unfoldable pub mixedPlayed : Standing → List MixedCall → Standing
+unfoldable pub mixedPlayed : LinkStand → List MixedCall → LinkStand
 mixedPlayed k [] = k
 mixedPlayed k (c ∷ cs) = leaves (mixedPlayed k cs) c
 
@@ -72,7 +72,7 @@ ledgerKept n (plain c) h = keptIf n c h
 ledgerKept n (alone c) h = h
 
 -- the calls that the ledger was served, with the monitor or without it
-unfoldable pub ledgerServed : Standing → List MixedCall → List Call
+unfoldable pub ledgerServed : LinkStand → List MixedCall → List Call
 ledgerServed k [] = []
 ledgerServed k (c ∷ cs) = ledgerKept (numberOf (mixedPlayed k cs) c) c (ledgerServed k cs)
 
@@ -92,6 +92,6 @@ monitorKept zero h (alone c) ops = c ∷ ops
 monitorKept (suc n) h c ops = ops
 
 -- the calls that the monitor was served, by calls of the link with it and by its own
-unfoldable pub monitorServed : Standing → List MixedCall → List monitor.Call
+unfoldable pub monitorServed : LinkStand → List MixedCall → List monitor.Call
 monitorServed k [] = []
 monitorServed k (c ∷ cs) = monitorKept (numberOf (mixedPlayed k cs) c) (ledgerServed k cs) c (monitorServed k cs)

@@ -11,7 +11,7 @@ use Rattle.monitor_model.specs.Playing as monitor
 use Rattle.ledger_steps.specs.Refusals.{earlier}
 use Rattle.link_steps.specs.declared.Watch.{Watch}
 use Rattle.link_steps.specs.declared.Watch.the-variants.{Absent, Present}
-use Rattle.link_steps.specs.Steps.{Standing}
+use Rattle.link_steps.specs.Steps.{LinkStand}
 use Rattle.link_history.specs.Fresh.{Watching, Fits}
 use Rattle.link_history.specs.Fresh as making
 use Rattle.link_history.specs.Shows.{LedgerShows}
@@ -57,7 +57,7 @@ numberFrom v h ops (plain c) = refusesFrom making.alone h c
 numberFrom v h ops (alone c) = aloneRefuses v ops c
 
 -- WHAT A LINK SHOWS FOLLOWS FROM WHAT ITS PARTS WERE SERVED: the ledger's counts and answers, the monitor, and the refusal of each call to come.
-pub record MixedShows (copies : ℕ) (v : Watching) (h : List Call) (ops : List monitor.Call) (k : Standing) : Type 0 where
+pub record MixedShows (copies : ℕ) (v : Watching) (h : List Call) (ops : List monitor.Call) (k : LinkStand) : Type 0 where
   pub ledger : LedgerShows copies h (unwatched k)
   pub monitor : PlainShows v ops (k .link .watch) (k .queue)
   pub numbers : (c : MixedCall) → numberOf k c ≡ numberFrom v h ops c

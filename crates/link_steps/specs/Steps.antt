@@ -15,7 +15,7 @@ use Rattle.call_types.specs.declared.Call.the-variants.{Sent, Accept, Observe, 
 use Rattle.probe_queue.specs.declared.QueuedProbe.{QueuedProbe}
 use Rattle.monitor.specs.declared.Monitor.{Monitor}
 use Rattle.monitor.specs.Refusals as monitor
-use Rattle.monitor.specs.Operations.{Stand as Stands, sentIf, replyIf, advanceIf, idleOn}
+use Rattle.monitor.specs.Operations.{MonitorStand, sentIf, replyIf, advanceIf, idleOn}
 use Rattle.ledger_state.specs.declared.Ledger.{Ledger}
 use Rattle.ledger_steps.specs.declared.Accepted.{Accepted}
 use Rattle.ledger_steps.specs.declared.Accepted.the-variants as accepted
@@ -30,7 +30,7 @@ use Rattle.link_steps.specs.declared.Watch.the-variants.{Absent, Present
 use Rattle.link_steps.specs.declared.Link.{Link}
 
 -- a link with all of its rooms; without a monitor the queue is not looked at
-pub record Standing : Type 0 where
+pub record LinkStand : Type 0 where
   pub link : Link
   pub rooms : Rooms
   pub queue : List QueuedProbe
@@ -41,7 +41,7 @@ pub record Watched : Type 0 where
   pub queue : List QueuedProbe
 
 -- of a monitor that is there, with its room
-abbrev pub watched : Stands → Watched
+abbrev pub watched : MonitorStand → Watched
 watched s = record { watch = Present (s .monitor); queue = s .room }
 
 -- where there is no monitor the queue stays
@@ -49,7 +49,7 @@ abbrev pub unwatched : List QueuedProbe → Watched
 unwatched queue = record { watch = Absent; queue = queue }
 
 -- of these parts
-abbrev pub standing : Ledger → Rooms → Watched → Standing
+abbrev pub standing : Ledger → Rooms → Watched → LinkStand
 standing l r w = record { link = record { ledger = l; watch = w .watch }; rooms = r; queue = w .queue }
 
 -- ---- the monitor's part
@@ -102,11 +102,11 @@ ledgerOf l (answer.Served next) = next
 ledgerOf l (answer.Refused n) = l
 
 -- the ledger's answer and the rooms that it is lent; the monitor's refusal is one of its own
-abbrev pub sentResult : Standing → SentProbe → SentResult
+abbrev pub sentResult : LinkStand → SentProbe → SentResult
 sentResult k s = sentTo (watchRefusesSent (k .link .watch) (length (k .queue)) s) (k .link .ledger) (k .rooms .probes) (k .rooms .links) s
 
 -- the link after it; keys, slots and offsets are not lent and stay
-abbrev pub sentLeaves : Standing → SentProbe → SentResult → Standing
+abbrev pub sentLeaves : LinkStand → SentProbe → SentResult → LinkStand
 sentLeaves k s r =
     standing (ledgerOf (k .link .ledger) (r .answer))
     (record { keys = k .rooms .keys; slots = k .rooms .slots; probes = r .probes; offsets = k .rooms .offsets; links = r .links })
@@ -131,12 +131,12 @@ ledgerOfAccept l (accepts.Served next a) = next
 ledgerOfAccept l (accepts.Refused n) = l
 
 -- the ledger's answer and the rooms that it is lent; the monitor's refusal is one of its own
-abbrev pub acceptResult : Standing → Reply → AcceptResult
+abbrev pub acceptResult : LinkStand → Reply → AcceptResult
 acceptResult k a =
     acceptTo (watchRefuses (k .link .watch) (length (k .queue))) (k .link .ledger) (k .rooms .keys) (k .rooms .slots) (k .rooms .probes) (k .rooms .links) a
 
 -- the link after it; the offsets are not lent and stay
-abbrev pub acceptLeaves : Standing → Reply → AcceptResult → Standing
+abbrev pub acceptLeaves : LinkStand → Reply → AcceptResult → LinkStand
 acceptLeaves k a r =
     standing (ledgerOfAccept (k .link .ledger) (r .answer))
     (record { keys = r .keys; slots = r .slots; probes = r .probes; offsets = k .rooms .offsets; links = r .links })
@@ -145,11 +145,11 @@ acceptLeaves k a r =
 -- ---- `observe`: the ledger's alone
 
 -- the ledger's answer and the rooms that it is lent; the monitor refuses nothing
-abbrev pub observeResult : Standing → ReplyObservation → ObserveResult
+abbrev pub observeResult : LinkStand → ReplyObservation → ObserveResult
 observeResult k o = observeTo (k .link .ledger) (k .rooms .keys) (k .rooms .slots) (k .rooms .offsets) (k .rooms .links) o
 
 -- the link after it; keys, probes, monitor and queue stay
-abbrev pub observeLeaves : Standing → ObserveResult → Standing
+abbrev pub observeLeaves : LinkStand → ObserveResult → LinkStand
 observeLeaves k r =
     standing (ledgerOf (k .link .ledger) (r .answer))
     (record { keys = k .rooms .keys; slots = r .slots; probes = k .rooms .probes; offsets = r .offsets; links = r .links })
@@ -158,7 +158,7 @@ observeLeaves k r =
 -- ---- a call
 
 -- the number of its refusal, 0 where it is served
-unfoldable pub refuses : Standing → Call → ℕ
+unfoldable pub refuses : LinkStand → Call → ℕ
 refuses k (Sent s) = number (sentResult k s .answer)
 refuses k (Accept a) = acceptNumber (acceptResult k a .answer)
 refuses k (Observe o) = number (observeResult k o .answer)
@@ -166,7 +166,7 @@ refuses k (Advance t) = watchRefuses (k .link .watch) (length (k .queue))
 refuses k Idle = watchRefuses (k .link .watch) capacity
 
 -- what it leaves
-unfoldable pub after : Standing → Call → Standing
+unfoldable pub after : LinkStand → Call → LinkStand
 after k (Sent s) = sentLeaves k s (sentResult k s)
 after k (Accept a) = acceptLeaves k a (acceptResult k a)
 after k (Observe o) = observeLeaves k (observeResult k o)
@@ -176,7 +176,7 @@ after k Idle = standing (k .link .ledger) (k .rooms) (watchIdle (k .link .watch)
 -- ---- calls one after the other, newest first: each is given what the last one left
 
 -- the link after all of them; a refused one leaves it as it was
-unfoldable pub played : Standing → List Call → Standing
+unfoldable pub played : LinkStand → List Call → LinkStand
 played k [] = k
 played k (c ∷ cs) = after (played k cs) c
 
@@ -186,7 +186,7 @@ keptIf zero c cs = c ∷ cs
 keptIf (suc n) c cs = cs
 
 -- the calls that were served, newest first
-unfoldable pub served : Standing → List Call → List Call
+unfoldable pub served : LinkStand → List Call → List Call
 served k [] = []
 served k (c ∷ cs) = keptIf (refuses (played k cs) c) c (served k cs)
 
@@ -196,6 +196,6 @@ oneIf zero n = n
 oneIf (suc k) n = n + 1
 
 -- how many were turned away: refused, whatever the number
-unfoldable pub turnedAway : Standing → List Call → ℕ
+unfoldable pub turnedAway : LinkStand → List Call → ℕ
 turnedAway k [] = 0
 turnedAway k (c ∷ cs) = oneIf (refuses (played k cs) c) (turnedAway k cs)

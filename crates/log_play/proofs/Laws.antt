@@ -8,7 +8,7 @@ use Rattle.log_whole.specs.declared.PlayedCall.{PlayedCall as Read}
 use Rattle.log_whole.specs.declared.PlayedCall.the-variants as read
 use Rattle.log_whole.specs.Logs.{callAt}
 use Rattle.link_steps.specs.declared.Link.{Link}
-use Rattle.link_steps.specs.Steps.{Standing, refuses, oneIf}
+use Rattle.link_steps.specs.Steps.{LinkStand, refuses, oneIf}
 use Rattle.log_play_parts.specs.Parts.{roomsOf}
 use Rattle.log_play.specs.declared.Step.{Step}
 use Rattle.log_play.specs.declared.Tally.{Tally}
@@ -38,7 +38,7 @@ turned-on : (log : List ℕ) (start t t′ : Tallied) (n : ℕ) → t′ ≡ rec
 turned-on log start t t′ n e _ l = subst (λ (x : Tallied). x .turned ≤ n + 1) (sym e) (recorded-most t (callAt log n) n l)
 
 -- a record that is counted is the tally's next
-counted : (t : Tallied) (r : Read) (step : Step) (left : Standing) (turned : ℕ) → Stepped (t .standing) r step left → turned ≡ oneIf (step .refused) (t .turned) → tallyOf left turned ≡ recorded t r
+counted : (t : Tallied) (r : Read) (step : Step) (left : LinkStand) (turned : ℕ) → Stepped (t .standing) r step left → turned ≡ oneIf (step .refused) (t .turned) → tallyOf left turned ≡ recorded t r
 counted t read.Nothing step left turned h e = λ j. tallyOf (h .stands j) ((e ∙ ap (λ (n : ℕ). oneIf n (t .turned)) (h .refused)) j)
 counted t (read.Call c) step left turned h e = λ j. tallyOf (h .stands j) ((e ∙ ap (λ (n : ℕ). oneIf n (t .turned)) (h .refused)) j)
 

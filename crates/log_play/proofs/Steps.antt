@@ -10,14 +10,14 @@ use Rattle.probe_queue.specs.declared.QueuedProbe.{QueuedProbe}
 use Rattle.ledger_state.specs.declared.Ledger.{Ledger}
 use Rattle.ledger_steps.specs.Rooms.{Rooms}
 use Rattle.monitor.specs.declared.Monitor.{Monitor}
-use Rattle.monitor.specs.Operations.{Stand, Leaves, sentIf, replyIf, advanceIf}
+use Rattle.monitor.specs.Operations.{MonitorStand, Leaves, sentIf, replyIf, advanceIf}
 use Rattle.log_whole.specs.declared.PlayedCall.{PlayedCall as Read}
 use Rattle.log_whole.specs.declared.PlayedCall.the-variants as read
 use Rattle.log_whole.specs.Logs.{callAt}
 use Rattle.link_steps.specs.declared.Link.{Link}
 use Rattle.link_steps.specs.declared.Watch.{Watch}
 use Rattle.link_steps.specs.declared.Watch.the-variants.{Absent, Present}
-use Rattle.link_steps.specs.Steps.{Standing, after, refuses}
+use Rattle.link_steps.specs.Steps.{LinkStand, after, refuses}
 use Rattle.log_play_parts.specs.declared.Part.{Part}
 use Rattle.log_play_parts.specs.Parts.{roomsOf, otherOf, Parted, parted, partOf, monitorOf, goesOn, kindOf, sequenceOf, timeOf, watchAfter}
 use Rattle.log_play_turn.specs.Turn.{idledIf}
@@ -25,20 +25,20 @@ use Rattle.log_play.specs.declared.Step.{Step}
 use Rattle.log_play.specs.Tally.{standingOf, afterRead, refusesRead, Stepped}
 
 -- the monitor's three calls in a row, each with whether it goes on
-abbrev three : Bool → Bool → Bool → Monitor → List QueuedProbe → ℕ → ℕ → Stand
+abbrev three : Bool → Bool → Bool → Monitor → List QueuedProbe → ℕ → ℕ → MonitorStand
 three g₁ g₂ g₃ m queue s t =
     let x = sentIf g₁ m queue s t in
     let y = replyIf g₂ (x .monitor) (x .room) s in
     advanceIf g₃ (y .monitor) (y .room) t
 
 -- the record from its parts
-abbrev joined : Watch → Read → Parted → Stand → Standing
+abbrev joined : Watch → Read → Parted → MonitorStand → LinkStand
 joined w r p x = standingOf (record { ledger = p .part .ledger; watch = watchAfter w (idledIf (eqb (kindOf r) 5) (x .monitor)) }) (x .room) (p .rooms)
 
-abbrev partsOf : Standing → Read → Parted
+abbrev partsOf : LinkStand → Read → Parted
 partsOf k r = partOf (otherOf (k .link .watch) r (length (k .queue))) (k .link .ledger) (k .rooms) r
 
-abbrev threeOf : Standing → Read → Stand
+abbrev threeOf : LinkStand → Read → MonitorStand
 threeOf k r =
     let w = k .link .watch in
     let go = partsOf k r .part .go in
@@ -61,7 +61,7 @@ joins (Present m) l rooms queue (read.Call (call.Advance t)) = refl
 joins Absent l rooms queue (read.Call call.Idle) = refl
 joins (Present m) l rooms queue (read.Call call.Idle) = refl
 
-numbers : (k : Standing) (r : Read) → partsOf k r .part .refused ≡ refusesRead k r
+numbers : (k : LinkStand) (r : Read) → partsOf k r .part .refused ≡ refusesRead k r
 unfolding refuses
 numbers k read.Nothing = refl
 numbers k (read.Call (call.Sent s)) = refl
@@ -85,7 +85,7 @@ steps link log i keys slots probes offsets links queue r other part keys′ slot
     let w = link .watch in
     let parts : parted part left ≡ partsOf k r = ep ∙ ap (λ (n : ℕ). partOf n (link .ledger) (k .rooms) r) eo in
     -- the monitor and the queue that the three calls leave
-    let x : Stand = record { monitor = third; room = queue₃ } in
+    let x : MonitorStand = record { monitor = third; room = queue₃ } in
     let last : x ≡ three g₁ g₂ g₃ m queue s t =
     (λ j. record { monitor = l₃ .0 j; room = l₃ .1 j })
     ∙ (λ j. advanceIf g₃ (l₂ .0 j) (l₂ .1 j) t)

@@ -10,20 +10,20 @@ use Rattle.log_whole.specs.declared.PlayedCall.{PlayedCall}
 use Rattle.log_whole.specs.declared.PlayedCall.the-variants as read
 use Rattle.log_whole.specs.Logs.{callAt}
 use Rattle.link_steps.specs.declared.Link.{Link}
-use Rattle.link_steps.specs.Steps.{Standing, refuses, after, oneIf}
+use Rattle.link_steps.specs.Steps.{LinkStand, refuses, after, oneIf}
 use Rattle.log_play.specs.declared.Step.{Step}
 
 -- a link with its queue and its ledger's rooms
-abbrev pub standingOf : Link → List QueuedProbe → Rooms → Standing
+abbrev pub standingOf : Link → List QueuedProbe → Rooms → LinkStand
 standingOf link queue rooms = record { link = link; rooms = rooms; queue = queue }
 
 -- a link with all of its rooms, and how many records were turned away
 pub record Tallied : Type 0 where
-  pub standing : Standing
+  pub standing : LinkStand
   pub turned : ℕ
 
 -- these
-abbrev pub tallyOf : Standing → ℕ → Tallied
+abbrev pub tallyOf : LinkStand → ℕ → Tallied
 tallyOf k n = record { standing = k; turned = n }
 
 -- one call
@@ -43,16 +43,16 @@ tallied log t (suc n) = recorded (tallied log t n) (callAt log n)
 -- ---- one record, as the code has it
 
 -- what it leaves: nothing is changed where the log has no such record
-abbrev pub afterRead : Standing → PlayedCall → Standing
+abbrev pub afterRead : LinkStand → PlayedCall → LinkStand
 afterRead k read.Nothing = k
 afterRead k (read.Call c) = after k c
 
 -- why it is refused, or 0
-abbrev pub refusesRead : Standing → PlayedCall → ℕ
+abbrev pub refusesRead : LinkStand → PlayedCall → ℕ
 refusesRead k read.Nothing = 0
 refusesRead k (read.Call c) = refuses k c
 
 -- both, of a step and what it left
-pub record Stepped (before : Standing) (r : PlayedCall) (s : Step) (left : Standing) : Type 0 where
+pub record Stepped (before : LinkStand) (r : PlayedCall) (s : Step) (left : LinkStand) : Type 0 where
   pub stands : left ≡ afterRead before r
   pub refused : s .refused ≡ refusesRead before r

@@ -11,11 +11,11 @@ use Rattle.monitor.specs.declared.Monitor.{Monitor}
 use Rattle.monitor.specs.declared.MonitorAnswer.{MonitorAnswer}
 use Rattle.monitor.specs.declared.Deadline.{Deadline}
 use Rattle.monitor.specs.Refusals.{refusalOf, refusalOfSent}
-use Rattle.monitor.specs.Operations.{Stand, Leaves, sentIf, replyIf, advanceIf}
+use Rattle.monitor.specs.Operations.{MonitorStand, Leaves, sentIf, replyIf, advanceIf}
 use Rattle.monitor.specs.Answers.{Ends, outcome, answered, sentTo, replyTo, advanceTo, deadlineOf}
 use Rattle.monitor.specs.Parts.{deadlineAt}
 
-answers : (refusal : ℕ) (stand : Stand) (refused : ℕ) (next : Monitor) (zs : List QueuedProbe) (r : MonitorAnswer) → refused ≡ refusal → Leaves stand next zs → r ≡ answered refused next → Ends (outcome refusal stand) r zs
+answers : (refusal : ℕ) (stand : MonitorStand) (refused : ℕ) (next : Monitor) (zs : List QueuedProbe) (r : MonitorAnswer) → refused ≡ refusal → Leaves stand next zs → r ≡ answered refused next → Ends (outcome refusal stand) r zs
 answers refusal stand refused next zs r ef l er = (er ∙ ap (λ (n : ℕ). answered n next) ef ∙ ap (answered refusal) (l .0), l .1)
 
 pub sent-answers : (m : Monitor) (ys : List QueuedProbe) (s t : ℕ) (refused : ℕ) (next : Monitor) (zs : List QueuedProbe) (r : MonitorAnswer) → refused ≡ refusalOfSent m (length ys) t → Leaves (sentIf true m ys s t) next zs → r ≡ answered refused next → Ends (sentTo m ys s t) r zs

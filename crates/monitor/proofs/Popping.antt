@@ -16,7 +16,7 @@ use Rattle.monitor.specs.declared.Monitor.{Monitor}
 use Rattle.monitor.specs.declared.Summary.{Summary}
 use Rattle.monitor.specs.Refusals.{served, refusalOf}
 use Rattle.monitor.specs.States.{loses}
-use Rattle.monitor.specs.Operations.{Stand, Leaves, ascending, repeated, standing, pops, due, advanceOn, unchanged, advanceIf}
+use Rattle.monitor.specs.Operations.{MonitorStand, Leaves, ascending, repeated, standing, pops, due, advanceOn, unchanged, advanceIf}
 use Rattle.monitor.specs.Parts.{ringIf, settled}
 use Rattle.monitor.proofs.Chosen.{chosen, passed}
 use Rattle.monitor.proofs.Served.{serves-none, served-zero, placed}
@@ -61,7 +61,7 @@ pub rests : (go : Bool) (m : Monitor) (n : ℕ) (serves : Bool) (ring : QueueRin
 rests go m n serves ring count rest again es er l et ea = remains m ring count rest again (held go m n serves ring es er) l et ea
 
 -- pops of the monitor's ring are those of `pops`
-pub popping : (m : Monitor) (ys : List QueuedProbe) (s : Summary) (n : ℕ) (X : Stand) (ring : QueueRing) (count : ℕ) (rest : QueueRing) (again : ℕ) (zs : List QueuedProbe) (r : Monitor)
+pub popping : (m : Monitor) (ys : List QueuedProbe) (s : Summary) (n : ℕ) (X : MonitorStand) (ring : QueueRing) (count : ℕ) (rest : QueueRing) (again : ℕ) (zs : List QueuedProbe) (r : Monitor)
     → X ≡ pops m ys n s → ring ≡ m .ring → count ≡ n → rest ≡ after ring count → again ≡ repeated m count → zs ≡ popped ys ring rest again → r ≡ standing m s rest → Leaves X r zs
 popping m ys s n X ring count rest again zs r ex er ec et ea ez es =
     let el : rest ≡ after (m .ring) n = et ∙ ap (λ (g : QueueRing). after g count) er ∙ ap (after (m .ring)) ec in
@@ -74,7 +74,7 @@ choose-same true n e = refl
 choose-same false n e = e
 
 -- pops of an empty ring change nothing
-pub idling : (m : Monitor) (ys : List QueuedProbe) (X : Stand) (ring : QueueRing) (count : ℕ) (rest : QueueRing) (again : ℕ) (zs : List QueuedProbe) (r : Monitor)
+pub idling : (m : Monitor) (ys : List QueuedProbe) (X : MonitorStand) (ring : QueueRing) (count : ℕ) (rest : QueueRing) (again : ℕ) (zs : List QueuedProbe) (r : Monitor)
     → X ≡ unchanged m ys → count ≡ 0 → again ≡ repeated m count → zs ≡ popped ys ring rest again → r ≡ m → Leaves X r zs
 idling m ys X ring count rest again zs r ex ec ea ez es =
     leave X (unchanged m ys) r zs ex es (ez ∙ ap (popped ys ring rest) (ea ∙ choose-same (ascending m) count ec))

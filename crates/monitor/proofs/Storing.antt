@@ -11,14 +11,14 @@ use Rattle.probe_queue.specs.declared.QueuedProbe.{QueuedProbe}
 use Rattle.probe_queue.specs.Queue.{place}
 use Rattle.monitor.specs.declared.Monitor.{Monitor}
 use Rattle.monitor.specs.Refusals.{served, refusalOfSent, passing}
-use Rattle.monitor.specs.Operations.{Stand, Leaves, queues, starts, sentOn, unchanged, sentIf}
+use Rattle.monitor.specs.Operations.{MonitorStand, Leaves, queues, starts, sentOn, unchanged, sentIf}
 use Rattle.monitor.specs.Parts.{backOf, queuedProbeOf, queuedBy}
 use Rattle.monitor.proofs.Chosen.{chosen, passed, and-left, and-none}
 use Rattle.monitor.proofs.Served.{serves-sent-none, served-zero}
 
 -- what is left, by another description of it
-pub leave : (X Y : Stand) (r : Monitor) (zs : List QueuedProbe) → X ≡ Y → r ≡ Y .monitor → zs ≡ Y .room → Leaves X r zs
-leave X Y r zs e a b = (a ∙ sym (ap (λ (z : Stand). z .monitor) e), b ∙ sym (ap (λ (z : Stand). z .room) e))
+pub leave : (X Y : MonitorStand) (r : Monitor) (zs : List QueuedProbe) → X ≡ Y → r ≡ Y .monitor → zs ≡ Y .room → Leaves X r zs
+leave X Y r zs e a b = (a ∙ sym (ap (λ (z : MonitorStand). z .monitor) e), b ∙ sym (ap (λ (z : MonitorStand). z .room) e))
 
 set-past : (xs : List QueuedProbe) (n : ℕ) (x : QueuedProbe) → length xs ≤ n → set xs n x ≡ xs
 set-past [] n x l = refl
@@ -35,7 +35,7 @@ module _ (go : Bool) (m : Monitor) (ys : List QueuedProbe) (s t : ℕ) where
   abbrev Q : Bool
   Q = ltb 0 (m .timeout)
 
-  abbrev started : Stand
+  abbrev started : MonitorStand
   started = record { monitor = starts m; room = ys }
 
   module _ (at : ℕ) (p : QueuedProbe) (zs : List QueuedProbe) (r : Monitor) (ea : at ≡ backOf go m (length ys) t) (ep : p ≡ queuedProbeOf m s t) (ez : zs ≡ set ys at p) (er : r ≡ queuedBy go m (length ys) s t) where

@@ -15,7 +15,7 @@ use Rattle.monitor.specs.declared.MonitorAnswer.the-variants.{Served, Re
 use Rattle.monitor.specs.declared.Deadline.{Deadline}
 use Rattle.monitor.specs.declared.Deadline.the-variants.{Absent, At, Refused as Denied}
 use Rattle.monitor.specs.Refusals.{misplaced, refusalOf, refusalOfSent}
-use Rattle.monitor.specs.Operations.{Stand, sentIf, replyIf, advanceIf, idleOn}
+use Rattle.monitor.specs.Operations.{MonitorStand, sentIf, replyIf, advanceIf, idleOn}
 
 -- document 01's number of an answer, 0 where the call was served
 abbrev pub number : MonitorAnswer → ℕ
@@ -36,7 +36,7 @@ abbrev pub Ends : Outcome → MonitorAnswer → List QueuedProbe → Type 0
 Ends outcome r room = (r ≡ outcome .answer) × (room ≡ outcome .room)
 
 -- a refusal returns its number only and changes nothing
-abbrev pub outcome : ℕ → Stand → Outcome
+abbrev pub outcome : ℕ → MonitorStand → Outcome
 outcome refusal stand = record { answer = answered refusal (stand .monitor); room = stand .room }
 
 -- `sent` of a sequence at a send time

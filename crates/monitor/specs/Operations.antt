@@ -18,12 +18,12 @@ use Rattle.monitor.specs.Refusals.{refusalOf, refusalOfSent, served}
 use Rattle.monitor.specs.States.{loses, hears, stops}
 
 -- a monitor with its room
-pub record Stand : Type 0 where
+pub record MonitorStand : Type 0 where
   pub monitor : Monitor
   pub room : List QueuedProbe
 
 -- what a call hands back and leaves in the room
-abbrev pub Leaves : Stand → Monitor → List QueuedProbe → Type 0
+abbrev pub Leaves : MonitorStand → Monitor → List QueuedProbe → Type 0
 Leaves stand m room = (m ≡ stand .monitor) × (room ≡ stand .room)
 
 -- a fresh monitor: threshold 0 counts as 1
@@ -51,7 +51,7 @@ abbrev pub repeated : Monitor → ℕ → ℕ
 repeated m n = choose (ascending m) 0 n
 
 -- n probes are popped from the front, and the summary changes
-abbrev pub pops : Monitor → List QueuedProbe → ℕ → Summary → Stand
+abbrev pub pops : Monitor → List QueuedProbe → ℕ → Summary → MonitorStand
 pops m room n s = record { monitor = standing m s (after (m .ring) n); room = popped room (m .ring) (after (m .ring) n) (repeated m n) }
 
 -- the smaller of two
@@ -63,7 +63,7 @@ abbrev pub runs : Monitor → ℕ → ℕ
 runs m sequence = choose (eqb (m .ring .len) 0) 1 (choose (ltb (m .latest) sequence) (least (m .run) (m .ring .len) + 1) 1)
 
 -- `sent` with timeout above 0 queues the probe and marks its sequence
-abbrev pub queues : Monitor → List QueuedProbe → ℕ → ℕ → Stand
+abbrev pub queues : Monitor → List QueuedProbe → ℕ → ℕ → MonitorStand
 queues m room sequence time =
     record {
       monitor = record { summary = m .summary; timeout = m .timeout; transmitting = true; ring = record { head = m .ring .head; len = m .ring .len + 1 }; run = runs m sequence; latest = sequence };
@@ -75,7 +75,7 @@ abbrev pub starts : Monitor → Monitor
 starts m = record { summary = m .summary; timeout = m .timeout; transmitting = true; ring = m .ring; run = m .run; latest = m .latest }
 
 -- `sent` of a sequence at a send time; with timeout 0 nothing is queued
-unfoldable pub sentOn : Monitor → List QueuedProbe → ℕ → ℕ → Stand
+unfoldable pub sentOn : Monitor → List QueuedProbe → ℕ → ℕ → MonitorStand
 sentOn m room sequence time = choose (ltb 0 (m .timeout)) (queues m room sequence time) (record { monitor = starts m; room = room })
 
 -- where a reply's sequence is looked for: in the whole queue, or where sequences ascend up to the first that is not below it
@@ -89,7 +89,7 @@ taken room search sequence =
     choose (ltb (leading (passes (Unmarked sequence)) (queued room search)) (search .len)) (leading (passes (Until sequence)) (queued room search) + 1) 0
 
 -- a reply while transmitting: pops up to its sequence if that is marked, losses 0, state Active
-unfoldable pub replyOn : Monitor → List QueuedProbe → ℕ → Stand
+unfoldable pub replyOn : Monitor → List QueuedProbe → ℕ → MonitorStand
 replyOn m room sequence = pops m room (taken room (searched m room sequence) sequence) (hears (m .summary))
 
 -- how many front probes have a deadline at or before a time
@@ -97,7 +97,7 @@ abbrev pub due : Monitor → List QueuedProbe → ℕ → ℕ
 due m room time = leading (passes (Due time)) (queued room (m .ring))
 
 -- `advance` pops the front probes that are due, one loss for each while transmitting
-unfoldable pub advanceOn : Monitor → List QueuedProbe → ℕ → Stand
+unfoldable pub advanceOn : Monitor → List QueuedProbe → ℕ → MonitorStand
 advanceOn m room time = pops m room (due m room time) (choose (m .transmitting) (loses (due m room time) (m .summary)) (m .summary))
 
 -- `idle` stops and empties
@@ -105,17 +105,17 @@ unfoldable pub idleOn : Monitor → Monitor
 idleOn m = record { summary = stops (m .transmitting) (m .summary); timeout = m .timeout; transmitting = false; ring = record { head = m .ring .head; len = 0 }; run = m .run; latest = m .latest }
 
 -- nothing is changed
-abbrev pub unchanged : Monitor → List QueuedProbe → Stand
+abbrev pub unchanged : Monitor → List QueuedProbe → MonitorStand
 unchanged m room = record { monitor = m; room = room }
 
 -- the same where whoever calls may not want it to go on, or it is refused
-unfoldable pub sentIf : Bool → Monitor → List QueuedProbe → ℕ → ℕ → Stand
+unfoldable pub sentIf : Bool → Monitor → List QueuedProbe → ℕ → ℕ → MonitorStand
 sentIf go m room sequence time = choose (served go (refusalOfSent m (length room) time)) (sentOn m room sequence time) (unchanged m room)
 
 -- a reply while not transmitting changes nothing
-unfoldable pub replyIf : Bool → Monitor → List QueuedProbe → ℕ → Stand
+unfoldable pub replyIf : Bool → Monitor → List QueuedProbe → ℕ → MonitorStand
 replyIf go m room sequence = choose (served go (refusalOf m (length room)) && m .transmitting) (replyOn m room sequence) (unchanged m room)
 
 -- a refused `advance` changes nothing
-unfoldable pub advanceIf : Bool → Monitor → List QueuedProbe → ℕ → Stand
+unfoldable pub advanceIf : Bool → Monitor → List QueuedProbe → ℕ → MonitorStand
 advanceIf go m room time = choose (served go (refusalOf m (length room))) (advanceOn m room time) (unchanged m room)

@@ -13,7 +13,7 @@ use Rattle.limits.specs.Limits.{capacity}
 use Rattle.probe_queue.specs.declared.QueuedProbe.{QueuedProbe}
 use Rattle.probe_queue.specs.Queue.{choose}
 use Rattle.monitor.specs.declared.State.the-variants.{Failed}
-use Rattle.monitor.specs.Operations.{Stand}
+use Rattle.monitor.specs.Operations.{MonitorStand}
 use Rattle.monitor.specs.States.{mostLosses}
 use Rattle.monitor_model.specs.Plain.{Plain, new, sent, reply, advance, idle, refusal, sentRefusal}
 use Rattle.monitor_model.specs.Playing.{Call, sending, replying, advancing, idling, playPlain, playRing, serve}
@@ -60,7 +60,7 @@ plain-in-time threshold timeout h =
 
 -- ---- the core
 
-seen-next : (x : Stand) (p : Plain) → Next x p → seenStand x ≡ seenPlain p
+seen-next : (x : MonitorStand) (p : Plain) → Next x p → seenStand x ≡ seenPlain p
 seen-next x p n = ap seenPlain (sym (n .1 .0))
 
 pub core-models : Models core AnyCall Next
@@ -83,7 +83,7 @@ core-in-time threshold timeout room h long =
 
 module _ (threshold timeout : ℕ) (room : List QueuedProbe) (h : threshold < 2 ^ 16) (long : length room ≡ capacity) (past : List Call) where
   -- a monitor reached from fresh
-  abbrev reached : Stand
+  abbrev reached : MonitorStand
   reached = played core (freshStand threshold timeout room) past
 
   any : (cs : List Call) → All AnyCall cs

@@ -21,7 +21,7 @@ use Rattle.monitor.specs.declared.Deadline.the-variants.{Absent, At, Refused as
 use Rattle.monitor.specs.declared.MonitorAnswer.the-variants.{Served, Refused}
 use Rattle.monitor.specs.Refusals.{misplaced, counted, passing, refusalOf, refusalOfSent, served}
 use Rattle.monitor.specs.States.{mostLosses, same, losing, enters, loses, hears, stops}
-use Rattle.monitor.specs.Operations.{Stand, pops, due, queues, starts, sentOn, replyOn, advanceOn, idleOn, unchanged, sentIf, replyIf, advanceIf}
+use Rattle.monitor.specs.Operations.{MonitorStand, pops, due, queues, starts, sentOn, replyOn, advanceOn, idleOn, unchanged, sentIf, replyIf, advanceIf}
 use Rattle.monitor.specs.Answers.{outcome, answered, sentTo, replyTo, advanceTo, idleTo, deadlineOf}
 use Rattle.monitor.proofs.Served.{serves-sent-none, roomy}
 use Rattle.monitor_model.specs.Plain.{Marks, Plain, Left, Advanced, popTo, hear, reply, sent, start, queue, advance, advanceBy, idle, deadline, refusal, sentRefusal}
@@ -34,24 +34,24 @@ use Rattle.monitor_model.proofs.Standing.{seen, Kept, Next, popped-next
 use Rattle.monitor_model.proofs.Searching.{takes, within, first-there}
 
 -- ---- what a call hands back, by its refusal's number
-take-by : (x : Stand) (n : ℕ) (on : Stand) (b : Bool) → eqb n 0 ≡ b
+take-by : (x : MonitorStand) (n : ℕ) (on : MonitorStand) (b : Bool) → eqb n 0 ≡ b
     → take x (record { answer = choose b (Served (choose b on (unchanged (x .monitor) (x .room)) .monitor)) (Refused n); room = choose b on (unchanged (x .monitor) (x .room)) .room }) ≡ record { number = n; stand = choose b on x }
 take-by x n on true e = ap (λ (k : ℕ). record { number = k; stand = on }) (sym (eqb-true n 0 e))
 take-by x n on false e = refl
 
-takes-on : (x : Stand) (n : ℕ) (on : Stand) → take x (outcome n (choose (served true n) on (unchanged (x .monitor) (x .room)))) ≡ record { number = n; stand = choose (eqb n 0) on x }
+takes-on : (x : MonitorStand) (n : ℕ) (on : MonitorStand) → take x (outcome n (choose (served true n) on (unchanged (x .monitor) (x .room)))) ≡ record { number = n; stand = choose (eqb n 0) on x }
 unfolding answered
 takes-on x n on = take-by x n on (eqb n 0) refl
 
-idle-by : (x : Stand) (n : ℕ) (m : Monitor) (b : Bool) → eqb n 0 ≡ b → take x (record { answer = choose b (Served m) (Refused n); room = x .room }) ≡ record { number = n; stand = choose b (record { monitor = m; room = x .room }) x }
+idle-by : (x : MonitorStand) (n : ℕ) (m : Monitor) (b : Bool) → eqb n 0 ≡ b → take x (record { answer = choose b (Served m) (Refused n); room = x .room }) ≡ record { number = n; stand = choose b (record { monitor = m; room = x .room }) x }
 idle-by x n m true e = ap (λ (k : ℕ). record { number = k; stand = record { monitor = m; room = x .room } }) (sym (eqb-true n 0 e))
 idle-by x n m false e = refl
 
-both : (a b : Bool) (on off : Stand) → choose (a && b) on off ≡ choose a (choose b on off) off
+both : (a b : Bool) (on off : MonitorStand) → choose (a && b) on off ≡ choose a (choose b on off) off
 both true b on off = refl
 both false b on off = refl
 
-module _ (x : Stand) (marks : Marks) (kept : Kept x marks) where
+module _ (x : MonitorStand) (marks : Marks) (kept : Kept x marks) where
   abbrev m : Monitor
   m = x .monitor
 
@@ -96,7 +96,7 @@ module _ (x : Stand) (marks : Marks) (kept : Kept x marks) where
   pub stays : Next x p
   stays = (marks, (refl, kept))
 
-  serve-or-not : (b : Bool) (on : Stand) (next : Plain) → (b ≡ true → Next on next) → Next (choose b on x) (choose b next p)
+  serve-or-not : (b : Bool) (on : MonitorStand) (next : Plain) → (b ≡ true → Next on next) → Next (choose b on x) (choose b next p)
   serve-or-not true on next i = i refl
   serve-or-not false on next i = stays
 
@@ -170,7 +170,7 @@ module _ (x : Stand) (marks : Marks) (kept : Kept x marks) where
   abbrev pub Agrees : Call → Type 0
   Agrees c = (playRing c x .number ≡ playPlain c p .number) × Next (playRing c x .stand) (playPlain c p .plain)
 
-  agree : (c : Call) (n : ℕ) (on : Stand) (next : Plain) → playRing c x ≡ record { number = n; stand = choose (eqb n 0) on x } → playPlain c p ≡ serve n p next → (n ≡ 0 → Next on next) → Agrees c
+  agree : (c : Call) (n : ℕ) (on : MonitorStand) (next : Plain) → playRing c x ≡ record { number = n; stand = choose (eqb n 0) on x } → playPlain c p ≡ serve n p next → (n ≡ 0 → Next on next) → Agrees c
   agree c n on next er ep i = (
     ap (λ (r : RingStep). r .number) er ∙ sym (ap (λ (q : PlainStep). q .number) ep),
     subst (λ (q : PlainStep). Next (playRing c x .stand) (q .plain)) (sym ep) (subst (λ (r : RingStep). Next (r .stand) (choose (eqb n 0) next p)) (sym er) (serve-or-not (eqb n 0) on next (λ e. i (eqb-true n 0 e)))),
@@ -183,7 +183,7 @@ module _ (x : Stand) (marks : Marks) (kept : Kept x marks) where
       (ap (λ (n : ℕ). serve n p (sent p s t)) (sym (same-sent-refusal t))) (sent-next s t)
   agrees (replying s) =
       agree (replying s) (refusalOf m (length (x .room))) (choose (m .transmitting) (replyOn m (x .room) s) (unchanged m (x .room))) (reply p s)
-      (ap (λ (y : Stand). take x (outcome (refusalOf m (length (x .room))) y)) (both (served true (refusalOf m (length (x .room)))) (m .transmitting) (replyOn m (x .room) s) (unchanged m (x .room)))
+      (ap (λ (y : MonitorStand). take x (outcome (refusalOf m (length (x .room))) y)) (both (served true (refusalOf m (length (x .room)))) (m .transmitting) (replyOn m (x .room) s) (unchanged m (x .room)))
       ∙ takes-on x (refusalOf m (length (x .room))) (choose (m .transmitting) (replyOn m (x .room) s) (unchanged m (x .room))))
       (ap (λ (n : ℕ). serve n p (reply p s)) (sym same-refusal)) (λ e. reply-by s (m .transmitting))
   agrees (advancing t) =

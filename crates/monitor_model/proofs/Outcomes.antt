@@ -29,7 +29,7 @@ use Rattle.monitor.specs.declared.Monitor.{Monitor}
 use Rattle.monitor.specs.declared.MonitorAnswer.{MonitorAnswer}
 use Rattle.monitor.specs.declared.MonitorAnswer.the-variants.{Served, Refused}
 use Rattle.monitor.specs.Refusals.{refusalOf, refusalOfSent, served}
-use Rattle.monitor.specs.Operations.{Stand, sentOn, replyOn, advanceOn, idleOn, unchanged, sentIf, replyIf, advanceIf}
+use Rattle.monitor.specs.Operations.{MonitorStand, sentOn, replyOn, advanceOn, idleOn, unchanged, sentIf, replyIf, advanceIf}
 use Rattle.monitor.specs.Answers.{Outcome, Ends, outcome, number, answered, sentTo, replyTo, advanceTo, idleTo}
 use Rattle.monitor.proofs.Monitor.sent as sent
 use Rattle.monitor.proofs.Monitor.reply as reply
@@ -105,14 +105,14 @@ answered-by : (n : ℕ) (m : Monitor) → eqb n 0 ≡ false → answered n m ≡
 unfolding answered
 answered-by n m e = ap (λ (b : Bool). choose b (Served m) (Refused n)) e
 
-refuses : (n : ℕ) (on off : Stand) → eqb n 0 ≡ false → Untouched n (off .room) (outcome n (choose (served true n) on off))
+refuses : (n : ℕ) (on off : MonitorStand) → eqb n 0 ≡ false → Untouched n (off .room) (outcome n (choose (served true n) on off))
 refuses n on off e = (answered-by n (choose (served true n) on off .monitor) e, ap (λ (b : Bool). choose b on off .room) e)
 
 pub sent-refused : (m : Monitor) (room : List QueuedProbe) (s t : ℕ) → (refusalOfSent m (length room) t ≡ 0 → ⊥) → Untouched (refusalOfSent m (length room) t) room (sentTo m room s t)
 unfolding sentTo sentIf
 sent-refused m room s t no-zero = refuses (refusalOfSent m (length room) t) (sentOn m room s t) (unchanged m room) (ne-eqb _ _ no-zero)
 
-both : (a b : Bool) (on off : Stand) → choose (a && b) on off ≡ choose a (choose b on off) off
+both : (a b : Bool) (on off : MonitorStand) → choose (a && b) on off ≡ choose a (choose b on off) off
 both true b on off = refl
 both false b on off = refl
 
@@ -121,7 +121,7 @@ unfolding replyTo replyIf
 reply-refused m room s no-zero =
     let n = refusalOf m (length room) in
     let e : eqb n 0 ≡ false = ne-eqb n 0 no-zero in
-    (answered-by n _ e, ap (λ (y : Stand). y .room) (both (served true n) (m .transmitting) (replyOn m room s) (unchanged m room)) ∙ ap (λ (b : Bool). choose b (choose (m .transmitting) (replyOn m room s) (unchanged m room)) (unchanged m room) .room) e)
+    (answered-by n _ e, ap (λ (y : MonitorStand). y .room) (both (served true n) (m .transmitting) (replyOn m room s) (unchanged m room)) ∙ ap (λ (b : Bool). choose b (choose (m .transmitting) (replyOn m room s) (unchanged m room)) (unchanged m room) .room) e)
 
 pub advance-refused : (m : Monitor) (room : List QueuedProbe) (t : ℕ) → (refusalOf m (length room) ≡ 0 → ⊥) → Untouched (refusalOf m (length room)) room (advanceTo m room t)
 unfolding advanceTo advanceIf

@@ -16,7 +16,7 @@ use Rattle.probe_queue.specs.declared.QueueRing.{QueueRing}
 use Rattle.probe_queue.specs.declared.Rule.the-variants.{Below, Until, Unmarked}
 use Rattle.probe_queue.specs.Queue.{choose, at, queued, leading, passes}
 use Rattle.monitor.specs.declared.Monitor.{Monitor}
-use Rattle.monitor.specs.Operations.{Stand, ascending, least, searched, taken}
+use Rattle.monitor.specs.Operations.{MonitorStand, ascending, least, searched, taken}
 use Rattle.monitor_model.specs.Plain.{Marks}
 use Rattle.monitor_model.specs.Playing.{marked}
 use Rattle.monitor_model.proofs.Lists.{tabulate-length, take-tabulate, leading-append}
@@ -33,7 +33,7 @@ take-least : (xs : List QueuedProbe) (n : ℕ) (t : Bool) → leb (n + 1) (lengt
 take-least xs n true e = ap (λ (k : ℕ). take k xs) (add-one n)
 take-least xs n false e = take-all (length xs) xs (le-refl (length xs)) ∙ sym (take-all (suc n) xs (omega (arith, leb-false (n + 1) (length xs) e)))
 
-module _ (x : Stand) (marks : Marks) (kept : Kept x marks) (s : ℕ) where
+module _ (x : MonitorStand) (marks : Marks) (kept : Kept x marks) (s : ℕ) where
   abbrev m : Monitor
   m = x .monitor
 

@@ -16,7 +16,7 @@ use Rattle.probe_queue.specs.Queue.{choose, Held, place, at, queued, unmark, af
 use Rattle.monitor.specs.declared.Monitor.{Monitor}
 use Rattle.monitor.specs.declared.Summary.{Summary}
 use Rattle.monitor.specs.States.{mostLosses}
-use Rattle.monitor.specs.Operations.{Stand, ascending, repeated, pops, least, runs, queues}
+use Rattle.monitor.specs.Operations.{MonitorStand, ascending, repeated, pops, least, runs, queues}
 use Rattle.monitor_model.specs.Plain.{Sent, Marks, Plain, insert, queue}
 use Rattle.monitor_model.specs.Playing.{plainProbeOf, marked}
 use Rattle.monitor_model.proofs.Lists.{tabulate-length, take-tabulate}
@@ -25,12 +25,12 @@ use Rattle.monitor_model.proofs.Rising.{Rises, Last, rises-later, last-
 use Rattle.monitor_model.proofs.Marks.{seqs, removes, pops-slow, pops-fast, inserts}
 
 -- the plain state that a monitor with its room shows, with a set of marks
-abbrev pub seen : Stand → Marks → Plain
+abbrev pub seen : MonitorStand → Marks → Plain
 seen x marks =
     record { summary = x .monitor .summary; timeout = x .monitor .timeout; transmitting = x .monitor .transmitting; probes = map plainProbeOf (queued (x .room) (x .monitor .ring)); received = marks }
 
 -- what holds after any calls from fresh
-pub record Kept (x : Stand) (marks : Marks) : Type 0 where
+pub record Kept (x : MonitorStand) (marks : Marks) : Type 0 where
   pub held : Held (x .monitor .ring)
   pub long : length (x .room) ≡ capacity
   pub few : x .monitor .summary .«consecutive_losses» ≤ mostLosses
@@ -39,7 +39,7 @@ pub record Kept (x : Stand) (marks : Marks) : Type 0 where
   pub last : Last (x .monitor .latest) (seqs (queued (x .room) (x .monitor .ring)))
 
 -- a plain state is shown, and all that holds is kept
-abbrev pub Next : Stand → Plain → Type 0
+abbrev pub Next : MonitorStand → Plain → Type 0
 Next x p = (marks : Marks) × ((p ≡ seen x marks) × Kept x marks)
 
 -- ---- unmarking shows in the marks alone
@@ -85,7 +85,7 @@ seqs-length [] = refl
 seqs-length (x ∷ xs) = ap suc (seqs-length xs)
 
 -- ---- n pops
-module _ (x : Stand) (marks : Marks) (kept : Kept x marks) (n : ℕ) (l : n ≤ x .monitor .ring .len) (s : Summary) (few : s .«consecutive_losses» ≤ mostLosses) where
+module _ (x : MonitorStand) (marks : Marks) (kept : Kept x marks) (n : ℕ) (l : n ≤ x .monitor .ring .len) (s : Summary) (few : s .«consecutive_losses» ≤ mostLosses) where
   abbrev m : Monitor
   m = x .monitor
 
@@ -173,7 +173,7 @@ run-kept len run latest ns v true b e r h ea eb = run-one len run ns v e
 run-kept len run latest ns v false true e r h ea eb = run-more len run latest ns v (leb run len) e refl r h (ltb-true latest v eb)
 run-kept len run latest ns v false false e r h ea eb = run-one len run ns v e
 
-module _ (x : Stand) (marks : Marks) (kept : Kept x marks) (s t : ℕ) (ll : x .monitor .ring .len < capacity) where
+module _ (x : MonitorStand) (marks : Marks) (kept : Kept x marks) (s t : ℕ) (ll : x .monitor .ring .len < capacity) where
   abbrev mon : Monitor
   mon = x .monitor
 

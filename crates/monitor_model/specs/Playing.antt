@@ -9,7 +9,7 @@ use Rattle.probe_queue.specs.Queue.{choose, queued, isMarked}
 use Rattle.monitor.specs.declared.MonitorAnswer.{MonitorAnswer}
 use Rattle.monitor.specs.declared.MonitorAnswer.the-variants.{Served, Refused}
 use Rattle.monitor.specs.declared.Summary.{Summary}
-use Rattle.monitor.specs.Operations.{Stand}
+use Rattle.monitor.specs.Operations.{MonitorStand}
 use Rattle.monitor.specs.Answers.{Outcome, number, sentTo, replyTo, advanceTo, idleTo}
 use Rattle.monitor_model.specs.Plain.{Sent, Plain, sent, reply, advance, idle, refusal, sentRefusal}
 
@@ -39,19 +39,19 @@ playPlain idling p = serve (refusal p) p (idle p)
 -- the same of the monitor: the host keeps the monitor that it had where the answer is a refusal
 pub record RingStep : Type 0 where
   pub number : ℕ
-  pub stand : Stand
+  pub stand : MonitorStand
 
 -- what the host then holds: the monitor that is handed back, or its own where refused; the room as it was left
-abbrev pub keep : Stand → MonitorAnswer → List QueuedProbe → Stand
+abbrev pub keep : MonitorStand → MonitorAnswer → List QueuedProbe → MonitorStand
 keep x (Served m) room = record { monitor = m; room = room }
 keep x (Refused n) room = record { monitor = x .monitor; room = room }
 
 -- a call's number, and what the host then holds
-abbrev pub take : Stand → Outcome → RingStep
+abbrev pub take : MonitorStand → Outcome → RingStep
 take x o = record { number = number (o .answer); stand = keep x (o .answer) (o .room) }
 
 -- one call on the monitor with its room; `idle` is lent no room
-unfoldable pub playRing : Call → Stand → RingStep
+unfoldable pub playRing : Call → MonitorStand → RingStep
 playRing (sending s t) x = take x (sentTo (x .monitor) (x .room) s t)
 playRing (replying s) x = take x (replyTo (x .monitor) (x .room) s)
 playRing (advancing t) x = take x (advanceTo (x .monitor) (x .room) t)
@@ -63,7 +63,7 @@ plainNumbers [] p = []
 plainNumbers (c ∷ cs) p = playPlain c p .number ∷ plainNumbers cs (playPlain c p .plain)
 
 -- the same of the monitor with its room
-unfoldable pub ringNumbers : List Call → Stand → List ℕ
+unfoldable pub ringNumbers : List Call → MonitorStand → List ℕ
 ringNumbers [] x = []
 ringNumbers (c ∷ cs) x = playRing c x .number ∷ ringNumbers cs (playRing c x .stand)
 
@@ -73,7 +73,7 @@ plainAfter [] p = p
 plainAfter (c ∷ cs) p = plainAfter cs (playPlain c p .plain)
 
 -- the same of the monitor with its room
-unfoldable pub ringAfter : List Call → Stand → Stand
+unfoldable pub ringAfter : List Call → MonitorStand → MonitorStand
 ringAfter [] x = x
 ringAfter (c ∷ cs) x = ringAfter cs (playRing c x .stand)
 
@@ -87,7 +87,7 @@ marked s [] = false
 marked s (p ∷ ps) = choose (eqb (p .sequence) s) (choose (isMarked p) true (marked s ps)) (marked s ps)
 
 -- the monitor with its room shows the plain state: its summary, its queued probes and its set of marked sequences
-pub record Shows (x : Stand) (p : Plain) : Type 0 where
+pub record Shows (x : MonitorStand) (p : Plain) : Type 0 where
   pub summary : x .monitor .summary ≡ p .summary
   pub timeout : x .monitor .timeout ≡ p .timeout
   pub transmitting : x .monitor .transmitting ≡ p .transmitting

@@ -25,7 +25,7 @@ use Rattle.history.specs.Given.{packetOf}
 use Rattle.history.specs.Ledger.{Event, remembered, noPacket, Class, duplicate, unknown, unique, lastAccepted, held, ready, afterReply, replyClass, events, count}
 use Rattle.history.specs.FollowUps.{slotAt, Measured, measured}
 use Rattle.history.specs.Figures.{delays, estimates, figuresOf, qualityOf}
-use Rattle.ledger_steps.specs.Rooms.{Rooms, Stand}
+use Rattle.ledger_steps.specs.Rooms.{Rooms, LedgerStand}
 use Rattle.ledger_steps.specs.Sent.{sentIn}
 use Rattle.ledger_steps.specs.Accept.{readied, uniqueIn}
 use Rattle.reply_history.specs.Fits.{KeyFits}
@@ -69,7 +69,7 @@ module _ (N copies : ℕ) where
 
   -- ---- sent, and the monitor's own calls
 
-  module _ (byKey : ReplyKey → ℕ) (byNumber : ℕ → ℕ) (h : List Call) (s : Stand) (f : FollowsFollow N copies h s) where
+  module _ (byKey : ReplyKey → ℕ) (byNumber : ℕ → ℕ) (h : List Call) (s : LedgerStand) (f : FollowsFollow N copies h s) where
     pub follows-sent : (p : SentProbe) → FollowsFollow N copies (Sent p ∷ h) (withSent s (sentOf N byKey byNumber s p))
     unfolding sentIn count events slotAt measured
     follows-sent p =
@@ -110,7 +110,7 @@ module _ (N copies : ℕ) where
   reply-measured unique es k p = ready-measured es k p
 
   module _ (some-room : 0 < N) (byKey : ReplyKey → ℕ) (byNumber : ℕ → ℕ) (key-below : (k : ReplyKey) → byKey k < N) (number-below : (r : ℕ) → byNumber r < N)
-      (h : List Call) (s : Stand) (a : Reply) (fits : KeyFits (a .key)) (r : RepliesFollow N byKey byNumber copies h s) (f : FollowsFollow N copies h s) where
+      (h : List Call) (s : LedgerStand) (a : Reply) (fits : KeyFits (a .key)) (r : RepliesFollow N byKey byNumber copies h s) (f : FollowsFollow N copies h s) where
     abbrev es : List Event
     es = events N h
 
@@ -128,7 +128,7 @@ module _ (N copies : ℕ) where
           quality = f .figures .quality ∙ ap (λ (ms : List Measured). qualityOf (estimates ms)) (sym e);
         }
 
-    abbrev outcome : Class → Stand
+    abbrev outcome : Class → LedgerStand
     outcome x = withAccept s (by N some-room byKey byNumber copies h s a fits r x)
 
     -- the events by the class

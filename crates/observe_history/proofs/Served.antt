@@ -7,7 +7,7 @@ use Rattle.limits.specs.Limits.{capacity}
 use Rattle.call_types.specs.declared.ReplyObservation.{ReplyObservation}
 use Rattle.ranges.specs.Ranges.{inRange}
 use Rattle.ledger_state.specs.Refusal.{firstRefusal, sized, ringsFit, roomForCall}
-use Rattle.ledger_steps.specs.Rooms.{Stand}
+use Rattle.ledger_steps.specs.Rooms.{LedgerStand}
 use Rattle.ledger_steps.specs.Refusals.{awaitsKey, refusalOfObserve}
 use Rattle.observe_history.specs.FollowUps.{QualityFits}
 use Rattle.observe_history.specs.Follows.{ObserveServed}
@@ -19,7 +19,7 @@ passed true true false awaiting e = absurd (omega (arith, e))
 passed true true true false e = absurd (omega (arith, e))
 passed true true true true e = (refl, refl)
 
-pub observe-served : (s : Stand) (o : ReplyObservation)
+pub observe-served : (s : LedgerStand) (o : ReplyObservation)
     → refusalOfObserve (s .ledger) (s .rooms .keys) (length (s .rooms .slots)) (length (s .rooms .offsets)) (length (s .rooms .links)) o ≡ 0
     → QualityFits (o .quality) → ObserveServed capacity s o
 unfolding refusalOfObserve

@@ -20,7 +20,7 @@ use Rattle.key_ring.specs.Keys.{numbersOf}
 use Rattle.key_ring.specs.Table.{newestIs, hashOf}
 use Rattle.history.specs.Ledger.{copiesOf}
 use Rattle.history.specs.Figures.{roundTripFigures, delayFigures}
-use Rattle.ledger_steps.specs.Rooms.{Rooms, Stand}
+use Rattle.ledger_steps.specs.Rooms.{Rooms, LedgerStand}
 use Rattle.ledger_steps.specs.Observe.{observeIn}
 use Rattle.reply_history.specs.Fits.{CallFits, AllFit}
 use Rattle.reply_history.specs.Stands.{RoomsFit, freshStand, withObserve, observeOf, stepped, steppedAll}
@@ -44,7 +44,7 @@ both true true e = (refl, refl)
 both true false e = absurd (true-not-false e refl)
 both false b e = absurd (true-not-false e refl)
 
-module _ (N : ℕ) (few : N < 65535) (byKey : ReplyKey → ℕ) (byNumber : ℕ → ℕ) (number-below : (n : ℕ) → byNumber n < N) (copies : ℕ) (h : List Call) (s : Stand) (o : ReplyObservation)
+module _ (N : ℕ) (few : N < 65535) (byKey : ReplyKey → ℕ) (byNumber : ℕ → ℕ) (number-below : (n : ℕ) → byNumber n < N) (copies : ℕ) (h : List Call) (s : LedgerStand) (o : ReplyObservation)
     (r : RepliesFollow N byKey byNumber copies h s) (v : ObserveServed N s o) (f : FollowsFollow N copies h s) where
   abbrev tests : (s .ledger .tables .awaits ≡ true) × (newestIs N (s .rooms .keys) (s .ledger .tables .keys) (o .key) ≡ true)
   tests = both (s .ledger .tables .awaits) (newestIs N (s .rooms .keys) (s .ledger .tables .keys) (o .key)) (v .awaiting)
@@ -69,7 +69,7 @@ module _ (N : ℕ) (some-room : 0 < N) (few : N < 65535) (byKey : ReplyKey → �
     follow-ups = follows-fresh N copies wanted secret r;
   }
 
-  module _ (h : List Call) (s : Stand) (r : RepliesFollow N byKey byNumber copies h s) (f : ObservesFollow N byNumber copies h s) where
+  module _ (h : List Call) (s : LedgerStand) (r : RepliesFollow N byKey byNumber copies h s) (f : ObservesFollow N byNumber copies h s) where
     -- ONE SERVED CALL MORE, where what the ledger shows of replies follows too.
     pub observes-stepped : (c : Call) → CallFits c → ServedAt N s c → ObservesFollow N byNumber copies (c ∷ h) (stepped N byKey byNumber s c)
     observes-stepped (Sent p) fits v = record {
@@ -115,7 +115,7 @@ module _ (N : ℕ) (some-room : 0 < N) (few : N < 65535) (byKey : ReplyKey → �
 
 module _ (copies : ℕ) (secret : List ℕ) (r : Rooms) (l : copies < 2 ^ 16) (fit : RoomsFit capacity r) where
   -- the ledger after these calls
-  abbrev pub ledgerAfter : List Call → Stand
+  abbrev pub ledgerAfter : List Call → LedgerStand
   ledgerAfter h = steppedAll capacity (hashOf secret) (numberHash secret) (freshStand copies secret r) h
 
   key-below : (k : ReplyKey) → hashOf secret k < capacity

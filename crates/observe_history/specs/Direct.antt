@@ -24,7 +24,7 @@ use Rattle.offset_set.specs.Offsets as offset_set
 use Rattle.offset_set.specs.Sound.{Sound}
 use Rattle.history.specs.Ledger.{events}
 use Rattle.history.specs.DirectLoss.{anchorOf, seen, senderMaximum, receivedMaximum, latest, window, Spans, spans, anchor, latestTransmit, DirectCounts, directCounts}
-use Rattle.ledger_steps.specs.Rooms.{Stand}
+use Rattle.ledger_steps.specs.Rooms.{LedgerStand}
 
 -- ---- the window, of the list of the counters since the anchor
 
@@ -103,5 +103,5 @@ pub record DirectFollows (N : ℕ) (byNumber : ℕ → ℕ) (h : List Call) (d :
   pub sound : Sound N byNumber (offsetsOf d offsets links)
 
 -- of a ledger with its rooms
-abbrev pub directFollows : ℕ → (ℕ → ℕ) → List Call → Stand → Type 0
+abbrev pub directFollows : ℕ → (ℕ → ℕ) → List Call → LedgerStand → Type 0
 directFollows N byNumber h s = DirectFollows N byNumber h (s .ledger .counts .direct) (s .rooms .offsets) (s .rooms .links)

@@ -27,7 +27,7 @@ use Rattle.history.specs.Ledger.{unique, events}
 use Rattle.history.specs.FollowUps as history
 use Rattle.history.specs.FollowUps.{Kept, free, taken, slotAt, FollowCounts, followCounts}
 use Rattle.history.specs.Figures.{delayFigures, clockQuality}
-use Rattle.ledger_steps.specs.Rooms.{Stand}
+use Rattle.ledger_steps.specs.Rooms.{LedgerStand}
 use Rattle.observe_history.specs.RoundTrips.{delaysFrom}
 
 -- ---- a slot of the rooms, in the history's words
@@ -78,7 +78,7 @@ pub record SlotsFollow (N copies : ℕ) (h : List Call) (t : Table) (awaits : Bo
   pub unobserved : awaits ≡ true → isObserved (getD (t .slots) (newestSlot N (t .ring)) []) ≡ false
 
 -- both, of a ledger with its rooms
-pub record FollowsFollow (N copies : ℕ) (h : List Call) (s : Stand) : Type 0 where
+pub record FollowsFollow (N copies : ℕ) (h : List Call) (s : LedgerStand) : Type 0 where
   pub figures : FiguresFollow N copies h (s .ledger .counts .follow)
   pub slots : SlotsFollow N copies h (tableOf (s .rooms .keys) (s .rooms .slots) (s .rooms .links) (s .ledger .tables .keys)) (s .ledger .tables .awaits)
 

@@ -15,7 +15,7 @@ use Rattle.delays.specs.declared.DelaySummary.{DelaySummary}
 use Rattle.delays.specs.Sums.{nanosecondsOf, sumOf}
 use Rattle.delays.specs.Summary.{inMs, averageMs}
 use Rattle.history.specs.Figures.{Figures, roundTripFigures}
-use Rattle.ledger_steps.specs.Rooms.{Stand}
+use Rattle.ledger_steps.specs.Rooms.{LedgerStand}
 
 -- ---- the state of these figures: sign and words of each integer
 
@@ -44,5 +44,5 @@ abbrev pub RoundTripsFollow : ℕ → List Call → Delays → Type 0
 RoundTripsFollow N h d = d ≡ delaysFrom (roundTripFigures N h)
 
 -- of a ledger with its rooms
-abbrev pub roundTripsFollow : ℕ → List Call → Stand → Type 0
+abbrev pub roundTripsFollow : ℕ → List Call → LedgerStand → Type 0
 roundTripsFollow N h s = RoundTripsFollow N h (s .ledger .counts .rtt)

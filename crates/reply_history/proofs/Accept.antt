@@ -8,7 +8,7 @@ use Rattle.call_types.specs.declared.Reply.{Reply}
 use Rattle.call_types.specs.declared.Call.{Call}
 use Rattle.history.specs.Given.{packetOf}
 use Rattle.history.specs.Ledger.{Class, duplicate, unknown, unique, replyClass, events}
-use Rattle.ledger_steps.specs.Rooms.{Stand}
+use Rattle.ledger_steps.specs.Rooms.{LedgerStand}
 use Rattle.reply_history.specs.Fits.{KeyFits, AllFit}
 use Rattle.reply_history.specs.Stands.{acceptOf}
 use Rattle.reply_history.specs.Follows.{RepliesFollow}
@@ -16,7 +16,7 @@ use Rattle.reply_history.proofs.Classes.{AcceptFollows, by, accept-by-c
 use Rattle.reply_history.proofs.Unique.{unique-follows}
 
 module _ (N : ℕ) (some-room : 0 < N) (byKey : ReplyKey → ℕ) (byNumber : ℕ → ℕ) (key-below : (k : ReplyKey) → byKey k < N) (number-below : (r : ℕ) → byNumber r < N)
-    (copies : ℕ) (copies-in : copies < 2 ^ 16) (h : List Call) (all-fit : AllFit h) (s : Stand) (a : Reply) (fits : KeyFits (a .key))
+    (copies : ℕ) (copies-in : copies < 2 ^ 16) (h : List Call) (all-fit : AllFit h) (s : LedgerStand) (a : Reply) (fits : KeyFits (a .key))
     (f : RepliesFollow N byKey byNumber copies h s) where
   by-class : (x : Class) → replyClass N (events N h) (a .key) (packetOf (a .pending)) ≡ x
       → AcceptFollows N some-room byKey byNumber copies h s a fits f (by N some-room byKey byNumber copies h s a fits f x)

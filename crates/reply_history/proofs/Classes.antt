@@ -21,7 +21,7 @@ use Rattle.replies.specs.Served as served
 use Rattle.history.specs.Counting.{has, present}
 use Rattle.history.specs.Given.{packetOf}
 use Rattle.history.specs.Ledger.{Event, Class, duplicate, unknown, unique, classBy, hasKey, lastAccepted, held, replyClass, afterReply, awaiting, events, answer}
-use Rattle.ledger_steps.specs.Rooms.{Stand}
+use Rattle.ledger_steps.specs.Rooms.{LedgerStand}
 use Rattle.ledger_steps.specs.Accept.{AcceptOutcome, acceptBy, acceptIn}
 use Rattle.reply_history.specs.Fits.{KeyFits}
 use Rattle.reply_history.specs.Stands.{withAccept, acceptOf}
@@ -42,7 +42,7 @@ class-same false true pending = refl
 class-same false false true = refl
 class-same false false false = refl
 
-module _ (N : ℕ) (some-room : 0 < N) (byKey : ReplyKey → ℕ) (byNumber : ℕ → ℕ) (copies : ℕ) (h : List Call) (s : Stand) (a : Reply) (fits : KeyFits (a .key))
+module _ (N : ℕ) (some-room : 0 < N) (byKey : ReplyKey → ℕ) (byNumber : ℕ → ℕ) (copies : ℕ) (h : List Call) (s : LedgerStand) (a : Reply) (fits : KeyFits (a .key))
     (f : RepliesFollow N byKey byNumber copies h s) where
   abbrev es : List Event
   es = events N h

@@ -11,7 +11,7 @@ use Rattle.call_types.specs.declared.Call.the-variants.{Observe, Advance, Idle}
 use Rattle.key_ring.specs.Table.{tableOf, Sound}
 use Rattle.history.specs.Ledger.{accepted, lastAccepted, rememberings, held, replies, packet, awaiting, events}
 use Rattle.history.specs.Ledger as history
-use Rattle.ledger_steps.specs.Rooms.{Stand}
+use Rattle.ledger_steps.specs.Rooms.{LedgerStand}
 use Rattle.ledger_steps.specs.Observe.{directIn, followIn, observeIn}
 use Rattle.reply_history.specs.Stands.{withObserve, observeOf}
 use Rattle.reply_history.specs.Follows.{probeIn, RepliesFollow}
@@ -19,7 +19,7 @@ use Rattle.reply_history.proofs.Lanes.{keys-stay, keys-alike, probes-st
 use Rattle.reply_history.proofs.Slots.{follow-sound, own-sound}
 use Rattle.reply_history.proofs.Counts.{counts-observe, counts-advance, counts-idle}
 
-module _ (N : ℕ) (byKey : ReplyKey → ℕ) (byNumber : ℕ → ℕ) (number-below : (r : ℕ) → byNumber r < N) (copies : ℕ) (h : List Call) (s : Stand)
+module _ (N : ℕ) (byKey : ReplyKey → ℕ) (byNumber : ℕ → ℕ) (number-below : (r : ℕ) → byNumber r < N) (copies : ℕ) (h : List Call) (s : LedgerStand)
     (f : RepliesFollow N byKey byNumber copies h s) where
   module _ (o : ReplyObservation) where
     -- the links that the counters leave, and the words that the follow-up leaves

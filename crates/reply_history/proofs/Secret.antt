@@ -12,7 +12,7 @@ use Rattle.replies.specs.declared.ReplyClass.{ReplyClass}
 use Rattle.replies.specs.declared.ReplyClass.the-variants as class
 use Rattle.replies.specs.Served.{classBy}
 use Rattle.ledger_state.specs.declared.Ledger.{Ledger}
-use Rattle.ledger_steps.specs.Rooms.{Stand}
+use Rattle.ledger_steps.specs.Rooms.{LedgerStand}
 use Rattle.ledger_steps.specs.Sent.{sentIn}
 use Rattle.ledger_steps.specs.Accept.{isPending, keySlot, probeSlot, acceptBy, acceptIn, uniqueIn}
 use Rattle.ledger_steps.specs.Observe.{observeIn}
@@ -25,7 +25,7 @@ module _ (N : ℕ) (byKey : ReplyKey → ℕ) (byNumber : ℕ → ℕ) where
   accept-secret class.Unknown l keys slots probes links at a = refl
   accept-secret class.Unique l keys slots probes links at a = refl
 
-  pub secret-kept : (s : Stand) (c : Call) → stepped N byKey byNumber s c .ledger .secret ≡ s .ledger .secret
+  pub secret-kept : (s : LedgerStand) (c : Call) → stepped N byKey byNumber s c .ledger .secret ≡ s .ledger .secret
   unfolding sentIn acceptIn observeIn
   secret-kept s (Sent p) = refl
   secret-kept s (Accept a) =

@@ -16,7 +16,7 @@ use Rattle.probe_ring.specs.Held.{remembering, evicts, loses}
 use Rattle.probe_ring.specs.Rooms.{remembered}
 use Rattle.probe_ring.proofs.Remembering.{Remembers, remembers}
 use Rattle.history.specs.Ledger.{accepted, lastAccepted, awaiting, events}
-use Rattle.ledger_steps.specs.Rooms.{Stand}
+use Rattle.ledger_steps.specs.Rooms.{LedgerStand}
 use Rattle.ledger_steps.specs.Sent.{sentIn}
 use Rattle.reply_history.specs.Fits.{SentFits}
 use Rattle.reply_history.specs.Stands.{withSent, sentOf}
@@ -25,7 +25,7 @@ use Rattle.reply_history.proofs.Probes.{rows-remember, evicts-is, loses
 use Rattle.reply_history.proofs.Lanes.{keys-stay, keys-alike}
 use Rattle.reply_history.proofs.Counts.{counts-sent}
 
-module _ (N : ℕ) (some-room : 0 < N) (byKey : ReplyKey → ℕ) (byNumber : ℕ → ℕ) (copies : ℕ) (h : List Call) (s : Stand) (p : SentProbe) (fits : SentFits p)
+module _ (N : ℕ) (some-room : 0 < N) (byKey : ReplyKey → ℕ) (byNumber : ℕ → ℕ) (copies : ℕ) (h : List Call) (s : LedgerStand) (p : SentProbe) (fits : SentFits p)
     (f : RepliesFollow N byKey byNumber copies h s) where
   -- the probe as it is remembered
   abbrev new : HeldProbe

@@ -19,7 +19,7 @@ use Rattle.probe_ring.proofs.Laws.{find-first}
 use Rattle.history.specs.Counting.{has, present}
 use Rattle.history.specs.Ledger.{Event, remembered, replied, observed, accepted, lastAccepted, held, replies, awaiting, events, replyCounts}
 use Rattle.ledger_state.specs.BurstWait.{burstWait}
-use Rattle.ledger_steps.specs.Rooms.{Stand}
+use Rattle.ledger_steps.specs.Rooms.{LedgerStand}
 use Rattle.ledger_steps.specs.Readers.{answeredIn}
 use Rattle.reply_history.specs.Follows.{probeIn, awaitsIn, keysTable, probeRooms, RepliesFollow}
 use Rattle.reply_history.proofs.Saturation.{some-before}
@@ -33,7 +33,7 @@ awaits-first n (remembered s o t p ∷ es) k = awaits-first n es k
 awaits-first n (replied a p ∷ es) k = refl
 awaits-first n (observed o ∷ es) k = refl
 
-module _ (N : ℕ) (byKey : ReplyKey → ℕ) (byNumber : ℕ → ℕ) (copies : ℕ) (h : List Call) (s : Stand) (f : RepliesFollow N byKey byNumber copies h s) where
+module _ (N : ℕ) (byKey : ReplyKey → ℕ) (byNumber : ℕ → ℕ) (copies : ℕ) (h : List Call) (s : LedgerStand) (f : RepliesFollow N byKey byNumber copies h s) where
   -- ---- the counts
 
   -- `needs_burst_wait`: more than one copy, and some request is not satisfied

@@ -24,7 +24,7 @@ use Rattle.probe_ring.proofs.Laws.{empty-sound, empty-held}
 use Rattle.replies.specs.Served.{freshReplies}
 use Rattle.history.specs.Ledger.{rememberings, distinct, held, accepted, lastAccepted, awaiting, events, count, highestReflector, probesEvicted, evictedUnanswered, copiesOf}
 use Rattle.ledger_state.specs.State.{atLeastOne}
-use Rattle.ledger_steps.specs.Rooms.{Rooms, Stand}
+use Rattle.ledger_steps.specs.Rooms.{Rooms, LedgerStand}
 use Rattle.reply_history.specs.Fits.{CallFits, AllFit}
 use Rattle.reply_history.specs.Stands.{RoomsFit, freshStand, stepped, steppedAll}
 use Rattle.reply_history.specs.Follows.{probeIn, repliesIn, keysTable, probeRooms, RepliesFollow}
@@ -70,7 +70,7 @@ module _ (N : ℕ) (some-room : 0 < N) (byKey : ReplyKey → ℕ) (byNumber : �
 module _ (N : ℕ) (some-room : 0 < N) (byKey : ReplyKey → ℕ) (byNumber : ℕ → ℕ) (key-below : (k : ReplyKey) → byKey k < N) (number-below : (r : ℕ) → byNumber r < N)
     (copies : ℕ) (copies-in : copies < 2 ^ 16) where
   -- ONE SERVED CALL MORE.
-  pub stepped-follows : (h : List Call) (s : Stand) (c : Call) → AllFit h → CallFits c → RepliesFollow N byKey byNumber copies h s
+  pub stepped-follows : (h : List Call) (s : LedgerStand) (c : Call) → AllFit h → CallFits c → RepliesFollow N byKey byNumber copies h s
       → RepliesFollow N byKey byNumber copies (c ∷ h) (stepped N byKey byNumber s c)
   stepped-follows h s (Sent p) w fits f = sent-follows N some-room byKey byNumber copies h s p fits f
   stepped-follows h s (Accept a) w fits f = accept-follows N some-room byKey byNumber key-below number-below copies copies-in h w s a fits f .follows
@@ -78,7 +78,7 @@ module _ (N : ℕ) (some-room : 0 < N) (byKey : ReplyKey → ℕ) (byNumber : �
   stepped-follows h s (Advance t) w fits f = advance-keeps N byKey byNumber number-below copies h s f t
   stepped-follows h s Idle w fits f = idle-keeps N byKey byNumber number-below copies h s f
 
-  pub all-follow : (s : Stand) → RepliesFollow N byKey byNumber copies [] s → (h : List Call) → AllFit h
+  pub all-follow : (s : LedgerStand) → RepliesFollow N byKey byNumber copies [] s → (h : List Call) → AllFit h
       → RepliesFollow N byKey byNumber copies h (steppedAll N byKey byNumber s h)
   unfolding steppedAll AllFit
   all-follow s f [] w = f

@@ -27,7 +27,7 @@ use Rattle.replies.specs.Served.{afterUnique}
 use Rattle.history.specs.Counting.{present}
 use Rattle.history.specs.Given.{packetOf}
 use Rattle.history.specs.Ledger.{Event, replied, unique, accepted, lastAccepted, rememberings, held, replies, awaiting, replyClass, ready, before, afterReply, events, answer}
-use Rattle.ledger_steps.specs.Rooms.{Stand}
+use Rattle.ledger_steps.specs.Rooms.{LedgerStand}
 use Rattle.ledger_steps.specs.Accept.{isPending, probeAt, contextOf, readied, repliedRows, uniqueIn}
 use Rattle.reply_history.specs.Fits.{KeyFits, AllFit}
 use Rattle.reply_history.specs.Follows.{asAccepted, probeRooms, probeIn, repliesIn, RepliesFollow}
@@ -62,7 +62,7 @@ unfolding row.heldProbeOf
 row-train words = low-in (getD words 1 0 / 2 ^ 32)
 
 module _ (N : ℕ) (some-room : 0 < N) (byKey : ReplyKey → ℕ) (byNumber : ℕ → ℕ) (key-below : (k : ReplyKey) → byKey k < N) (number-below : (r : ℕ) → byNumber r < N)
-    (copies : ℕ) (copies-in : copies < 2 ^ 16) (h : List Call) (all-fit : AllFit h) (s : Stand) (a : Reply) (fits : KeyFits (a .key))
+    (copies : ℕ) (copies-in : copies < 2 ^ 16) (h : List Call) (all-fit : AllFit h) (s : LedgerStand) (a : Reply) (fits : KeyFits (a .key))
     (f : RepliesFollow N byKey byNumber copies h s) (e : replyClass N (events N h) (a .key) (packetOf (a .pending)) ≡ unique) where
   -- the events once the probe is held, and with the reply
   abbrev es′ : List Event

@@ -23,7 +23,7 @@ use Rattle.history.specs.Ledger.{Event, accepted, lastAccepted, held, replies, 
 use Rattle.history.specs.Ledger as history
 use Rattle.ledger_steps.specs.declared.Accepted.{Accepted}
 use Rattle.ledger_steps.specs.declared.Accepted.the-variants as answers
-use Rattle.ledger_steps.specs.Rooms.{Stand}
+use Rattle.ledger_steps.specs.Rooms.{LedgerStand}
 
 -- ---- the history's words in the code's types
 
@@ -68,15 +68,15 @@ asAccepted (history.isUnique p o t) = answers.Unique p (asOrdinal o) t
 -- ---- the parts of a stand
 
 -- the accepted keys and the correlation slots: their rooms, their links and their ring
-abbrev pub keysTable : Stand → Table
+abbrev pub keysTable : LedgerStand → Table
 keysTable s = tableOf (s .rooms .keys) (s .rooms .slots) (s .rooms .links) (s .ledger .tables .keys)
 
 -- the held probes: their room, their links and their ring
-abbrev pub probeRooms : Stand → probe_ring.Rooms
+abbrev pub probeRooms : LedgerStand → probe_ring.Rooms
 probeRooms s = probe_ring.rooms (s .rooms .probes) (s .rooms .links) (s .ledger .tables .probes)
 
 -- WHAT THE LEDGER SHOWS OF REPLIES FOLLOWS FROM THE SERVED CALLS.
-pub record RepliesFollow (N : ℕ) (byKey : ReplyKey → ℕ) (byNumber : ℕ → ℕ) (copies : ℕ) (h : List Call) (s : Stand) : Type 0 where
+pub record RepliesFollow (N : ℕ) (byKey : ReplyKey → ℕ) (byNumber : ℕ → ℕ) (copies : ℕ) (h : List Call) (s : LedgerStand) : Type 0 where
   pub keys-sound : key_ring.Sound N byKey byNumber (keysTable s)
   pub keys-are : keysOf N (keysTable s) ≡ lastAccepted N (events N h)
   pub probes-sound : probe_laws.Sound N byNumber (probeRooms s)

@@ -12,7 +12,7 @@ use Rattle.call_types.specs.declared.Call.{Call}
 use Rattle.call_types.specs.declared.Call.the-variants.{Sent, Accept, Observe, Advance, Idle}
 use Rattle.chains.specs.Links.{Rows}
 use Rattle.ledger_state.specs.State.{freshLedger}
-use Rattle.ledger_steps.specs.Rooms.{Rooms, Stand}
+use Rattle.ledger_steps.specs.Rooms.{Rooms, LedgerStand}
 use Rattle.ledger_steps.specs.Sent.{SentOutcome, sentIn}
 use Rattle.ledger_steps.specs.Accept.{AcceptOutcome, acceptIn}
 use Rattle.ledger_steps.specs.Observe.{ObserveOutcome, observeIn}
@@ -28,27 +28,27 @@ pub record RoomsFit (N : ℕ) (r : Rooms) : Type 0 where
   pub links-fit : Rows N 8 (r .links)
 
 -- a fresh ledger over these rooms
-abbrev pub freshStand : ℕ → List ℕ → Rooms → Stand
+abbrev pub freshStand : ℕ → List ℕ → Rooms → LedgerStand
 freshStand copies secret r = record { ledger = freshLedger copies secret; rooms = r }
 
 -- ---- what each call leaves; the rooms that it is not lent stay
 
 -- after `sent`: probes and links are new
-abbrev pub withSent : Stand → SentOutcome → Stand
+abbrev pub withSent : LedgerStand → SentOutcome → LedgerStand
 withSent s o = record {
   ledger = o .ledger;
   rooms = record { keys = s .rooms .keys; slots = s .rooms .slots; probes = o .probes; offsets = s .rooms .offsets; links = o .links };
 }
 
 -- after `accept`: all but the offsets are new
-abbrev pub withAccept : Stand → AcceptOutcome → Stand
+abbrev pub withAccept : LedgerStand → AcceptOutcome → LedgerStand
 withAccept s o = record {
   ledger = o .ledger;
   rooms = record { keys = o .keys; slots = o .slots; probes = o .probes; offsets = s .rooms .offsets; links = o .links };
 }
 
 -- after `observe`: slots, offsets and links are new
-abbrev pub withObserve : Stand → ObserveOutcome → Stand
+abbrev pub withObserve : LedgerStand → ObserveOutcome → LedgerStand
 withObserve s o = record {
   ledger = o .ledger;
   rooms = record { keys = s .rooms .keys; slots = o .slots; probes = s .rooms .probes; offsets = o .offsets; links = o .links };
@@ -56,19 +56,19 @@ withObserve s o = record {
 
 module _ (N : ℕ) (byKey : ReplyKey → ℕ) (byNumber : ℕ → ℕ) where
   -- `sent` of a probe, served
-  abbrev pub sentOf : Stand → SentProbe → SentOutcome
+  abbrev pub sentOf : LedgerStand → SentProbe → SentOutcome
   sentOf s p = sentIn N byNumber (s .ledger) (s .rooms .probes) (s .rooms .links) p
 
   -- `accept` of a reply, served
-  abbrev pub acceptOf : Stand → Reply → AcceptOutcome
+  abbrev pub acceptOf : LedgerStand → Reply → AcceptOutcome
   acceptOf s a = acceptIn N byKey byNumber (s .ledger) (s .rooms .keys) (s .rooms .slots) (s .rooms .probes) (s .rooms .links) a
 
   -- `observe` of a reply, served
-  abbrev pub observeOf : Stand → ReplyObservation → ObserveOutcome
+  abbrev pub observeOf : LedgerStand → ReplyObservation → ObserveOutcome
   observeOf s o = observeIn N byKey byNumber (s .ledger) (s .rooms .keys) (s .rooms .slots) (s .rooms .offsets) (s .rooms .links) o
 
   -- one served call; those of the monitor alone leave the ledger as it is
-  abbrev pub stepped : Stand → Call → Stand
+  abbrev pub stepped : LedgerStand → Call → LedgerStand
   stepped s (Sent p) = withSent s (sentOf s p)
   stepped s (Accept a) = withAccept s (acceptOf s a)
   stepped s (Observe o) = withObserve s (observeOf s o)
@@ -76,6 +76,6 @@ module _ (N : ℕ) (byKey : ReplyKey → ℕ) (byNumber : ℕ → ℕ) where
   stepped s Idle = s
 
   -- all of these served, newest first
-  unfoldable pub steppedAll : Stand → List Call → Stand
+  unfoldable pub steppedAll : LedgerStand → List Call → LedgerStand
   steppedAll s [] = s
   steppedAll s (c ∷ h) = stepped (steppedAll s h) c

@@ -14,7 +14,7 @@ use Rattle.ledger_snapshot.specs.Snapshot.{snapshotOf}
 use Rattle.ledger_steps.specs.Rooms.{Rooms}
 use Rattle.link_steps.specs.declared.Watch.{Watch}
 use Rattle.link_steps.specs.declared.Watch.the-variants.{Absent, Present}
-use Rattle.link_steps.specs.Steps.{Standing, played, served, turnedAway}
+use Rattle.link_steps.specs.Steps.{LinkStand, played, served, turnedAway}
 use Rattle.link_history.specs.Fresh.{Watching, alone, watching, Making, MakingFits, freshWatch, freshLink, AllFits}
 use Rattle.link_history.specs.Monitor.{WatchShows}
 use Rattle.link_history.specs.Link.{servedFrom, LinkShows}
@@ -35,15 +35,15 @@ use Rattle.report_history.specs.Figures.{callThen, logCalls, watchingBy,
 
 -- ---- the tally of a log's records is what its calls leave
 
-abbrev leftBy : Standing → List Call → Tallied
+abbrev leftBy : LinkStand → List Call → Tallied
 leftBy k cs = record { standing = played k cs; turned = turnedAway k cs }
 
-one-record : (k : Standing) (cs : List Call) (r : PlayedCall) → recorded (leftBy k cs) r ≡ leftBy k (callThen r cs)
+one-record : (k : LinkStand) (cs : List Call) (r : PlayedCall) → recorded (leftBy k cs) r ≡ leftBy k (callThen r cs)
 unfolding played turnedAway
 one-record k cs read.Nothing = refl
 one-record k cs (read.Call c) = refl
 
-pub tallied-is : (log : List ℕ) (k : Standing) (n : ℕ) → tallied log (record { standing = k; turned = 0 }) n ≡ leftBy k (logCalls log n)
+pub tallied-is : (log : List ℕ) (k : LinkStand) (n : ℕ) → tallied log (record { standing = k; turned = 0 }) n ≡ leftBy k (logCalls log n)
 unfolding tallied played turnedAway logCalls
 tallied-is log k zero = refl
 tallied-is log k (suc n) = ap (λ (t : Tallied). recorded t (callAt log n)) (tallied-is log k n) ∙ one-record k (logCalls log n) (callAt log n)
@@ -68,7 +68,7 @@ session-is alone h (Present m) queue s = absurd s
 session-is (watching threshold timeout) h Absent queue s = absurd s
 session-is (watching threshold timeout) h (Present m) queue s = ap (λ (x : Summary). sessionBy (x .state) (x .«consecutive_losses»)) (s .state .summary)
 
-pub figures-are : (copies : ℕ) (v : Watching) (h : List Call) (k : Standing) (records turned : ℕ) → LinkShows copies v h k
+pub figures-are : (copies : ℕ) (v : Watching) (h : List Call) (k : LinkStand) (records turned : ℕ) → LinkShows copies v h k
     → figuresOf (k .link) records turned ≡ figuresFrom copies v h records turned
 unfolding figuresOf figuresFrom snapshotOf
 figures-are copies v h k records turned shows =
