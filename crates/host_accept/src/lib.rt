@@ -23,7 +23,10 @@ pub extern "C" fn ambrulicciu_accept(
     tag: u64,
     answer: &mut [u64; 6],
 ) -> u8
-    ensures { λ r. ⌜ acceptLeft r (now (ledger .exit)) (now (keys .exit)) (now (slots .exit)) (now (probes .exit)) (now (links .exit)) (now (answer .exit)) ≡ acceptOf (now (ledger .entry)) (now (keys .entry)) (now (slots .entry)) (now (probes .entry)) (now (links .entry)) (now (answer .entry)) (replyOf sender reflector t3 pending time tag) ⌝ }
+    ensures { λ r. ⌜ (
+        let left = acceptLeft r (now (ledger .exit)) (now (keys .exit)) (now (slots .exit)) (now (probes .exit)) (now (links .exit)) (now (answer .exit)) in
+        let reply = replyOf sender reflector t3 pending time tag in
+        left ≡ acceptOf (now (ledger .entry)) (now (keys .entry)) (now (slots .entry)) (now (probes .entry)) (now (links .entry)) (now (answer .entry)) reply) ⌝ }
 {
     let sized = (keys.len() == CAPACITY)
         & (slots.len() == CAPACITY)

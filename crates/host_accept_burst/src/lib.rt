@@ -36,7 +36,10 @@ fn serve_entry(
     i: usize,
 )
     requires { ⌜ (sure ≡ true → firstRefusal (sizedRoom (length (now keys)) && sizedRoom (length (now slots)) && sizedRoom (length (now probes)) && sizedRoom (length (now links)) && ringsFit (ledgerAt (now ledger))) true true (roomForCall (ledgerAt (now ledger))) true true ≡ 0) ⌝ }
-    ensures { λ _. ⌜ left (lent (now (ledger .exit)) (now (keys .exit)) (now (slots .exit)) (now (probes .exit)) (now (links .exit))) (now (answers .exit)) ≡ oneMore acceptEntry (now (entries .entry)) (left (lent (now (ledger .entry)) (now (keys .entry)) (now (slots .entry)) (now (probes .entry)) (now (links .entry))) (now (answers .entry))) i ⌝ }
+    ensures { λ _. ⌜ (
+        let before = lent (now (ledger .entry)) (now (keys .entry)) (now (slots .entry)) (now (probes .entry)) (now (links .entry)) in
+        let after = lent (now (ledger .exit)) (now (keys .exit)) (now (slots .exit)) (now (probes .exit)) (now (links .exit)) in
+        left after (now (answers .exit)) ≡ oneMore acceptEntry (now (entries .entry)) (left before (now (answers .entry))) i) ⌝ }
 {
     let sized = (keys.len() == CAPACITY)
         & (slots.len() == CAPACITY)
@@ -64,7 +67,10 @@ fn serve(
     count: usize,
     answers: &mut [[u64; 7]],
 )
-    ensures { λ _. ⌜ left (lent (now (ledger .exit)) (now (keys .exit)) (now (slots .exit)) (now (probes .exit)) (now (links .exit))) (now (answers .exit)) ≡ upTo acceptEntry (now (entries .entry)) (left (lent (now (ledger .entry)) (now (keys .entry)) (now (slots .entry)) (now (probes .entry)) (now (links .entry))) (now (answers .entry))) count ⌝ }
+    ensures { λ _. ⌜ (
+        let before = lent (now (ledger .entry)) (now (keys .entry)) (now (slots .entry)) (now (probes .entry)) (now (links .entry)) in
+        let after = lent (now (ledger .exit)) (now (keys .exit)) (now (slots .exit)) (now (probes .exit)) (now (links .exit)) in
+        left after (now (answers .exit)) ≡ upTo acceptEntry (now (entries .entry)) (left before (now (answers .entry))) count) ⌝ }
 {
     counted(*ledger);
     let sized = (keys.len() == CAPACITY)
@@ -101,7 +107,10 @@ pub extern "C" fn ambrulicciu_accept_burst(
     entries: &[[u64; 5]],
     answers: &mut [[u64; 7]],
 ) -> u8
-    ensures { λ r. ⌜ listed r (left (lent (now (ledger .exit)) (now (keys .exit)) (now (slots .exit)) (now (probes .exit)) (now (links .exit))) (now (answers .exit))) ≡ acceptBurst (lent (now (ledger .entry)) (now (keys .entry)) (now (slots .entry)) (now (probes .entry)) (now (links .entry))) (now (entries .entry)) (now (answers .entry)) ⌝ }
+    ensures { λ r. ⌜ (
+        let before = lent (now (ledger .entry)) (now (keys .entry)) (now (slots .entry)) (now (probes .entry)) (now (links .entry)) in
+        let after = lent (now (ledger .exit)) (now (keys .exit)) (now (slots .exit)) (now (probes .exit)) (now (links .exit)) in
+        listed r (left after (now (answers .exit))) ≡ acceptBurst before (now (entries .entry)) (now (answers .entry))) ⌝ }
 {
     let refusal = refusal_of_list(entries.len(), answers.len());
     let count = served_of_list(refusal, entries.len());

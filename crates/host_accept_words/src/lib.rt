@@ -85,7 +85,12 @@ fn unique_ready(
     answer: &mut [u64; 6],
 )
     requires { ⌜ SoundAccept (ledgerAt (now ledger)) (length (now keys)) (length (now slots)) (length (now probes)) (length (now links)) × (secret ≡ hashWords (ledgerAt (now ledger))) × (ready .slot < capacity) ⌝ }
-    ensures { λ _. ⌜ acceptLeft 0 (now (ledger .exit)) (now (keys .exit)) (now (slots .exit)) (now (probes .exit)) (now (links .exit)) (now (answer .exit)) ≡ servedLeaves (now (ledger .entry)) (uniqueIn capacity (hashOf (hashWords (ledgerAt (now (ledger .entry))))) (numberHash (hashWords (ledgerAt (now (ledger .entry))))) (ledgerAt (now (ledger .entry))) (now (keys .entry)) (now (slots .entry)) (outcome (now (probes .entry)) (now (links .entry)) ready) reply) ⌝ }
+    ensures { λ _. ⌜ (
+        let words = now (ledger .entry) in
+        let l = ledgerAt words in
+        let held = outcome (now (probes .entry)) (now (links .entry)) ready in
+        let left = acceptLeft 0 (now (ledger .exit)) (now (keys .exit)) (now (slots .exit)) (now (probes .exit)) (now (links .exit)) (now (answer .exit)) in
+        left ≡ servedLeaves words (uniqueIn capacity (hashOf (hashWords l)) (numberHash (hashWords l)) l (now (keys .entry)) (now (slots .entry)) held reply)) ⌝ }
 {
     let key = reply.key;
     let pending = reply.pending;
@@ -120,7 +125,14 @@ fn unique(
     answer: &mut [u64; 6],
 )
     requires { ⌜ SoundAccept (ledgerAt (now ledger)) (length (now keys)) (length (now slots)) (length (now probes)) (length (now links)) × (secret ≡ hashWords (ledgerAt (now ledger))) ⌝ }
-    ensures { λ _. ⌜ acceptLeft 0 (now (ledger .exit)) (now (keys .exit)) (now (slots .exit)) (now (probes .exit)) (now (links .exit)) (now (answer .exit)) ≡ servedLeaves (now (ledger .entry)) (uniqueIn capacity (hashOf (hashWords (ledgerAt (now (ledger .entry))))) (numberHash (hashWords (ledgerAt (now (ledger .entry))))) (ledgerAt (now (ledger .entry))) (now (keys .entry)) (now (slots .entry)) (readied capacity (hashOf (hashWords (ledgerAt (now (ledger .entry))))) (numberHash (hashWords (ledgerAt (now (ledger .entry))))) (rooms (now (probes .entry)) (now (links .entry)) (ledgerAt (now (ledger .entry)) .tables .probes)) slot (reply .key) (reply .pending)) reply) ⌝ }
+    ensures { λ _. ⌜ (
+        let words = now (ledger .entry) in
+        let l = ledgerAt words in
+        let byKey = hashOf (hashWords l) in
+        let byNumber = numberHash (hashWords l) in
+        let held = rooms (now (probes .entry)) (now (links .entry)) (l .tables .probes) in
+        let left = acceptLeft 0 (now (ledger .exit)) (now (keys .exit)) (now (slots .exit)) (now (probes .exit)) (now (links .exit)) (now (answer .exit)) in
+        left ≡ servedLeaves words (uniqueIn capacity byKey byNumber l (now (keys .entry)) (now (slots .entry)) (readied capacity byKey byNumber held slot (reply .key) (reply .pending)) reply)) ⌝ }
 {
     let ring = host_ledger_checks::probes_ring(ledger);
     let ready = ledger_accept::ready_probe(probes, links, ring, secret, slot, reply);
@@ -149,7 +161,10 @@ fn other(
     answer: &mut [u64; 6],
 )
     requires { ⌜ SoundAccept (ledgerAt (now ledger)) (length (now keys)) (length (now slots)) (length (now probes)) (length (now links)) × (secret ≡ hashWords (ledgerAt (now ledger))) × (capacity ≤ findKey (hashWords (ledgerAt (now ledger))) (now keys) (now links) (ledgerAt (now ledger) .tables .keys) (reply .key)) ⌝ }
-    ensures { λ _. ⌜ acceptLeft 0 (now (ledger .exit)) (now (keys .exit)) (now (slots .exit)) (now (probes .exit)) (now (links .exit)) (now (answer .exit)) ≡ servedLeaves (now (ledger .entry)) (acceptOn (ledgerAt (now (ledger .entry))) (now (keys .entry)) (now (slots .entry)) (now (probes .entry)) (now (links .entry)) reply) ⌝ }
+    ensures { λ _. ⌜ (
+        let words = now (ledger .entry) in
+        let left = acceptLeft 0 (now (ledger .exit)) (now (keys .exit)) (now (slots .exit)) (now (probes .exit)) (now (links .exit)) (now (answer .exit)) in
+        left ≡ servedLeaves words (acceptOn (ledgerAt words) (now (keys .entry)) (now (slots .entry)) (now (probes .entry)) (now (links .entry)) reply)) ⌝ }
 {
     let pending = reply.pending;
     let ring = host_ledger_checks::probes_ring(ledger);
@@ -183,7 +198,10 @@ pub fn served(
     answer: &mut [u64; 6],
 )
     requires { ⌜ SoundAccept (ledgerAt (now ledger)) (length (now keys)) (length (now slots)) (length (now probes)) (length (now links)) ⌝ }
-    ensures { λ _. ⌜ acceptLeft 0 (now (ledger .exit)) (now (keys .exit)) (now (slots .exit)) (now (probes .exit)) (now (links .exit)) (now (answer .exit)) ≡ servedLeaves (now (ledger .entry)) (acceptOn (ledgerAt (now (ledger .entry))) (now (keys .entry)) (now (slots .entry)) (now (probes .entry)) (now (links .entry)) reply) ⌝ }
+    ensures { λ _. ⌜ (
+        let words = now (ledger .entry) in
+        let left = acceptLeft 0 (now (ledger .exit)) (now (keys .exit)) (now (slots .exit)) (now (probes .exit)) (now (links .exit)) (now (answer .exit)) in
+        left ≡ servedLeaves words (acceptOn (ledgerAt words) (now (keys .entry)) (now (slots .entry)) (now (probes .entry)) (now (links .entry)) reply)) ⌝ }
 {
     let key = reply.key;
     let secret = host_ledger_checks::secret_words(ledger);

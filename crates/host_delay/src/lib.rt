@@ -72,7 +72,10 @@ fn is_usual(ledger: &[u64; LEDGER_WORDS], ns: Nanoseconds) -> bool
 // One delay more, and the sum farther from zero.
 fn add(ledger: &mut [u64; LEDGER_WORDS], more: u64)
     requires { ⌜ Bounded (delaysAt 50 (now ledger)) ⌝ }
-    ensures { λ _. ⌜ now (ledger .exit) ≡ set (set (set (now (ledger .entry)) 50 (getD (now (ledger .entry)) 50 0 + 1)) 52 (sumOf (pos (magnitude (getD (now (ledger .entry)) 52 0) (getD (now (ledger .entry)) 53 0) + more)) .high)) 53 (sumOf (pos (magnitude (getD (now (ledger .entry)) 52 0) (getD (now (ledger .entry)) 53 0) + more)) .low) ⌝ }
+    ensures { λ _. ⌜ (
+        let words = now (ledger .entry) in
+        let sum = sumOf (pos (magnitude (getD words 52 0) (getD words 53 0) + more)) in
+        now (ledger .exit) ≡ set (set (set words 50 (getD words 50 0 + 1)) 52 (sum .high)) 53 (sum .low)) ⌝ }
 {
     let count = ledger[50];
     let sum = host_round_trip::farther(ledger[52], ledger[53], more);

@@ -38,7 +38,9 @@ pub extern "C" fn ambrulicciu_watched_accept(
     tag: u64,
     answer: &mut [u64; 6],
 ) -> u8
-    ensures { λ r. ⌜ left r (now (ledger .exit)) (now (monitor .exit)) (now (keys .exit)) (now (slots .exit)) (now (probes .exit)) (now (links .exit)) (now (queue .exit)) (now (answer .exit)) ≡ watchedAcceptTo (now (ledger .entry)) (now (monitor .entry)) (now (keys .entry)) (now (slots .entry)) (now (probes .entry)) (now (links .entry)) (now (queue .entry)) sender reflector t3 pending time tag (now (answer .entry)) ⌝ }
+    ensures { λ r. ⌜ (
+        let after = left r (now (ledger .exit)) (now (monitor .exit)) (now (keys .exit)) (now (slots .exit)) (now (probes .exit)) (now (links .exit)) (now (queue .exit)) (now (answer .exit)) in
+        after ≡ watchedAcceptTo (now (ledger .entry)) (now (monitor .entry)) (now (keys .entry)) (now (slots .entry)) (now (probes .entry)) (now (links .entry)) (now (queue .entry)) sender reflector t3 pending time tag (now (answer .entry))) ⌝ }
 {
     let reply = reply_of(sender, reflector, t3, pending, time, tag);
     let given = accept(ledger, monitor, keys, slots, probes, links, queue, reply);

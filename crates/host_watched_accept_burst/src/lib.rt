@@ -39,7 +39,10 @@ fn serve(
     answers: &mut [[u64; 7]],
     refusal: u8,
 ) -> u8
-    ensures { λ r. ⌜ (left (lent (now (ledger .exit)) (now (monitor .exit)) (now (keys .exit)) (now (slots .exit)) (now (probes .exit)) (now (links .exit)) (now (queue .exit))) (now (answers .exit)) ≡ upTo acceptEntry (now (entries .entry)) (left (lent (now (ledger .entry)) (now (monitor .entry)) (now (keys .entry)) (now (slots .entry)) (now (probes .entry)) (now (links .entry)) (now (queue .entry))) (now (answers .entry))) count) × (r ≡ refusal) ⌝ }
+    ensures { λ r. ⌜ (
+        let before = lent (now (ledger .entry)) (now (monitor .entry)) (now (keys .entry)) (now (slots .entry)) (now (probes .entry)) (now (links .entry)) (now (queue .entry)) in
+        let after = lent (now (ledger .exit)) (now (monitor .exit)) (now (keys .exit)) (now (slots .exit)) (now (probes .exit)) (now (links .exit)) (now (queue .exit)) in
+        (left after (now (answers .exit)) ≡ upTo acceptEntry (now (entries .entry)) (left before (now (answers .entry))) count) × (r ≡ refusal)) ⌝ }
 {
     let mut i = 0;
     while i < count {
@@ -65,7 +68,10 @@ pub extern "C" fn ambrulicciu_watched_accept_burst(
     entries: &[[u64; 5]],
     answers: &mut [[u64; 7]],
 ) -> u8
-    ensures { λ r. ⌜ listed r (left (lent (now (ledger .exit)) (now (monitor .exit)) (now (keys .exit)) (now (slots .exit)) (now (probes .exit)) (now (links .exit)) (now (queue .exit))) (now (answers .exit))) ≡ watchedBurst (lent (now (ledger .entry)) (now (monitor .entry)) (now (keys .entry)) (now (slots .entry)) (now (probes .entry)) (now (links .entry)) (now (queue .entry))) (now (entries .entry)) (now (answers .entry)) ⌝ }
+    ensures { λ r. ⌜ (
+        let before = lent (now (ledger .entry)) (now (monitor .entry)) (now (keys .entry)) (now (slots .entry)) (now (probes .entry)) (now (links .entry)) (now (queue .entry)) in
+        let after = lent (now (ledger .exit)) (now (monitor .exit)) (now (keys .exit)) (now (slots .exit)) (now (probes .exit)) (now (links .exit)) (now (queue .exit)) in
+        listed r (left after (now (answers .exit))) ≡ watchedBurst before (now (entries .entry)) (now (answers .entry))) ⌝ }
 {
     let length = entries.len();
     let rows = answers.len();

@@ -46,7 +46,10 @@ fn accept_unless(
     links: &mut [[u16; 8]],
     reply: Reply,
 ) -> ReplyAnswer
-    ensures { λ r. ⌜ acceptLeft (r .number) (now (ledger .exit)) (now (keys .exit)) (now (slots .exit)) (now (probes .exit)) (now (links .exit)) (r .words) ≡ acceptFrom (now (ledger .entry)) zeros (calls.acceptTo other (ledgerAt (now (ledger .entry))) (now (keys .entry)) (now (slots .entry)) (now (probes .entry)) (now (links .entry)) reply) ⌝ }
+    ensures { λ r. ⌜ (
+        let words = now (ledger .entry) in
+        let left = acceptLeft (r .number) (now (ledger .exit)) (now (keys .exit)) (now (slots .exit)) (now (probes .exit)) (now (links .exit)) (r .words) in
+        left ≡ acceptFrom words zeros (calls.acceptTo other (ledgerAt words) (now (keys .entry)) (now (slots .entry)) (now (probes .entry)) (now (links .entry)) reply)) ⌝ }
 {
     let sized = (keys.len() == CAPACITY)
         & (slots.len() == CAPACITY)
@@ -88,7 +91,11 @@ pub fn accept(
     queue: &mut [QueuedProbe],
     reply: Reply,
 ) -> ReplyAnswer
-    ensures { λ r. ⌜ left (r .number) (now (ledger .exit)) (now (monitor .exit)) (now (keys .exit)) (now (slots .exit)) (now (probes .exit)) (now (links .exit)) (now (queue .exit)) (r .words) ≡ ended (now (ledger .entry)) (now (monitor .entry)) zeros (acceptTo (ledgerAt (now (ledger .entry))) (monitorAt (now (monitor .entry))) (now (keys .entry)) (now (slots .entry)) (now (probes .entry)) (now (links .entry)) (now (queue .entry)) reply) ⌝ }
+    ensures { λ r. ⌜ (
+        let words = now (ledger .entry) in
+        let watch = now (monitor .entry) in
+        let after = left (r .number) (now (ledger .exit)) (now (monitor .exit)) (now (keys .exit)) (now (slots .exit)) (now (probes .exit)) (now (links .exit)) (now (queue .exit)) (r .words) in
+        after ≡ ended words watch zeros (acceptTo (ledgerAt words) (monitorAt watch) (now (keys .entry)) (now (slots .entry)) (now (probes .entry)) (now (links .entry)) (now (queue .entry)) reply)) ⌝ }
 {
     let room = queue.len();
     let other = refusal_of_monitor(monitor, room);

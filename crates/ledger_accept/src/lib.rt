@@ -236,7 +236,12 @@ fn unique(
     reply: Reply,
 ) -> AcceptAnswer
     requires { ⌜ SoundAccept ledger (length (now keys)) (length (now slots)) (length (now probes)) (length (now links)) ⌝ }
-    ensures { λ r. ⌜ acceptResult r (now (keys .exit)) (now (slots .exit)) (now (probes .exit)) (now (links .exit)) ≡ servedAs (uniqueIn capacity (hashOf (hashWords ledger)) (numberHash (hashWords ledger)) ledger (now (keys .entry)) (now (slots .entry)) (readied capacity (hashOf (hashWords ledger)) (numberHash (hashWords ledger)) (rooms (now (probes .entry)) (now (links .entry)) (ledger .tables .probes)) slot (reply .key) (reply .pending)) reply) ⌝ }
+    ensures { λ r. ⌜ (
+        let byKey = hashOf (hashWords ledger) in
+        let byNumber = numberHash (hashWords ledger) in
+        let held = rooms (now (probes .entry)) (now (links .entry)) (ledger .tables .probes) in
+        let left = acceptResult r (now (keys .exit)) (now (slots .exit)) (now (probes .exit)) (now (links .exit)) in
+        left ≡ servedAs (uniqueIn capacity byKey byNumber ledger (now (keys .entry)) (now (slots .entry)) (readied capacity byKey byNumber held slot (reply .key) (reply .pending)) reply)) ⌝ }
 {
     let hash = ledger.secret;
     let secret = hash.words();
