@@ -14,7 +14,7 @@ use Rattle.ledger_steps.specs.Calls.{AcceptResult, acceptNumber, acceptTo}
 use Rattle.host_calls.specs.Calls as host_calls
 use Rattle.host_ledger.specs.Words.{ledgerAt, tablesWords}
 use Rattle.host_ledger.specs.Left.{countedWords}
-use Rattle.host_accept_stored.specs.Served.{servedWords}
+use Rattle.host_accept_words.specs.Served.{servedWords}
 
 -- the number returned, the words of the ledger, the four rooms and the answer's words
 pub record AcceptLeft : Type 0 where

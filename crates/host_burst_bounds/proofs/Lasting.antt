@@ -38,8 +38,8 @@ use Rattle.ledger_steps.specs.Refusals.{refusalOfAccept}
 use Rattle.host_ledger.specs.Parts.{repliesAt}
 use Rattle.host_ledger.specs.Words.{ledgerAt}
 use Rattle.host_ledger_read_back.proofs.Accept.{accept-back}
-use Rattle.host_accept_stored.specs.Served.{servedWords}
-use Rattle.host_accept_stored.proofs.Long.{served-long}
+use Rattle.host_accept_words.specs.Served.{servedWords}
+use Rattle.host_accept_words.proofs.Long.{served-long}
 use Rattle.host_accept_words.specs.Accept.{acceptFrom}
 use Rattle.host_burst_bounds.specs.Lasts.{far, lowTotals, lowAnswers, lowOthers, lastCalls, low, lasts}
 

@@ -20,7 +20,7 @@ use Rattle.ledger_state.specs.declared.Secret.{Secret}
 use Rattle.host_numbers.specs.Numbers.{lower, upper, joined, flagWord, isSet}
 use Rattle.host_numbers.proofs.Back.{flag-again}
 use Rattle.host_quality.specs.Words.{qualityAt, qualityWords, QualityKept}
-use Rattle.host_ledger.specs.Parts.{secretAt, secretWords, SecretKept, reflectorOf, reflectorWord, ReflectorKept, repliesAt, repliesWords, RepliesKept, extremeOf, extremeKind, extremeMagnitude, delaysOf, delaysAt, delaysWords, epochOf, epochWords, EpochSaid, windowAt, windowWords, WindowKept, directAt, directWords, DirectKept, followAt, followWords, FollowKept}
+use Rattle.host_ledger.specs.Parts.{secretAt, secretWords, SecretKept, reflectorOf, reflectorWord, ReflectorKept, extremeOf, extremeKind, extremeMagnitude, delaysOf, delaysAt, delaysWords, epochOf, epochWords, EpochSaid, windowAt, windowWords, WindowKept, directAt, directWords, DirectKept, followAt, followWords, FollowKept}
 
 -- ---- two numbers in a word, as `host_numbers::both` promises them
 
@@ -64,15 +64,6 @@ reflector-kept n again =
 
 pub reflector-again : (n : ℕ) → n < 2 ^ 32 → ReflectorKept (reflector.Number n)
 reflector-again n h = reflector-kept n (omega arith)
-
-pub replies-kept : (r : Replies) → ReflectorKept (r .numbers .last) → ReflectorKept (r .numbers .highest) → RepliesKept r
-unfolding repliesAt repliesWords
-replies-kept r last highest = λ i. record {
-  totals = r .totals;
-  answers = r .answers;
-  numbers = record { last = last i; highest = highest i; reordered = r .numbers .reordered; independent = r .numbers .independent };
-  evicted = r .evicted;
-}
 
 -- ---- delays: of every value, whatever its numbers
 

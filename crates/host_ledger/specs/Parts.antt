@@ -79,10 +79,6 @@ repliesWords r =
     ∷ reflectorWord (r .numbers .last) ∷ reflectorWord (r .numbers .highest) ∷ r .numbers .reordered ∷ r .numbers .independent
     ∷ r .evicted .probes ∷ r .evicted .replies ∷ []
 
--- these counts are read back from their words
-abbrev pub RepliesKept : Replies → Type 0
-RepliesKept r = repliesAt 0 14 (repliesWords r ++ (r .evicted .unanswered ∷ [])) ≡ r
-
 -- ---- delays, eight words: the count, the sum's sign and two words, the kind and the magnitude of the smallest and of the largest
 
 -- kind 0: none; 2: a negative one; any other: one that is not

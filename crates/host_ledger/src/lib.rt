@@ -1,12 +1,11 @@
 // The ledger in the words that a host lends (specs/Words.antt has their order): what any words say, and what each call stores.
 // A call stores only the words that it changes: a store of all of them would cost more than a duplicate reply.
 ghost use mathlib.Core.Path.{_≡_};
-ghost use lib.ListN.{set};
 ghost use lib.Seq.{sets};
 ghost use Rattle.host_quality.specs.Words.{qualityAt};
-ghost use Rattle.host_ledger.specs.Parts.{secretAt, secretWords, SecretKept, repliesAt, repliesWords, RepliesKept, windowAt, directAt, followAt};
+ghost use Rattle.host_ledger.specs.Parts.{secretAt, secretWords, SecretKept, repliesAt, windowAt, directAt, followAt};
 ghost use Rattle.host_ledger.specs.Words.{tablesAt, tablesWords, ledgerAt};
-ghost use Rattle.host_ledger.specs.Left.{freshWords, sentWords, countedWords, acceptedWords};
+ghost use Rattle.host_ledger.specs.Left.{freshWords, sentWords};
 
 pub mod parts;
 
@@ -28,7 +27,6 @@ use ledger_state::Tables;
 use parts::delays_of;
 use parts::epoch_of;
 use parts::reflector_of;
-use parts::reflector_word;
 use replies::Answers;
 use replies::Evicted;
 use replies::Numbers;
@@ -233,32 +231,6 @@ pub fn store_tables(state: &mut [u64; LEDGER_WORDS], tables: Tables)
     state[10] = flag(tables.awaits);
 }
 
-pub fn store_replies(state: &mut [u64; LEDGER_WORDS], replies: Replies)
-    ensures { λ _. ⌜ (now (state .exit) ≡ set (sets (now (state .entry)) 11 (repliesWords replies)) 72 (replies .evicted .unanswered)) × RepliesKept replies ⌝ }
-{
-    let totals = replies.totals;
-    let answers = replies.answers;
-    let numbers = replies.numbers;
-    let evicted = replies.evicted;
-    let last = numbers.last;
-    let highest = numbers.highest;
-    state[11] = totals.requested;
-    state[12] = totals.unique;
-    state[13] = totals.duplicate;
-    state[14] = totals.unknown;
-    state[15] = answers.answered;
-    state[16] = answers.additional;
-    state[17] = answers.late;
-    state[18] = answers.satisfied;
-    state[19] = reflector_word(last);
-    state[20] = reflector_word(highest);
-    state[21] = numbers.reordered;
-    state[22] = numbers.independent;
-    state[23] = evicted.probes;
-    state[24] = evicted.replies;
-    state[72] = evicted.unanswered;
-}
-
 // ---- what each call stores
 
 pub fn store_sent(state: &mut [u64; LEDGER_WORDS], next: Ledger)
@@ -276,30 +248,6 @@ pub fn store_sent(state: &mut [u64; LEDGER_WORDS], next: Ledger)
     state[11] = totals.requested;
     state[23] = evicted.probes;
     state[72] = evicted.unanswered;
-}
-
-// Of an `accept` whose reply is a duplicate or unknown.
-pub fn store_counted(state: &mut [u64; LEDGER_WORDS], next: Ledger)
-    ensures { λ _. ⌜ now (state .exit) ≡ countedWords (now (state .entry)) next ⌝ }
-{
-    let counts = next.counts;
-    let replies = counts.replies;
-    let totals = replies.totals;
-    state[5] = next.calls;
-    state[13] = totals.duplicate;
-    state[14] = totals.unknown;
-}
-
-// Of an `accept` whose reply is unique.
-pub fn store_accepted(state: &mut [u64; LEDGER_WORDS], next: Ledger)
-    ensures { λ _. ⌜ (now (state .exit) ≡ acceptedWords (now (state .entry)) next) × RepliesKept (next .counts .replies) ⌝ }
-{
-    let tables = next.tables;
-    let counts = next.counts;
-    let replies = counts.replies;
-    state[5] = next.calls;
-    store_tables(state, tables);
-    store_replies(state, replies);
 }
 
 // Of a fresh ledger: every word, whatever stood there.

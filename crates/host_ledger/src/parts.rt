@@ -1,6 +1,6 @@
 // The parts of a ledger that are no plain counts: out of their words, and back.
 ghost use mathlib.Core.Path.{_≡_};
-ghost use Rattle.host_ledger.specs.Parts.{reflectorOf, reflectorWord, ReflectorKept, extremeOf, extremeKind, extremeMagnitude, delaysOf, pointOf, epochOf, EpochSaid};
+ghost use Rattle.host_ledger.specs.Parts.{reflectorOf, extremeOf, extremeKind, extremeMagnitude, delaysOf, pointOf, epochOf, EpochSaid};
 use call_types::CounterPoint;
 use call_types::ReflectorRx;
 use call_types::ReflectorTx;
@@ -91,15 +91,6 @@ pub fn epoch_of(anchor: u64, transmitted: u64, latest: u64, maxima: u64, seen: u
 }
 
 // ---- and back
-
-pub fn reflector_word(number: Reflector) -> u64
-    ensures { λ r. ⌜ (r ≡ reflectorWord number) × ReflectorKept number ⌝ }
-{
-    match number {
-        Reflector::Absent => 0,
-        Reflector::Number(n) => both(n, 1),
-    }
-}
 
 pub fn extreme_kind(extreme: Extreme) -> u64
     ensures { λ r. ⌜ r ≡ extremeKind extreme ⌝ }

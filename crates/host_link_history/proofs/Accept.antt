@@ -21,8 +21,8 @@ use Rattle.link_steps.specs.Steps.{ledgerOfAccept, wasUnique, standing, unwatch
 use Rattle.host_calls.specs.Calls.{replyOf}
 use Rattle.host_ledger.specs.Words.{ledgerAt}
 use Rattle.host_ledger_read_back.proofs.Accept.{accept-back}
-use Rattle.host_accept_stored.specs.Served.{servedWords}
-use Rattle.host_accept_stored.proofs.Long.{served-long}
+use Rattle.host_accept_words.specs.Served.{servedWords}
+use Rattle.host_accept_words.proofs.Long.{served-long}
 use Rattle.host_accept_words.specs.Accept.{acceptOf}
 use Rattle.host_accept_words.specs.Accept as plain
 use Rattle.host_monitor_words.specs.Words.{monitorAt}

@@ -10,7 +10,7 @@ use Rattle.ledger_watched.specs.declared.WatchedAccept.{WatchedAccept}
 use Rattle.ledger_watched.specs.declared.WatchedAccept.the-variants.{Served, Refused}
 use Rattle.ledger_watched.specs.Watched.{AcceptResult, acceptNumber}
 use Rattle.host_calls.specs.Calls.{acceptedWords}
-use Rattle.host_accept_stored.specs.Served.{servedWords}
+use Rattle.host_accept_words.specs.Served.{servedWords}
 use Rattle.host_monitor_words.specs.Words.{wordsOf}
 
 -- the number, and what is left of everything lent

@@ -1,6 +1,6 @@
 // `sent` with a monitor for a host: the ledger and the monitor in their lent words, document 01's number back (0 where the call was served). The
-// ledger stays in its words (crate host_sent_words); the monitor is a small part, and is taken out, stepped by value and put back. Crate ledger_watched
-// has the same call on both by value; its contract and this one cite one definition, `sentTo`.
+// ledger stays in its words (crate host_sent_words); the monitor is a small part, and is taken out, stepped by value and put back. What both
+// do is `sentTo` of crate ledger_watched, which has the definitions of the calls with a monitor.
 // What is lent the queue is a straight line of calls, so that the walk of it is short; what depends on a test is in the functions before it.
 ghost use mathlib.Core.Path.{_≡_};
 ghost use lib.Dec.{eqb};

@@ -10,7 +10,7 @@ use Rattle.ledger_steps.specs.declared.Accepted.the-variants.{Duplicate, Unknow
 use Rattle.host_ledger.specs.Parts.{repliesWords}
 use Rattle.host_ledger.specs.Words.{tablesWords}
 use Rattle.host_ledger.specs.Left.{countedWords, acceptedWords}
-use Rattle.host_accept_stored.specs.Served.{servedWords}
+use Rattle.host_accept_words.specs.Served.{servedWords}
 
 counted-long : (w : List ℕ) (next : Ledger) → length (countedWords w next) ≡ length w
 unfolding countedWords
