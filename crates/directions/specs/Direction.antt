@@ -29,7 +29,7 @@ pub record Outcome : Type 0 where
   pub state : OwdDirection
   pub room : List ℕ
 
--- these
+-- the record above, made of its parts in their order
 abbrev pub left : ℕ → Bool → OwdDirection → List ℕ → Outcome
 left n b d room = record { number = n; answer = b; state = d; room = room }
 

@@ -66,7 +66,7 @@ pub record Outcome : Type 0 where
   pub state : Directions
   pub slice : List ℕ
 
--- these
+-- the record above, made of its parts in their order
 abbrev pub left : ℕ → Bool → Directions → List ℕ → Outcome
 left n b ds slice = record { number = n; answer = b; state = ds; slice = slice }
 

@@ -13,7 +13,7 @@ pub record Lent : Type 0 where
   pub probes : List (List ℕ)
   pub links : List (List ℕ)
 
--- these
+-- the record above, made of its parts in their order
 abbrev pub lent : List ℕ → List (List ℕ) → List (List ℕ) → List (List ℕ) → List (List ℕ) → Lent
 lent ledger keys slots probes links = record { ledger = ledger; keys = keys; slots = slots; probes = probes; links = links }
 

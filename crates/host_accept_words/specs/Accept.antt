@@ -26,7 +26,7 @@ pub record AcceptLeft : Type 0 where
   pub links : List (List ℕ)
   pub answer : List ℕ
 
--- these
+-- the record above, made of its parts in their order
 abbrev pub acceptLeft : ℕ → List ℕ → List (List ℕ) → List (List ℕ) → List (List ℕ) → List (List ℕ) → List ℕ → AcceptLeft
 acceptLeft number ledger keys slots probes links answer = record { number = number; ledger = ledger; keys = keys; slots = slots; probes = probes; links = links; answer = answer }
 

@@ -23,7 +23,7 @@ pub record Listed (S : Type 0) : Type 0 where
   pub burst : Burst S
 
 module _ {S : Type 0} where
-  -- of these parts
+  -- the record above, made of its parts in their order
   abbrev pub single : S → List ℕ → Single S
   single s row = record { state = s; row = row }
 

@@ -13,7 +13,7 @@ pub record Left : Type 0 where
   pub number : ℕ
   pub answer : List ℕ
 
--- these
+-- the record above, made of its parts in their order
 abbrev pub left : ℕ → List ℕ → Left
 left number answer = record { number = number; answer = answer }
 

@@ -13,7 +13,7 @@ pub record DirectLeft : Type 0 where
   pub offsets : List ℕ
   pub links : List (List ℕ)
 
--- these
+-- the record above, made of its parts in their order
 abbrev pub directLeft : List ℕ → List ℕ → List (List ℕ) → DirectLeft
 directLeft ledger offsets links = record { ledger = ledger; offsets = offsets; links = links }
 

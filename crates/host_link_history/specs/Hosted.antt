@@ -39,7 +39,7 @@ pub record HostLink : Type 0 where
   pub rooms : Rooms
   pub queue : List QueuedProbe
 
--- of these parts
+-- the record above, made of its parts in their order
 abbrev pub hostLink : List ℕ → HostWatch → Rooms → List QueuedProbe → HostLink
 hostLink ledger watch rooms queue = record { ledger = ledger; watch = watch; rooms = rooms; queue = queue }
 
@@ -73,7 +73,7 @@ pub record HostStep : Type 0 where
   pub number : ℕ
   pub next : HostLink
 
--- these
+-- the record above, made of its parts in their order
 abbrev pub step : ℕ → HostLink → HostStep
 step n x = record { number = n; next = x }
 

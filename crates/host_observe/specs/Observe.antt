@@ -21,7 +21,7 @@ pub record Left : Type 0 where
   pub offsets : List ℕ
   pub links : List (List ℕ)
 
--- these
+-- the record above, made of its parts in their order
 abbrev pub left : ℕ → List ℕ → List (List ℕ) → List ℕ → List (List ℕ) → Left
 left number ledger slots offsets links = record { number = number; ledger = ledger; slots = slots; offsets = offsets; links = links }
 
@@ -51,7 +51,7 @@ pub record FollowLeft : Type 0 where
   pub ledger : List ℕ
   pub slots : List (List ℕ)
 
--- these
+-- the record above, made of its parts in their order
 abbrev pub followLeft : List ℕ → List (List ℕ) → FollowLeft
 followLeft ledger slots = record { ledger = ledger; slots = slots }
 

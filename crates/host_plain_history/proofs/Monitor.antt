@@ -24,7 +24,7 @@ use Rattle.host_plain_history.specs.Monitor.{Waiting, Watch, inState, ho
 abbrev pub waiting : Sent → Waiting
 waiting p = record { sequence = p .sequence; deadline = p .deadline }
 
--- of these parts
+-- the record above, made of its parts in their order
 abbrev watchOf : Summary → ℕ → Bool → List Sent → Marks → Watch
 watchOf s timeout transmitting probes received = record {
   state = stateNumber (s .state);

@@ -25,7 +25,7 @@ pub record Started : Type 0 where
   pub number : ℕ
   pub words : List ℕ
 
--- these
+-- the record above, made of its parts in their order
 abbrev pub started : ℕ → List ℕ → Started
 started n ws = record { number = n; words = ws }
 
@@ -42,7 +42,7 @@ pub record RecordLeft : Type 0 where
   pub room : List ℕ
   pub recorded : List ℕ
 
--- these
+-- the record above, made of its parts in their order
 abbrev pub recordLeft : ℕ → List ℕ → List ℕ → List ℕ → RecordLeft
 recordLeft n ws room recorded = record { number = n; words = ws; room = room; recorded = recorded }
 
@@ -63,7 +63,7 @@ pub record PercentilesLeft : Type 0 where
   pub shown : List ℕ
   pub present : List ℕ
 
--- these
+-- the record above, made of its parts in their order
 abbrev pub percentilesLeft : ℕ → List ℕ → List ℕ → PercentilesLeft
 percentilesLeft n shown present = record { number = n; shown = shown; present = present }
 

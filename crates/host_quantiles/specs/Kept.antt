@@ -19,7 +19,7 @@ pub record Kept : Type 0 where
   pub words : List ℕ
   pub recorded : List ℕ
 
--- these
+-- the record above, made of its parts in their order
 abbrev pub kept : ℕ → List ℕ → List ℕ → Kept
 kept n ws recorded = record { number = n; words = ws; recorded = recorded }
 

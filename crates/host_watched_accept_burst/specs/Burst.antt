@@ -19,7 +19,7 @@ pub record Lent : Type 0 where
   pub links : List (List ℕ)
   pub queue : List QueuedProbe
 
--- these
+-- the record above, made of its parts in their order
 abbrev pub lent : List ℕ → List ℕ → (keys slots probes links : List (List ℕ)) → List QueuedProbe → Lent
 lent ledger monitor keys slots probes links queue =
     record { ledger = ledger; monitor = monitor; keys = keys; slots = slots; probes = probes; links = links; queue = queue }

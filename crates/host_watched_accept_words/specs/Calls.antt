@@ -25,7 +25,7 @@ pub record Left : Type 0 where
   pub queue : List QueuedProbe
   pub answer : List ℕ
 
--- these
+-- the record above, made of its parts in their order
 abbrev pub left : ℕ → List ℕ → List ℕ → (keys slots probes links : List (List ℕ)) → List QueuedProbe → List ℕ → Left
 left n ledger monitor keys slots probes links queue answer =
     record { number = n; ledger = ledger; monitor = monitor; keys = keys; slots = slots; probes = probes; links = links; queue = queue; answer = answer }

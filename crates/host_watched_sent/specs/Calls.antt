@@ -21,7 +21,7 @@ pub record Left : Type 0 where
   pub links : List (List ℕ)
   pub queue : List QueuedProbe
 
--- these
+-- the record above, made of its parts in their order
 abbrev pub left : ℕ → List ℕ → List ℕ → List (List ℕ) → List (List ℕ) → List QueuedProbe → Left
 left n ledger monitor probes links queue = record { number = n; ledger = ledger; monitor = monitor; probes = probes; links = links; queue = queue }
 

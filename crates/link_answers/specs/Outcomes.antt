@@ -38,7 +38,7 @@ pub record Outcome (State : Type 0) : Type 0 where
   pub values : List ℕ
   pub state : State
 
--- these
+-- the record above, made of its parts in their order
 abbrev pub outcome : {State : Type 0} → ℕ → List ℕ → State → Outcome State
 outcome n values state = record { number = n; values = values; state = state }
 

@@ -53,7 +53,7 @@ pub record Reported : Type 0 where
   pub queue : List QueuedProbe
   pub rooms : Rooms
 
--- these
+-- the record above, made of its parts in their order
 abbrev pub reported : Outcome → List QueuedProbe → Rooms → Reported
 reported o queue rooms = record { outcome = o; queue = queue; rooms = rooms }
 

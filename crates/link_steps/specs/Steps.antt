@@ -48,7 +48,7 @@ watched s = record { watch = Present (s .monitor); queue = s .room }
 abbrev pub unwatched : List QueuedProbe → Watched
 unwatched queue = record { watch = Absent; queue = queue }
 
--- of these parts
+-- the record above, made of its parts in their order
 abbrev pub standing : Ledger → Rooms → Watched → LinkStand
 standing l r w = record { link = record { ledger = l; watch = w .watch }; rooms = r; queue = w .queue }
 

@@ -22,7 +22,7 @@ pub record Tallied : Type 0 where
   pub standing : LinkStand
   pub turned : ℕ
 
--- these
+-- the record above, made of its parts in their order
 abbrev pub tallyOf : LinkStand → ℕ → Tallied
 tallyOf k n = record { standing = k; turned = n }
 

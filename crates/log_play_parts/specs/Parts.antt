@@ -57,7 +57,7 @@ pub record Parted : Type 0 where
   pub part : Part
   pub rooms : Rooms
 
--- these
+-- the record above, made of its parts in their order
 abbrev pub parted : Part → Rooms → Parted
 parted p rooms = record { part = p; rooms = rooms }
 

@@ -26,7 +26,7 @@ pub record Said : Type 0 where
   pub length : ℕ
   pub buffer : List ℕ
 
--- these
+-- the record above, made of its parts in their order
 abbrev pub said : ℕ → List ℕ → Said
 said n buffer = record { length = n; buffer = buffer }
 

@@ -184,7 +184,7 @@ pub record Wrote : Type 0 where
   pub number : ℕ
   pub bytes : List ℕ
 
--- these
+-- the record above, made of its parts in their order
 abbrev pub wrote : ℕ → List ℕ → Wrote
 wrote n bs = record { number = n; bytes = bs }
 

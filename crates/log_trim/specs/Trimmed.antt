@@ -16,7 +16,7 @@ pub record Left : Type 0 where
   pub answer : Trimmed
   pub room : List ℕ
 
--- these
+-- the record above, made of its parts in their order
 abbrev pub left : Trimmed → List ℕ → Left
 left a bs = record { answer = a; room = bs }
 

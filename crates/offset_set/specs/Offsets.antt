@@ -16,7 +16,7 @@ pub record OffsetSet : Type 0 where
   pub links : List (List ℕ)
   pub count : ℕ
 
--- these
+-- the record above, made of its parts in their order
 abbrev pub offsetSet : List ℕ → List (List ℕ) → ℕ → OffsetSet
 offsetSet offsets links count = record { offsets = offsets; links = links; count = count }
 

@@ -49,7 +49,7 @@ pub record Recounted : Type 0 where
   pub marks : List ℕ
   pub fronts : List ℕ
 
--- these
+-- the record above, made of its parts in their order
 abbrev pub recounted : Outcome → List ℕ → List ℕ → Recounted
 recounted o marks fronts = record { outcome = o; marks = marks; fronts = fronts }
 

@@ -16,7 +16,7 @@ pub record Outcome : Type 0 where
   pub state : RttCollector
   pub room : List ℕ
 
--- these
+-- the record above, made of its parts in their order
 abbrev pub left : ℕ → Bool → RttCollector → List ℕ → Outcome
 left n b s room = record { number = n; answer = b; state = s; room = room }
 
