@@ -28,7 +28,7 @@ use Rattle.host_ledger.specs.Parts.{delaysWords, directWords, followCountsWords
 use Rattle.host_ledger.specs.Words.{ledgerAt}
 use Rattle.host_ledger.specs.Left.{directStored, observedWords}
 use Rattle.host_observe_read_back.proofs.Observed.{observed-back}
-use Rattle.host_observe.specs.Observe.{ledgerAfter, observeLeaves}
+use Rattle.host_observe_words.specs.Observe.{ledgerAfter, observeLeaves}
 use Rattle.host_link_history.specs.Hosted.{HostWatch, watchSaid, hostLink, observe, observeRooms, playHost}
 use Rattle.host_link_history.proofs.Agreeing.{Agrees}
 

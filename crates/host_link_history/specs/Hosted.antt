@@ -20,7 +20,7 @@ use Rattle.host_sent_words.specs.Sent.{SentLeft}
 use Rattle.host_sent.specs.Sent.{sentOf}
 use Rattle.host_accept_words.specs.Accept.{AcceptLeft, acceptOf}
 use Rattle.host_observation.specs.Observation.{observationAt}
-use Rattle.host_observe.specs.Observe as observed
+use Rattle.host_observe_words.specs.Observe as observed
 use Rattle.host_monitor_words.specs.Words.{monitorAt}
 use Rattle.host_monitor.specs.Calls as monitor
 use Rattle.host_watched_sent.specs.Calls as watchedSent

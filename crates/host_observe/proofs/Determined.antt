@@ -15,7 +15,7 @@ use Rattle.ledger_steps.specs.Observe.{ObserveOutcome, observeOn}
 use Rattle.ledger_steps.specs.Calls.{observeBy, observeTo}
 use Rattle.host_observation.specs.Observation.{observationAt}
 use Rattle.host_ledger.specs.Words.{ledgerAt}
-use Rattle.host_observe.specs.Observe.{Left, left, leftBy, observeLeaves}
+use Rattle.host_observe_words.specs.Observe.{Left, left, leftBy, observeLeaves}
 use Rattle.host_observe.proofs.ambrulicciu_observe as observe
 use Rattle.host_observe.proofs.ambrulicciu_observe.Kinds as observe-kinds
 use Rattle.host_observe.proofs.ambrulicciu_observe.Reads as observe-reads

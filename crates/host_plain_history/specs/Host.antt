@@ -20,7 +20,7 @@ use Rattle.host_observation.specs.Observation.{observationAt}
 use Rattle.host_fresh.specs.Fresh.{freshOf}
 use Rattle.host_sent.specs.Sent.{sentOf}
 use Rattle.host_accept_words.specs.Accept.{acceptOf}
-use Rattle.host_observe.specs.Observe.{observeLeaves}
+use Rattle.host_observe_words.specs.Observe.{observeLeaves}
 use Rattle.host_watched_sent.specs.Calls.{watchedSentTo}
 use Rattle.host_watched_accept.specs.Calls.{watchedAcceptTo}
 use Rattle.host_monitor.specs.Calls.{freshTo, sentTo, replyTo, advanceTo, idleTo}

@@ -1,4 +1,4 @@
--- `host_observe::observed` meets its contract. Assumes nothing.
+-- `host_observe_words::observed` meets its contract. Assumes nothing.
 use mathlib.Core.Path.{refl, sym, ap, subst, _∙_}
 use denote.Ref.{now}
 use Rattle.limits.specs.Limits.{capacity}
@@ -8,10 +8,10 @@ use Rattle.key_ring.specs.Table.{hashOf}
 use Rattle.ledger_steps.specs.Observe.{ownIn}
 use Rattle.ledger_observe.proofs.Steps.{follow-ranged}
 use Rattle.host_ledger.specs.Words.{ledgerAt}
-use Rattle.host_observe.proofs.Steps.{calls-fit, rtt-bounded, direct-bounded, follow-bounded, observed-as}
+use Rattle.host_observe_words.proofs.Steps.{calls-fit, rtt-bounded, direct-bounded, follow-bounded, observed-as}
 use borrow.Author.Needs.{needs}
-use Rattle.host_observe.proofs.observed.Statement.{statement}
-use Rattle.host_observe.proofs.observed.Tie as tie
+use Rattle.host_observe_words.proofs.observed.Statement.{statement}
+use Rattle.host_observe_words.proofs.observed.Tie as tie
 
 secret-words-requires : tie.Need-secret-words-requires
 secret-words-requires c κs = search needs

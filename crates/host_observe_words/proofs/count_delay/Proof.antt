@@ -1,4 +1,4 @@
--- `host_observe::count_delay` meets its contract. Assumes nothing.
+-- `host_observe_words::count_delay` meets its contract. Assumes nothing.
 use mathlib.Core.Path.{ap, _∙_}
 use lib.IntN.{ℤ}
 use lib.Seq.{sets}
@@ -8,8 +8,8 @@ use Rattle.delays.specs.Sums.{nanosecondsOf}
 use Rattle.follow_ups.proofs.Delayed.{delay-read}
 use Rattle.host_ledger.specs.Parts.{delaysAt, delaysWords}
 use borrow.Author.Needs.{needs}
-use Rattle.host_observe.proofs.count_delay.Statement.{statement}
-use Rattle.host_observe.proofs.count_delay.Tie as tie
+use Rattle.host_observe_words.proofs.count_delay.Statement.{statement}
+use Rattle.host_observe_words.proofs.count_delay.Tie as tie
 
 delay-requires : tie.Need-delay-requires
 delay-requires c κs = search needs

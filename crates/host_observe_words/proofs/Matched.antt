@@ -22,7 +22,7 @@ use Rattle.follow_ups.specs.Bounds.{InBounds}
 use Rattle.follow_ups.specs.Followed.{estimatesOf, counted, followed}
 use Rattle.host_quality.specs.Words.{qualityAt, qualityWords}
 use Rattle.host_ledger.specs.Parts.{delaysAt, delaysWords, followAt, followCountsWords, followWords}
-use Rattle.host_observe.proofs.Parts.{Beyond, beyond-set, beyond-sets}
+use Rattle.host_observe_words.proofs.Parts.{Beyond, beyond-set, beyond-sets}
 
 -- one observation and one match more
 abbrev pub twoMore : List ℕ → List ℕ

@@ -32,8 +32,8 @@ use Rattle.host_ledger.specs.Parts.{delaysAt, delaysWords, directAt, followAt}
 use Rattle.host_ledger.specs.Words.{tablesAt, ledgerAt}
 use Rattle.host_ledger.specs.Left.{followStored, observedWords}
 use Rattle.host_direct_loss.specs.Left.{DirectLeft, directLeft, directLeaves}
-use Rattle.host_observe.specs.Observe.{FollowLeft, followLeft, followLeaves, Left, left, leftBy, servedLeaves, observeLeaves}
-use Rattle.host_observe.proofs.Parts.{counted, timed, rtt-same, direct-same, follow-same}
+use Rattle.host_observe_words.specs.Observe.{FollowLeft, followLeft, followLeaves, Left, left, leftBy, servedLeaves, observeLeaves}
+use Rattle.host_observe_words.proofs.Parts.{counted, timed, rtt-same, direct-same, follow-same}
 
 -- ---- the parts in their order
 

@@ -1,4 +1,4 @@
--- `host_observe::refusal` meets its contract. Assumes nothing.
+-- `host_observe_words::refusal` meets its contract. Assumes nothing.
 use mathlib.Core.Path.{sym, ap, subst, _∙_}
 use mathlib.Core.Bool.{true, _&&_}
 use denote.Ref.{now}
@@ -11,8 +11,8 @@ use Rattle.ledger_checks.proofs.Sound.{observe-placed}
 use Rattle.ledger_checks.proofs.Observed.{placed-is, misplaced-is, tested-is}
 use Rattle.host_ledger.specs.Words.{tablesAt, ledgerAt}
 use borrow.Author.Needs.{needs}
-use Rattle.host_observe.proofs.refusal.Statement.{statement}
-use Rattle.host_observe.proofs.refusal.Tie as tie
+use Rattle.host_observe_words.proofs.refusal.Statement.{statement}
+use Rattle.host_observe_words.proofs.refusal.Tie as tie
 
 rings-fit-requires : tie.Need-rings-fit-requires
 rings-fit-requires c κs = search needs

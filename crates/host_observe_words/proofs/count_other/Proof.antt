@@ -1,4 +1,4 @@
--- `host_observe::count_other` meets its contract. Assumes nothing.
+-- `host_observe_words::count_other` meets its contract. Assumes nothing.
 use mathlib.Core.Path.{sym, ap, _∙_, subst}
 use lib.Seq.{sets}
 use denote.Ref.{now}
@@ -7,8 +7,8 @@ use Rattle.follow_ups.specs.Bounds.{CountsIn}
 use Rattle.follow_ups.specs.Followed.{counted}
 use Rattle.host_ledger.specs.Parts.{followCountsWords}
 use borrow.Author.Needs.{needs}
-use Rattle.host_observe.proofs.count_other.Statement.{statement}
-use Rattle.host_observe.proofs.count_other.Tie as tie
+use Rattle.host_observe_words.proofs.count_other.Statement.{statement}
+use Rattle.host_observe_words.proofs.count_other.Tie as tie
 
 follow-counts-of-requires : tie.Need-follow-counts-of-requires
 follow-counts-of-requires c κs = search needs

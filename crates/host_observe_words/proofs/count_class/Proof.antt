@@ -1,14 +1,14 @@
--- `host_observe::count_class` meets its contract. Assumes nothing.
+-- `host_observe_words::count_class` meets its contract. Assumes nothing.
 use mathlib.Core.Path.{refl, sym, _∙_, subst}
 use mir.Syntax.{w32}
 use mir.ValLaws.{toZ-ofZ}
 use denote.Ref.{now}
 use Rattle.correlation.specs.Class.{MatchedInRange, offsetInRange}
 use Rattle.host_ledger.specs.Parts.{followAt}
-use Rattle.host_observe.proofs.Stored.{other-as, matched-as}
+use Rattle.host_observe_words.proofs.Stored.{other-as, matched-as}
 use borrow.Author.Needs.{needs}
-use Rattle.host_observe.proofs.count_class.Statement.{statement}
-use Rattle.host_observe.proofs.count_class.Tie as tie
+use Rattle.host_observe_words.proofs.count_class.Statement.{statement}
+use Rattle.host_observe_words.proofs.count_class.Tie as tie
 
 enum-told : tie.Need-enum-told
 enum-told c = search needs

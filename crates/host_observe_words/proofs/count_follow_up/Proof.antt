@@ -1,4 +1,4 @@
--- `host_observe::count_follow_up` meets its contract. Assumes nothing.
+-- `host_observe_words::count_follow_up` meets its contract. Assumes nothing.
 use mathlib.Core.Path.{sym, subst}
 use mir.Syntax.{w32}
 use mir.ValLaws.{toZ-ofZ}
@@ -7,10 +7,10 @@ use Rattle.chains.specs.Hash.{numberHash}
 use Rattle.correlation.specs.Class.{offsetInRange}
 use Rattle.key_ring.specs.Table.{hashOf}
 use Rattle.ledger_follow.proofs.Steps.{found-ranged}
-use Rattle.host_observe.proofs.Stored.{follow-untold, follow-told}
+use Rattle.host_observe_words.proofs.Stored.{follow-untold, follow-told}
 use borrow.Author.Needs.{needs}
-use Rattle.host_observe.proofs.count_follow_up.Statement.{statement}
-use Rattle.host_observe.proofs.count_follow_up.Tie as tie
+use Rattle.host_observe_words.proofs.count_follow_up.Statement.{statement}
+use Rattle.host_observe_words.proofs.count_follow_up.Tie as tie
 
 enum-told : tie.Need-enum-told
 enum-told c = search needs

@@ -24,7 +24,7 @@ use Rattle.ledger_follow.specs.Class.{classOutcome, classIn}
 use Rattle.ledger_follow.proofs.Steps.{follow-as, counted-as}
 use Rattle.host_ledger.specs.Parts.{followAt, followCountsWords, followWords}
 use Rattle.host_ledger.specs.Left.{followStored}
-use Rattle.host_observe.specs.Observe.{followLeft, followLeaves}
+use Rattle.host_observe_words.specs.Observe.{followLeft, followLeaves}
 
 module _ (w : List ℕ) where
   -- counts as they are read are stored as they were

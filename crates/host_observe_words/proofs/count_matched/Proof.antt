@@ -1,4 +1,4 @@
--- `host_observe::count_matched` meets its contract. Assumes nothing.
+-- `host_observe_words::count_matched` meets its contract. Assumes nothing.
 use mathlib.Core.Path.{sym, subst}
 use native.Mathlib.Omega.{arith}
 use mir.Syntax.{w32}
@@ -6,10 +6,10 @@ use mir.ValLaws.{toZ-ofZ}
 use denote.Ref.{now}
 use Rattle.correlation.specs.Class.{offsetInRange}
 use Rattle.host_ledger.specs.Parts.{followAt}
-use Rattle.host_observe.proofs.Matched.{delay-bounded, quality-bounded, matched-as}
+use Rattle.host_observe_words.proofs.Matched.{delay-bounded, quality-bounded, matched-as}
 use borrow.Author.Needs.{needs}
-use Rattle.host_observe.proofs.count_matched.Statement.{statement}
-use Rattle.host_observe.proofs.count_matched.Tie as tie
+use Rattle.host_observe_words.proofs.count_matched.Statement.{statement}
+use Rattle.host_observe_words.proofs.count_matched.Tie as tie
 
 element-copy-out-observations : tie.Need-element-copy-out-observations
 element-copy-out-observations c = search needs

@@ -1,12 +1,12 @@
--- `host_observe::ambrulicciu_observe` meets its contract. Assumes nothing.
+-- `host_observe_words::observe` meets its contract. Assumes nothing.
 use mathlib.Core.Path.{sym, _∙_}
 use denote.Ref.{now}
 use Rattle.ledger_checks.proofs.Sound.{observe-sound}
 use Rattle.host_ledger.specs.Words.{ledgerAt}
-use Rattle.host_observe.proofs.Steps.{refused-as, served-as}
+use Rattle.host_observe_words.proofs.Steps.{refused-as, served-as}
 use borrow.Author.Needs.{needs}
-use Rattle.host_observe.proofs.ambrulicciu_observe.Statement.{statement}
-use Rattle.host_observe.proofs.ambrulicciu_observe.Tie as tie
+use Rattle.host_observe_words.proofs.observe.Statement.{statement}
+use Rattle.host_observe_words.proofs.observe.Tie as tie
 
 observation-of-requires : tie.Need-observation-of-requires
 observation-of-requires c κs = search needs
@@ -34,8 +34,8 @@ returns c = served-as (now (c .before .before .before .before .before .before .b
 returns-2 : tie.Need-returns-2
 returns-2 c = refused-as (now (c .before .before .before .before .before .args .ledger)) (now (c .before .before .before .before .before .args .keys)) (now (c .before .before .before .before .before .args .slots)) (now (c .before .before .before .before .before .args .offsets)) (now (c .before .before .before .before .before .args .links)) (now (c .before .before .before .before .before .args .observation)) _ (c .before .before .before .observation-of .ensures) _ (c .before .refusal .ensures) (c .if1 .left)
 
-pub ambrulicciu-observe-spec : {M : Type 1} → statement M
-ambrulicciu-observe-spec =
+pub observe-spec : {M : Type 1} → statement M
+observe-spec =
     tie.close
     (tie.spec
     observation-of-requires
