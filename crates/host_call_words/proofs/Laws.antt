@@ -1,8 +1,8 @@
 -- From what the code stores to the words of a call. Assumes nothing.
 use mathlib.Core.Path.{_≡_, ap, _∙_}
-use mathlib.Core.List.{List}
+use mathlib.Core.List.{List, [], _∷_, _++_}
 use Prim.Native.Nat.{ℕ, _+_}
-use lib.ListN.{set, replicate}
+use lib.ListN.{getD, set, replicate}
 use mir.Syntax.{w32, w64}
 use mir.Val.{ofZ}
 use Rattle.host_numbers.specs.Numbers.{lower, upper}
@@ -12,8 +12,8 @@ use Rattle.call_types.specs.declared.ReplyObservation.{ReplyObservation}
 use Rattle.call_types.specs.declared.SentProbe.{SentProbe}
 use Rattle.record_parts.specs.Parts.{observeFlags, pendingFlag, pendingTime, pendingTag, timeWord, ordinalNumber}
 use Rattle.record_parts.specs.Parts.{senderCount, receivedCount, transmittedCount, followSequence, followTimestamp}
-use Rattle.host_call_words.specs.Words.{wires, sentWords, acceptWords, observeWords}
-use Rattle.host_call_words.specs.Stores.{longAt, timesAt, numbersAt}
+use Rattle.host_call_words.specs.Words.{wires, sentWords, acceptWords, observationWords, observeWords}
+use Rattle.host_call_words.specs.Stores.{longAt}
 
 abbrev zeros : List ℕ
 zeros = replicate 44 0
@@ -33,23 +33,18 @@ accept-stored r w₁ w₂ w₃ t g k e₁ et e₂ eg e₃ ek =
     let third = e₃ ∙ (λ i. longAt (second i) 12 (eg i)) in
     λ i. set (set (set (third i) 14 (r .key .sender)) 15 (r .key .reflector)) 16 (ek i)
 
-pub times-stored : (o : ReplyObservation) (w₀ w₁ w₂ w₃ w₄ w₅ : List ℕ) (a b t : ℕ)
+-- the words one after the other
+pub observation-listed : (o : ReplyObservation) (a b t k₁ k₂ r₁ r₂ a₁ a₂ b₁ b₂ t₁ t₂ n s r u q z e f : ℕ)
     → a ≡ timeWord (o .t4) → b ≡ ofZ w64 (o .reference) → t ≡ followTimestamp (o .follow)
-    → w₁ ≡ longAt w₀ 18 (o .key .t3) → w₂ ≡ longAt w₁ 20 (o .rtt) → w₃ ≡ longAt w₂ 22 a → w₄ ≡ longAt w₃ 24 b → w₅ ≡ longAt w₄ 28 t
-    → w₅ ≡ timesAt w₀ o
-times-stored o w₀ w₁ w₂ w₃ w₄ w₅ a b t ea eb et e₁ e₂ e₃ e₄ e₅ =
-    let second = e₂ ∙ (λ i. longAt (e₁ i) 20 (o .rtt)) in
-    let third = e₃ ∙ (λ i. longAt (second i) 22 (ea i)) in
-    let fourth = e₄ ∙ (λ i. longAt (third i) 24 (eb i)) in
-    e₅ ∙ (λ i. longAt (fourth i) 28 (et i))
-
-pub numbers-stored : (w : List ℕ) (o : ReplyObservation) (n s r t q z e f : ℕ)
-    → n ≡ ordinalNumber (o .ordinal) → s ≡ senderCount (o .counters) → r ≡ receivedCount (o .counters) → t ≡ transmittedCount (o .counters)
+    → k₁ ≡ lower (o .key .t3) → k₂ ≡ upper (o .key .t3) → r₁ ≡ lower (o .rtt) → r₂ ≡ upper (o .rtt) → a₁ ≡ lower a → a₂ ≡ upper a → b₁ ≡ lower b → b₂ ≡ upper b → t₁ ≡ lower t → t₂ ≡ upper t
+    → n ≡ ordinalNumber (o .ordinal) → s ≡ senderCount (o .counters) → r ≡ receivedCount (o .counters) → u ≡ transmittedCount (o .counters)
     → q ≡ followSequence (o .follow) → z ≡ ofZ w32 (o .offset) → e ≡ wires (o .quality) → f ≡ observeFlags o Absent
-    → set (set (set (set (set (set (set (set (set (set w 30 (o .key .sender)) 31 (o .key .reflector)) 32 n) 33 s) 34 r) 35 t) 36 q) 37 z) 38 e) 39 f
-    ≡ numbersAt w o
-numbers-stored w o n s r t q z e f en es er et eq ez ee ef =
-    λ i. set (set (set (set (set (set (set (set (set (set w 30 (o .key .sender)) 31 (o .key .reflector)) 32 (en i)) 33 (es i)) 34 (er i)) 35 (et i)) 36 (eq i)) 37 (ez i)) 38 (ee i)) 39 (ef i)
+    → k₁ ∷ k₂ ∷ r₁ ∷ r₂ ∷ a₁ ∷ a₂ ∷ b₁ ∷ b₂ ∷ 0 ∷ 0 ∷ t₁ ∷ t₂ ∷ o .key .sender ∷ o .key .reflector ∷ n ∷ s ∷ r ∷ u ∷ q ∷ z ∷ e ∷ f ∷ 0 ∷ 0 ∷ [] ≡ observationWords o
+observation-listed o a b t k₁ k₂ r₁ r₂ a₁ a₂ b₁ b₂ t₁ t₂ n s r u q z e f ea eb et ek₁ ek₂ er₁ er₂ ea₁ ea₂ eb₁ eb₂ et₁ et₂ en es er eu eq ez ee ef =
+    λ i. ek₁ i ∷ ek₂ i ∷ er₁ i ∷ er₂ i ∷ (ea₁ ∙ ap lower ea) i ∷ (ea₂ ∙ ap upper ea) i ∷ (eb₁ ∙ ap lower eb) i ∷ (eb₂ ∙ ap upper eb) i ∷ 0 ∷ 0 ∷ (et₁ ∙ ap lower et) i ∷ (et₂ ∙ ap upper et) i
+    ∷ o .key .sender ∷ o .key .reflector ∷ en i ∷ es i ∷ er i ∷ eu i ∷ eq i ∷ ez i ∷ ee i ∷ ef i ∷ 0 ∷ 0 ∷ []
 
-pub observe-stored : (o : ReplyObservation) (w₁ w₂ : List ℕ) → w₁ ≡ timesAt (set zeros 0 2) o → w₂ ≡ numbersAt w₁ o → w₂ ≡ observeWords o
-observe-stored o w₁ w₂ e f = f ∙ ap (λ (w : List ℕ). numbersAt w o) e
+-- those of an observation behind the kind
+pub observe-listed : (o : ReplyObservation) (w : List ℕ) → w ≡ observationWords o
+    → 2 ∷ replicate 17 0 ++ (getD w 0 0 ∷ getD w 1 0 ∷ getD w 2 0 ∷ getD w 3 0 ∷ getD w 4 0 ∷ getD w 5 0 ∷ getD w 6 0 ∷ getD w 7 0 ∷ getD w 8 0 ∷ getD w 9 0 ∷ getD w 10 0 ∷ getD w 11 0 ∷ getD w 12 0 ∷ getD w 13 0 ∷ getD w 14 0 ∷ getD w 15 0 ∷ getD w 16 0 ∷ getD w 17 0 ∷ getD w 18 0 ∷ getD w 19 0 ∷ getD w 20 0 ∷ getD w 21 0 ∷ getD w 22 0 ∷ getD w 23 0 ∷ 0 ∷ 0 ∷ []) ≡ observeWords o
+observe-listed o w e = ap (λ (w : List ℕ). 2 ∷ replicate 17 0 ++ (getD w 0 0 ∷ getD w 1 0 ∷ getD w 2 0 ∷ getD w 3 0 ∷ getD w 4 0 ∷ getD w 5 0 ∷ getD w 6 0 ∷ getD w 7 0 ∷ getD w 8 0 ∷ getD w 9 0 ∷ getD w 10 0 ∷ getD w 11 0 ∷ getD w 12 0 ∷ getD w 13 0 ∷ getD w 14 0 ∷ getD w 15 0 ∷ getD w 16 0 ∷ getD w 17 0 ∷ getD w 18 0 ∷ getD w 19 0 ∷ getD w 20 0 ∷ getD w 21 0 ∷ getD w 22 0 ∷ getD w 23 0 ∷ 0 ∷ 0 ∷ [])) e

@@ -3,8 +3,8 @@ ghost use mathlib.Core.Path.{_≡_};
 ghost use Prim.Native.Nat.{_<_};
 ghost use mir.Syntax.{w32, w64};
 ghost use mir.Val.{ofZ};
-ghost use Rattle.host_call_words.specs.Words.{wires, sentWords, acceptWords, observeWords, advanceWords, idleWords, callWords};
-ghost use Rattle.host_call_words.specs.Stores.{longAt, timesAt, numbersAt};
+ghost use Rattle.host_call_words.specs.Words.{wires, sentWords, acceptWords, observationWords, observeWords, advanceWords, idleWords, callWords};
+ghost use Rattle.host_call_words.specs.Stores.{longAt};
 use call_types::Call;
 use call_types::Reply;
 use call_types::ReplyObservation;
@@ -70,50 +70,97 @@ fn both_wires(quality: Estimates) -> u32
     (sender as u32) + 65536 * (reflector as u32)
 }
 
-fn put_times(words: &mut [u32; 44], o: ReplyObservation)
-    ensures { λ _. ⌜ now (words .exit) ≡ timesAt (now (words .entry)) o ⌝ }
+// An observation in the 24 words in which a host lends it to `observe`.
+pub fn observation_words(o: ReplyObservation) -> [u32; 24]
+    ensures { λ r. ⌜ r ≡ observationWords o ⌝ }
 {
     let key = o.key;
     let t4 = o.t4;
-    let follow = o.follow;
-    let received = record_parts::time_word(t4);
-    let reference = reference_word(o);
-    let timestamp = record_parts::follow_timestamp(follow);
-    put_long(words, 18, key.t3);
-    put_long(words, 20, o.rtt);
-    put_long(words, 22, received);
-    put_long(words, 24, reference);
-    put_long(words, 28, timestamp);
-}
-
-fn put_numbers(words: &mut [u32; 44], o: ReplyObservation)
-    ensures { λ _. ⌜ now (words .exit) ≡ numbersAt (now (words .entry)) o ⌝ }
-{
-    let key = o.key;
     let ordinal = o.ordinal;
     let counters = o.counters;
     let follow = o.follow;
     let quality = o.quality;
-    words[30] = key.sender;
-    words[31] = key.reflector;
-    words[32] = record_parts::ordinal_number(ordinal);
-    words[33] = record_parts::sender_count(counters);
-    words[34] = record_parts::received_count(counters);
-    words[35] = record_parts::transmitted_count(counters);
-    words[36] = record_parts::follow_sequence(follow);
-    words[37] = offset_word(o);
-    words[38] = both_wires(quality);
-    words[39] = record_parts::observe_flags(o, Time::Absent) as u32;
+    let received = record_parts::time_word(t4);
+    let reference = reference_word(o);
+    let timestamp = record_parts::follow_timestamp(follow);
+    [
+        host_numbers::low(key.t3),
+        host_numbers::high(key.t3),
+        host_numbers::low(o.rtt),
+        host_numbers::high(o.rtt),
+        host_numbers::low(received),
+        host_numbers::high(received),
+        host_numbers::low(reference),
+        host_numbers::high(reference),
+        0,
+        0,
+        host_numbers::low(timestamp),
+        host_numbers::high(timestamp),
+        key.sender,
+        key.reflector,
+        record_parts::ordinal_number(ordinal),
+        record_parts::sender_count(counters),
+        record_parts::received_count(counters),
+        record_parts::transmitted_count(counters),
+        record_parts::follow_sequence(follow),
+        offset_word(o),
+        both_wires(quality),
+        record_parts::observe_flags(o, Time::Absent) as u32,
+        0,
+        0,
+    ]
 }
 
 fn observe_words(o: ReplyObservation) -> [u32; 44]
     ensures { λ r. ⌜ r ≡ observeWords o ⌝ }
 {
-    let mut words = [0u32; 44];
-    words[0] = 2;
-    put_times(&mut words, o);
-    put_numbers(&mut words, o);
-    words
+    let told = observation_words(o);
+    [
+        2,
+        0,
+        0,
+        0,
+        0,
+        0,
+        0,
+        0,
+        0,
+        0,
+        0,
+        0,
+        0,
+        0,
+        0,
+        0,
+        0,
+        0,
+        told[0],
+        told[1],
+        told[2],
+        told[3],
+        told[4],
+        told[5],
+        told[6],
+        told[7],
+        told[8],
+        told[9],
+        told[10],
+        told[11],
+        told[12],
+        told[13],
+        told[14],
+        told[15],
+        told[16],
+        told[17],
+        told[18],
+        told[19],
+        told[20],
+        told[21],
+        told[22],
+        told[23],
+        0,
+        0,
+    ]
 }
 
 fn advance_words(time: u64) -> [u32; 44]
