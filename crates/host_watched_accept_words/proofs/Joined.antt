@@ -26,7 +26,7 @@ use Rattle.host_watched_accept_words.specs.declared.ReplyAnswer.{ReplyAn
 use Rattle.host_watched_accept_words.specs.Calls.{Left, left, answerAfter, ended, zeros, heardIn, shownIn}
 
 -- the words of an answer tell whether the reply was unique
-heard-is : (a : Accepted) → heardIn (acceptedWords a) ≡ isUnique a
+pub heard-is : (a : Accepted) → heardIn (acceptedWords a) ≡ isUnique a
 heard-is accepted.Duplicate = refl
 heard-is accepted.Unknown = refl
 heard-is (accepted.Unique packet ordinal.Absent train) = refl

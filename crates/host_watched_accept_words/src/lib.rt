@@ -36,8 +36,8 @@ fn refusal_of_monitor(monitor: &[u64; 12], room: usize) -> u8
     watch.refusal(room)
 }
 
-// The ledger's part, refused also where `other` is a refusal: that of the monitor.
-fn accept_unless(
+// The ledger's part, refused also where `other` is a refusal: that of the monitor, 0 where there is none.
+pub fn accept_unless(
     other: u8,
     ledger: &mut [u64; LEDGER_WORDS],
     keys: &mut [[u64; 2]],
@@ -65,7 +65,7 @@ fn accept_unless(
 }
 
 // Whether the reply was unique: of one that was refused all words are 0.
-fn was_unique(given: ReplyAnswer) -> bool
+pub fn was_unique(given: ReplyAnswer) -> bool
     ensures { λ r. ⌜ r ≡ heardIn (given .words) ⌝ }
 {
     let words = given.words;

@@ -5,19 +5,13 @@
 ghost use mathlib.Core.Path.{_≡_};
 ghost use lib.Dec.{eqb};
 ghost use Rattle.monitor.specs.Refusals.{refusalOfSent};
-ghost use Rattle.ledger_steps.specs.Calls.{sentTo};
-ghost use Rattle.host_ledger.specs.Words.{ledgerAt};
 ghost use Rattle.host_monitor_words.specs.Words.{monitorAt};
-ghost use Rattle.host_sent_words.specs.Sent.{sentLeft, sentFrom};
 ghost use Rattle.host_watched_parts.specs.Unless.{storedUnless};
 ghost use Rattle.host_watched_sent.specs.Calls.{left, watchedSentTo};
-use call_types::SentProbe;
 use host_calls::probe_of;
 use host_ledger::LEDGER_WORDS;
-use host_sent_words::served;
-use host_watched_parts::first_of;
+use host_sent_words::sent_unless;
 use host_watched_parts::store_unless;
-use limits::CAPACITY;
 use monitor::Monitor;
 use probe_queue::QueuedProbe;
 
@@ -27,25 +21,6 @@ fn refusal_of_monitor(monitor: &[u64; 12], room: usize, time: u64) -> u8
 {
     let watch = host_monitor_words::load(monitor);
     watch.refusal_of_sent(room, time)
-}
-
-// The ledger's part, refused also where `other` is a refusal: that of the monitor.
-fn sent_unless(
-    other: u8,
-    ledger: &mut [u64; LEDGER_WORDS],
-    probes: &mut [[u64; 4]],
-    links: &mut [[u16; 8]],
-    probe: SentProbe,
-) -> u8
-    ensures { λ r. ⌜ sentLeft r (now (ledger .exit)) (now (probes .exit)) (now (links .exit)) ≡ sentFrom (now (ledger .entry)) (sentTo other (ledgerAt (now (ledger .entry))) (now (probes .entry)) (now (links .entry)) probe) ⌝ }
-{
-    let sized = (probes.len() == CAPACITY) & (links.len() == CAPACITY);
-    let own = host_ledger_checks::refusal(ledger, sized);
-    let number = first_of(own, other);
-    if number == 0 {
-        served(ledger, probes, links, probe);
-    }
-    number
 }
 
 fn is_served(number: u8) -> bool

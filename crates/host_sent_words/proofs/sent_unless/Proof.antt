@@ -1,9 +1,9 @@
--- `host_watched_sent::sent_unless` meets its contract. Assumes nothing.
+-- `host_sent_words::sent_unless` meets its contract. Assumes nothing.
 use mathlib.Core.Path.{refl}
 use Rattle.host_sent_words.proofs.Steps.{sound, refused-is, served-is}
 use borrow.Author.Needs.{needs}
-use Rattle.host_watched_sent.proofs.sent_unless.Statement.{statement}
-use Rattle.host_watched_sent.proofs.sent_unless.Tie as tie
+use Rattle.host_sent_words.proofs.sent_unless.Statement.{statement}
+use Rattle.host_sent_words.proofs.sent_unless.Tie as tie
 
 refusal-requires : tie.Need-refusal-requires
 refusal-requires c κs = search needs
