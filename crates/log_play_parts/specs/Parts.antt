@@ -14,12 +14,28 @@ use Rattle.ledger_steps.specs.Rooms.{Rooms}
 use Rattle.ledger_steps.specs.Calls.{number, acceptNumber, SentResult, AcceptResult, ObserveResult, sentTo, acceptTo, observeTo}
 use Rattle.monitor.specs.declared.Monitor.{Monitor}
 use Rattle.monitor.specs.Operations as monitor
+use Rattle.record_parts.specs.Fits.{U32, ObservationFits}
 use Rattle.log_whole.specs.declared.PlayedCall.{PlayedCall as Read}
 use Rattle.log_whole.specs.declared.PlayedCall.the-variants as read
 use Rattle.link_steps.specs.declared.Watch.{Watch}
 use Rattle.link_steps.specs.declared.Watch.the-variants.{Absent, Present}
 use Rattle.link_steps.specs.Steps.{watchRefusesSent, watchRefuses, wasServed, ledgerOf, wasUnique, ledgerOfAccept}
 use Rattle.log_play_parts.specs.declared.Part.{Part}
+
+-- ---- a record
+
+-- what a record holds of a call, so that nothing of it is lost in words: its numbers fit their types, and an estimate's scale has six bits
+abbrev pub CallFits : Call → Type 0
+CallFits (call.Sent s) = Unit
+CallFits (call.Accept a) = U32 (a .key .reflector)
+CallFits (call.Observe o) = ObservationFits o
+CallFits (call.Advance t) = Unit
+CallFits call.Idle = Unit
+
+-- the same of a record, or of none
+abbrev pub ReadFits : Read → Type 0
+ReadFits read.Nothing = Unit
+ReadFits (read.Call c) = CallFits c
 
 -- ---- the ledger's part
 
@@ -36,54 +52,55 @@ otherOf w (read.Call (call.Observe o)) room = 0
 otherOf w (read.Call (call.Advance t)) room = watchRefuses w room
 otherOf w (read.Call call.Idle) room = watchRefuses w capacity
 
--- the ledger after its part, why the record is refused or 0, and whether the monitor's call goes on
-abbrev pub partWith : Ledger → ℕ → Bool → Part
-partWith l n go = record { ledger = l; refused = n; go = go }
+-- why the record is refused or 0, and whether the monitor's call goes on
+abbrev pub partWith : ℕ → Bool → Part
+partWith n go = record { refused = n; go = go }
 
 -- `sent`: the monitor's goes on where the ledger's was served
-abbrev pub sentPart : Ledger → LedgerAnswer → Part
-sentPart l a = partWith (ledgerOf l a) (number a) (wasServed a)
+abbrev pub sentPart : LedgerAnswer → Part
+sentPart a = partWith (number a) (wasServed a)
 
 -- `accept`: where the reply was unique
-abbrev pub acceptPart : Ledger → AcceptAnswer → Part
-acceptPart l a = partWith (ledgerOfAccept l a) (acceptNumber a) (wasUnique a)
+abbrev pub acceptPart : AcceptAnswer → Part
+acceptPart a = partWith (acceptNumber a) (wasUnique a)
 
 -- `observe`: the monitor has none
-abbrev pub observePart : Ledger → LedgerAnswer → Part
-observePart l a = partWith (ledgerOf l a) (number a) false
+abbrev pub observePart : LedgerAnswer → Part
+observePart a = partWith (number a) false
 
--- a part with the rooms that it left
+-- a part with the ledger and the rooms that it left
 pub record Parted : Type 0 where
   pub part : Part
+  pub ledger : Ledger
   pub rooms : Rooms
 
 -- the record above, made of its parts in their order
-abbrev pub parted : Part → Rooms → Parted
-parted p rooms = record { part = p; rooms = rooms }
+abbrev pub parted : Part → Ledger → Rooms → Parted
+parted p l rooms = record { part = p; ledger = l; rooms = rooms }
 
 -- by what the ledger's call gave
 abbrev pub bySent : Ledger → Rooms → SentResult → Parted
-bySent l r x = parted (sentPart l (x .answer)) (record { keys = r .keys; slots = r .slots; probes = x .probes; offsets = r .offsets; links = x .links })
+bySent l r x = parted (sentPart (x .answer)) (ledgerOf l (x .answer)) (record { keys = r .keys; slots = r .slots; probes = x .probes; offsets = r .offsets; links = x .links })
 
 -- likewise
 abbrev pub byAccept : Ledger → Rooms → AcceptResult → Parted
-byAccept l r x = parted (acceptPart l (x .answer)) (record { keys = x .keys; slots = x .slots; probes = x .probes; offsets = r .offsets; links = x .links })
+byAccept l r x = parted (acceptPart (x .answer)) (ledgerOfAccept l (x .answer)) (record { keys = x .keys; slots = x .slots; probes = x .probes; offsets = r .offsets; links = x .links })
 
 -- likewise
 abbrev pub byObserve : Ledger → Rooms → ObserveResult → Parted
-byObserve l r x = parted (observePart l (x .answer)) (record { keys = r .keys; slots = x .slots; probes = r .probes; offsets = x .offsets; links = x .links })
+byObserve l r x = parted (observePart (x .answer)) (ledgerOf l (x .answer)) (record { keys = r .keys; slots = x .slots; probes = r .probes; offsets = x .offsets; links = x .links })
 
 -- a call, with the monitor's refusal: a call that the monitor refuses changes no room
 abbrev pub callPart : ℕ → Ledger → Rooms → Call → Parted
 callPart other l r (call.Sent s) = bySent l r (sentTo other l (r .probes) (r .links) s)
 callPart other l r (call.Accept a) = byAccept l r (acceptTo other l (r .keys) (r .slots) (r .probes) (r .links) a)
 callPart other l r (call.Observe o) = byObserve l r (observeTo l (r .keys) (r .slots) (r .offsets) (r .links) o)
-callPart other l r (call.Advance t) = parted (partWith l other true) r
-callPart other l r call.Idle = parted (partWith l other false) r
+callPart other l r (call.Advance t) = parted (partWith other true) l r
+callPart other l r call.Idle = parted (partWith other false) l r
 
 -- a record: nothing where the log has none
 abbrev pub partOf : ℕ → Ledger → Rooms → Read → Parted
-partOf other l r read.Nothing = parted (partWith l 0 false) r
+partOf other l r read.Nothing = parted (partWith 0 false) l r
 partOf other l r (read.Call c) = callPart other l r c
 
 -- ---- the monitor's part

@@ -1,25 +1,39 @@
-// One record of a log on a link, in parts: what depends on a test is a function by value, or one over the ledger's rooms, so that a record is a straight
-// line of calls over the queue that is lent (log_play). A call that either part refuses changes neither (link_steps).
+// One record of a log on a link, in parts: what depends on a test is a function by value, or one over the words and rooms of a ledger, so that a record
+// is a straight line of calls over the queue that is lent (log_play). The ledger's calls are those that a host makes: they work on its words. A call
+// that either part refuses changes neither (link_steps).
 ghost use mathlib.Core.Path.{_≡_};
 ghost use lib.Dec.{eqb};
-ghost use Rattle.link_steps.specs.Steps.{isUnique, watchRefuses, watchRefusesSent};
-ghost use Rattle.log_play_parts.specs.Parts.{roomsOf, otherOf, partWith, sentPart, observePart, acceptPart, parted, callPart, partOf, monitorOf, isWatched, kindOf, goesOn, sequenceOf, timeOf, watchAfter};
+ghost use lib.ListN.{length};
+ghost use Rattle.ledger_steps.specs.Calls.{observeTo};
+ghost use Rattle.link_steps.specs.Steps.{watchRefuses, watchRefusesSent};
+ghost use Rattle.record_parts.specs.Fits.{ObservationFits};
+ghost use Rattle.log_whole.specs.Logs.{callAt};
+ghost use Rattle.host_ledger.specs.Words.{ledgerAt};
+ghost use Rattle.host_observe_words.specs.Observe.{left, leftBy};
+ghost use Rattle.host_watched_accept_words.specs.Calls.{heardIn};
+ghost use Rattle.log_play_parts.specs.Parts.{CallFits, ReadFits, roomsOf, otherOf, partWith, parted, callPart, partOf, monitorOf, isWatched, kindOf, goesOn, sequenceOf, timeOf, watchAfter};
 use call_types::Call;
+use call_types::ReplyObservation;
 use call_types::SentProbe;
-use ledger_state::Ledger;
-use ledger_steps::AcceptAnswer;
-use ledger_steps::Accepted;
-use ledger_steps::LedgerAnswer;
-use link_steps::Link;
+use host_ledger::LEDGER_WORDS;
+use host_watched_accept_words::ReplyAnswer;
 use link_steps::Watch;
 use log_whole::PlayedCall as Read;
 use monitor::Monitor;
 
-// The ledger after its part, the number of the refusal or 0, and whether the monitor's call goes on.
+// The number of the refusal or 0, and whether the monitor's call goes on.
 pub struct Part {
-    pub ledger: Ledger,
     pub refused: u8,
     pub go: bool,
+}
+
+// ---- the record
+
+// Record i of a log, whose numbers fit their types; nothing where there is none to play.
+pub fn record_at(log: &[u8], i: u32) -> Read
+    ensures { λ r. ⌜ (r ≡ callAt (now (log .entry)) i) × ReadFits r ⌝ }
+{
+    log_whole::call_at(log, i)
 }
 
 // ---- the ledger's part
@@ -48,10 +62,9 @@ fn refuses(watch: Watch, room: usize) -> u8
 }
 
 // Why the monitor refuses a record, or 0.
-pub fn refusal_of(link: Link, read: Read, room: usize) -> u8
-    ensures { λ r. ⌜ r ≡ otherOf (link .watch) read room ⌝ }
+pub fn refusal_of(watch: Watch, read: Read, room: usize) -> u8
+    ensures { λ r. ⌜ r ≡ otherOf watch read room ⌝ }
 {
-    let watch = link.watch;
     match read {
         Read::Nothing => 0,
         Read::Call(call) => {
@@ -66,73 +79,75 @@ pub fn refusal_of(link: Link, read: Read, room: usize) -> u8
     }
 }
 
-fn plain_part(ledger: Ledger, refused: u8, go: bool) -> Part
-    ensures { λ r. ⌜ r ≡ partWith ledger refused go ⌝ }
+fn plain_part(refused: u8, go: bool) -> Part
+    ensures { λ r. ⌜ r ≡ partWith refused go ⌝ }
 {
     Part {
-        ledger: ledger,
         refused: refused,
         go: go,
     }
 }
 
-fn sent_part(ledger: Ledger, answer: LedgerAnswer) -> Part
-    ensures { λ r. ⌜ r ≡ sentPart ledger answer ⌝ }
+// A probe that was sent is the monitor's too, where nothing refused it.
+fn sent_part(number: u8) -> Part
+    ensures { λ r. ⌜ r ≡ partWith number (eqb number 0) ⌝ }
 {
-    match answer {
-        LedgerAnswer::Served(next) => plain_part(next, 0, true),
-        LedgerAnswer::Refused(number) => plain_part(ledger, number, false),
-    }
+    plain_part(number, number == 0)
 }
 
-fn observe_part(ledger: Ledger, answer: LedgerAnswer) -> Part
-    ensures { λ r. ⌜ r ≡ observePart ledger answer ⌝ }
+// A unique reply is the monitor's too.
+fn accept_part(given: ReplyAnswer) -> Part
+    ensures { λ r. ⌜ r ≡ partWith (given .number) (heardIn (given .words)) ⌝ }
 {
-    match answer {
-        LedgerAnswer::Served(next) => plain_part(next, 0, false),
-        LedgerAnswer::Refused(number) => plain_part(ledger, number, false),
-    }
+    let unique = host_watched_accept_words::was_unique(given);
+    plain_part(given.number, unique)
 }
 
-fn is_unique(accepted: Accepted) -> bool
-    ensures { λ r. ⌜ r ≡ isUnique accepted ⌝ }
+// `observe` of an observation by value, by way of the words in which a host tells it.
+fn observe(
+    ledger: &mut [u64; LEDGER_WORDS],
+    keys: &[[u64; 2]],
+    slots: &mut [[u64; 3]],
+    offsets: &mut [u32],
+    links: &mut [[u16; 8]],
+    told: ReplyObservation,
+) -> u8
+    requires { ⌜ ObservationFits told ⌝ }
+    ensures { λ r. ⌜ (
+        let words = now (ledger .entry) in
+        left r (now (ledger .exit)) (now (slots .exit)) (now (offsets .exit)) (now (links .exit)) ≡ leftBy (observeTo (ledgerAt words) (now (keys .entry)) (now (slots .entry)) (now (offsets .entry)) (now (links .entry)) told) (told .counters) words) ⌝ }
 {
-    match accepted {
-        Accepted::Duplicate => false,
-        Accepted::Unknown => false,
-        Accepted::Unique(_, _, _) => true,
-    }
+    let words = host_call_words::observation_words(told);
+    host_observe_words::observe(ledger, keys, slots, offsets, links, &words)
 }
 
-fn accept_part(ledger: Ledger, answer: AcceptAnswer) -> Part
-    ensures { λ r. ⌜ r ≡ acceptPart ledger answer ⌝ }
-{
-    match answer {
-        AcceptAnswer::Served(next, accepted) => plain_part(next, 0, is_unique(accepted)),
-        AcceptAnswer::Refused(number) => plain_part(ledger, number, false),
-    }
-}
+// How many words a ledger has, for the proof: the code of it is nothing.
+fn counted(_words: [u64; LEDGER_WORDS])
+    ensures { λ _. ⌜ length «_words» ≡ 80 ⌝ }
+{}
 
 // The ledger's part of a call, with the monitor's refusal.
 fn call_part(
     other: u8,
-    ledger: Ledger,
     call: Call,
+    ledger: &mut [u64; LEDGER_WORDS],
     keys: &mut [[u64; 2]],
     slots: &mut [[u64; 3]],
     probes: &mut [[u64; 4]],
     offsets: &mut [u32],
     links: &mut [[u16; 8]],
 ) -> Part
-    ensures { λ r. ⌜ parted r (roomsOf (now (keys .exit)) (now (slots .exit)) (now (probes .exit)) (now (offsets .exit)) (now (links .exit))) ≡ callPart other ledger (roomsOf (now (keys .entry)) (now (slots .entry)) (now (probes .entry)) (now (offsets .entry)) (now (links .entry))) call ⌝ }
+    requires { ⌜ CallFits call ⌝ }
+    ensures { λ r. ⌜ parted r (ledgerAt (now (ledger .exit))) (roomsOf (now (keys .exit)) (now (slots .exit)) (now (probes .exit)) (now (offsets .exit)) (now (links .exit))) ≡ callPart other (ledgerAt (now (ledger .entry))) (roomsOf (now (keys .entry)) (now (slots .entry)) (now (probes .entry)) (now (offsets .entry)) (now (links .entry))) call ⌝ }
 {
+    counted(*ledger);
     match call {
         Call::Sent(probe) => {
-            let answer = ledger_sent::sent_unless(other, ledger, probes, links, probe);
-            sent_part(ledger, answer)
+            let number = host_sent_words::sent_unless(other, ledger, probes, links, probe);
+            sent_part(number)
         }
         Call::Accept(reply) => {
-            let accepts = ledger_accept::accept_unless(
+            let given = host_watched_accept_words::accept_unless(
                 other,
                 ledger,
                 keys,
@@ -141,60 +156,52 @@ fn call_part(
                 links,
                 reply,
             );
-            accept_part(ledger, accepts)
+            accept_part(given)
         }
-        Call::Observe(observation) => {
-            let observes = ledger_observe::observe(
-                ledger,
-                keys,
-                slots,
-                offsets,
-                links,
-                observation,
-            );
-            observe_part(ledger, observes)
+        Call::Observe(told) => {
+            let refused = observe(ledger, keys, slots, offsets, links, told);
+            plain_part(refused, false)
         }
-        Call::Advance(_) => plain_part(ledger, other, true),
-        Call::Idle => plain_part(ledger, other, false),
+        Call::Advance(_) => plain_part(other, true),
+        Call::Idle => plain_part(other, false),
     }
 }
 
+// The ledger's part of a record, with the monitor's refusal.
 pub fn ledger_part(
     other: u8,
-    link: Link,
     read: Read,
+    ledger: &mut [u64; LEDGER_WORDS],
     keys: &mut [[u64; 2]],
     slots: &mut [[u64; 3]],
     probes: &mut [[u64; 4]],
     offsets: &mut [u32],
     links: &mut [[u16; 8]],
 ) -> Part
-    ensures { λ r. ⌜ parted r (roomsOf (now (keys .exit)) (now (slots .exit)) (now (probes .exit)) (now (offsets .exit)) (now (links .exit))) ≡ partOf other (link .ledger) (roomsOf (now (keys .entry)) (now (slots .entry)) (now (probes .entry)) (now (offsets .entry)) (now (links .entry))) read ⌝ }
+    requires { ⌜ ReadFits read ⌝ }
+    ensures { λ r. ⌜ parted r (ledgerAt (now (ledger .exit))) (roomsOf (now (keys .exit)) (now (slots .exit)) (now (probes .exit)) (now (offsets .exit)) (now (links .exit))) ≡ partOf other (ledgerAt (now (ledger .entry))) (roomsOf (now (keys .entry)) (now (slots .entry)) (now (probes .entry)) (now (offsets .entry)) (now (links .entry))) read ⌝ }
 {
-    let ledger = link.ledger;
     match read {
-        Read::Nothing => plain_part(ledger, 0, false),
-        Read::Call(call) => { call_part(other, ledger, call, keys, slots, probes, offsets, links) }
+        Read::Nothing => plain_part(0, false),
+        Read::Call(call) => { call_part(other, call, ledger, keys, slots, probes, offsets, links) }
     }
 }
 
 // ---- the monitor's part
 
 // The link's monitor; a fresh one where it has none, with which nothing goes on.
-pub fn monitor_of(link: Link) -> Monitor
-    ensures { λ r. ⌜ r ≡ monitorOf (link .watch) ⌝ }
+pub fn monitor_of(watch: Watch) -> Monitor
+    ensures { λ r. ⌜ r ≡ monitorOf watch ⌝ }
 {
-    let watch = link.watch;
     match watch {
         Watch::Absent => Monitor::new(1, 0),
         Watch::Present(monitor) => monitor,
     }
 }
 
-fn watches(link: Link) -> bool
-    ensures { λ r. ⌜ r ≡ isWatched (link .watch) ⌝ }
+fn watches(watch: Watch) -> bool
+    ensures { λ r. ⌜ r ≡ isWatched watch ⌝ }
 {
-    let watch = link.watch;
     match watch {
         Watch::Absent => false,
         Watch::Present(_) => true,
@@ -220,10 +227,10 @@ pub fn kind_of(read: Read) -> u8
 }
 
 // Whether the monitor's call of this kind goes on.
-pub fn goes(kind: u8, link: Link, read: Read, part: Part) -> bool
-    ensures { λ r. ⌜ r ≡ goesOn kind (link .watch) read (part .go) ⌝ }
+pub fn goes(kind: u8, watch: Watch, read: Read, part: Part) -> bool
+    ensures { λ r. ⌜ r ≡ goesOn kind watch read (part .go) ⌝ }
 {
-    watches(link) & (kind_of(read) == kind) & part.go
+    watches(watch) & (kind_of(read) == kind) & part.go
 }
 
 pub fn sequence_of(read: Read) -> u32
@@ -266,10 +273,9 @@ pub fn time_of(read: Read) -> u64
     }
 }
 
-pub fn watch_after(link: Link, monitor: Monitor) -> Watch
-    ensures { λ r. ⌜ r ≡ watchAfter (link .watch) monitor ⌝ }
+pub fn watch_after(watch: Watch, monitor: Monitor) -> Watch
+    ensures { λ r. ⌜ r ≡ watchAfter watch monitor ⌝ }
 {
-    let watch = link.watch;
     match watch {
         Watch::Absent => Watch::Absent,
         Watch::Present(_) => Watch::Present(monitor),

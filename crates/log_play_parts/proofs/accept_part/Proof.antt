@@ -1,40 +1,19 @@
 -- `log_play_parts::accept_part` meets its contract. Assumes nothing.
-use mathlib.Core.Path.{_≡_, sym, ap, _∙_}
+use mathlib.Core.Path.{ap, _∙_}
 use mathlib.Core.Bool.{Bool}
-use Rattle.log_play_parts.specs.Parts.{partWith, acceptPart}
+use Rattle.log_play_parts.specs.Parts.{partWith}
 use borrow.Author.Needs.{needs}
 use Rattle.log_play_parts.proofs.accept_part.Statement.{statement}
 use Rattle.log_play_parts.proofs.accept_part.Tie as tie
 
-enum-known-answer : tie.Need-enum-known-answer
-enum-known-answer c = search needs
-
-is-unique-requires : tie.Need-is-unique-requires
-is-unique-requires c κs = search needs
+was-unique-requires : tie.Need-was-unique-requires
+was-unique-requires c κs = search needs
 
 plain-part-requires : tie.Need-plain-part-requires
 plain-part-requires c κs = search needs
 
-enum-known-answer-2 : tie.Need-enum-known-answer-2
-enum-known-answer-2 c = search needs
-
-plain-part-requires-2 : tie.Need-plain-part-requires-2
-plain-part-requires-2 c κs = search needs
-
 returns : tie.Need-returns
-returns c = c .plain-part .ensures ∙ ap (λ (b : Bool). partWith (c .before .before .before .answer .given .0 .0) 0 b) (c .before .is-unique .ensures) ∙ sym (ap (acceptPart (c .before .before .before .before .before .args .ledger)) (c .before .before .before .answer .given .1))
-
-returns-2 : tie.Need-returns-2
-returns-2 c = c .plain-part2 .ensures ∙ sym (ap (acceptPart (c .before .before .before .before .args .ledger)) (c .before .before .answer2 .given .1))
+returns c = c .plain-part .ensures ∙ ap (λ (b : Bool). partWith (c .before .before .args .given .number) b) (c .before .was-unique .ensures)
 
 pub accept-part-spec : {M : Type 1} → statement M
-accept-part-spec =
-    tie.close
-    (tie.spec
-    enum-known-answer
-    is-unique-requires
-    plain-part-requires
-    enum-known-answer-2
-    plain-part-requires-2
-    returns
-    returns-2)
+accept-part-spec = tie.close (tie.spec was-unique-requires plain-part-requires returns)

@@ -1,5 +1,6 @@
 -- `log_play_parts::ledger_part` meets its contract. Assumes nothing.
-use mathlib.Core.Path.{refl}
+use mathlib.Core.Path.{refl, subst}
+use Rattle.log_play_parts.specs.Parts.{ReadFits}
 use Rattle.log_play_parts.proofs.Laws.{part-call, part-none}
 use borrow.Author.Needs.{needs}
 use Rattle.log_play_parts.proofs.ledger_part.Statement.{statement}
@@ -15,7 +16,7 @@ enum-known-read : tie.Need-enum-known-read
 enum-known-read c = search needs
 
 call-part-requires : tie.Need-call-part-requires
-call-part-requires c κs = search needs
+call-part-requires c κs = subst ReadFits (c .before .before .before .before .before .before .before .read .given .1) (c .before .before .before .before .before .before .before .before .before .before .pre)
 
 returns : tie.Need-returns
 returns c = part-none _ _ _ _ _ _ (c .before .enum-told .given .1) (c .plain-part .ensures) refl
@@ -36,7 +37,7 @@ same-length-5 : tie.Need-same-length-5
 same-length-5 c = search needs
 
 returns-2 : tie.Need-returns-2
-returns-2 c = part-call _ _ _ _ _ _ (c .before .before .before .before .before .before .before .before .before .before .before .before .before .read .given .1) (c .before .before .before .before .before .before .call-part .ensures)
+returns-2 c = part-call _ _ _ _ _ _ (c .before .before .before .before .before .before .before .before .before .before .before .before .before .before .read .given .1) (c .before .before .before .before .before .before .call-part .ensures)
 
 pub ledger-part-spec : {M : Type 1} → statement M
 ledger-part-spec =

@@ -42,7 +42,7 @@ refuses-requires-3 : tie.Need-refuses-requires-3
 refuses-requires-3 c κs = search needs
 
 returns : tie.Need-returns
-returns c = sym (ap (λ (r : PlayedCall). otherOf (c .before .before .args .link .watch) r (c .before .before .args .room)) (c .enum-told .given .1))
+returns c = sym (ap (λ (r : PlayedCall). otherOf (c .before .before .args .watch) r (c .before .before .args .room)) (c .enum-told .given .1))
 
 returns-2 : tie.Need-returns-2
 returns-2 c = other-at _ _ _ _ _ _ (c .before .before .before .before .before .read .given .1) (c .before .before .call .given .1) (c .refuses-sent .ensures)
