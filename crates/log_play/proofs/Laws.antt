@@ -7,12 +7,12 @@ use Rattle.probe_queue.specs.declared.QueuedProbe.{QueuedProbe}
 use Rattle.log_whole.specs.declared.PlayedCall.{PlayedCall as Read}
 use Rattle.log_whole.specs.declared.PlayedCall.the-variants as read
 use Rattle.log_whole.specs.Logs.{callAt}
-use Rattle.link_steps.specs.declared.Link.{Link}
+use Rattle.link_steps.specs.declared.Watch.{Watch}
 use Rattle.link_steps.specs.Steps.{LinkStand, refuses, oneIf}
 use Rattle.log_play_parts.specs.Parts.{roomsOf}
 use Rattle.log_play.specs.declared.Step.{Step}
 use Rattle.log_play.specs.declared.Tally.{Tally}
-use Rattle.log_play.specs.Tally.{standingOf, Tallied, tallyOf, recorded, tallied, Stepped}
+use Rattle.log_play.specs.Tally.{linkAt, standingOf, Tallied, tallyOf, recorded, tallied, Stepped}
 
 -- one record more
 tallied-on : (log : List ℕ) (start t t′ : Tallied) (n : ℕ) → t′ ≡ recorded t (callAt log n) → t ≡ tallied log start n → t′ ≡ tallied log start (n + 1)
@@ -42,35 +42,37 @@ counted : (t : Tallied) (r : Read) (step : Step) (left : LinkStand) (turned : �
 counted t read.Nothing step left turned h e = λ j. tallyOf (h .stands j) ((e ∙ ap (λ (n : ℕ). oneIf n (t .turned)) (h .refused)) j)
 counted t (read.Call c) step left turned h e = λ j. tallyOf (h .stands j) ((e ∙ ap (λ (n : ℕ). oneIf n (t .turned)) (h .refused)) j)
 
-module _ (start : Link) (log : List ℕ) (count : ℕ) (keys₀ slots₀ probes₀ : List (List ℕ)) (offsets₀ : List ℕ) (links₀ : List (List ℕ)) (queue₀ : List QueuedProbe) where
+module _ (start : Watch) (log : List ℕ) (count : ℕ) (ledger₀ : List ℕ) (keys₀ slots₀ probes₀ : List (List ℕ)) (offsets₀ : List ℕ) (links₀ : List (List ℕ)) (queue₀ : List QueuedProbe) where
   abbrev begun : Tallied
-  begun = tallyOf (standingOf start queue₀ (roomsOf keys₀ slots₀ probes₀ offsets₀ links₀)) 0
+  begun = tallyOf (standingOf (linkAt ledger₀ start) queue₀ (roomsOf keys₀ slots₀ probes₀ offsets₀ links₀)) 0
 
   -- what stands after i records, and that no more were turned away than were played
-  abbrev pub Played : ℕ → Link → ℕ → List (List ℕ) → List (List ℕ) → List (List ℕ) → List ℕ → List (List ℕ) → List QueuedProbe → Type 0
-  Played i link turned keys slots probes offsets links queue = (tallyOf (standingOf link queue (roomsOf keys slots probes offsets links)) turned ≡ tallied log begun i) × (turned ≤ i)
+  abbrev pub Played : ℕ → Watch → ℕ → List ℕ → List (List ℕ) → List (List ℕ) → List (List ℕ) → List ℕ → List (List ℕ) → List QueuedProbe → Type 0
+  Played i watch turned ledger keys slots probes offsets links queue =
+      (tallyOf (standingOf (linkAt ledger watch) queue (roomsOf keys slots probes offsets links)) turned ≡ tallied log begun i) × (turned ≤ i)
 
-  pub begins-played : Played 0 start 0 keys₀ slots₀ probes₀ offsets₀ links₀ queue₀
+  pub begins-played : Played 0 start 0 ledger₀ keys₀ slots₀ probes₀ offsets₀ links₀ queue₀
   begins-played = (tallied-none log begun, omega arith)
 
-  pub plays-on : (i : ℕ) (link : Link) (turned : ℕ) (keys slots probes : List (List ℕ)) (offsets : List ℕ) (links : List (List ℕ)) (queue : List QueuedProbe)
-      (step : Step) (keys′ slots′ probes′ : List (List ℕ)) (offsets′ : List ℕ) (links′ : List (List ℕ)) (queue′ : List QueuedProbe) (turned′ : ℕ) (link′ : Link)
-      → Played i link turned keys slots probes offsets links queue → i < count
-      → Stepped (standingOf link queue (roomsOf keys slots probes offsets links)) (callAt log i) step (standingOf (step .link) queue′ (roomsOf keys′ slots′ probes′ offsets′ links′))
-      → turned′ ≡ oneIf (step .refused) turned → link′ ≡ step .link
-      → Played (i + 1) link′ turned′ keys′ slots′ probes′ offsets′ links′ queue′
-  plays-on i link turned keys slots probes offsets links queue step keys′ slots′ probes′ offsets′ links′ queue′ turned′ link′ h less hs et el =
-      let t = tallyOf (standingOf link queue (roomsOf keys slots probes offsets links)) turned in
+  pub plays-on : (i : ℕ) (watch : Watch) (turned : ℕ) (ledger : List ℕ) (keys slots probes : List (List ℕ)) (offsets : List ℕ) (links : List (List ℕ)) (queue : List QueuedProbe)
+      (step : Step) (ledger′ : List ℕ) (keys′ slots′ probes′ : List (List ℕ)) (offsets′ : List ℕ) (links′ : List (List ℕ)) (queue′ : List QueuedProbe) (turned′ : ℕ) (watch′ : Watch)
+      → Played i watch turned ledger keys slots probes offsets links queue → i < count
+      → Stepped (standingOf (linkAt ledger watch) queue (roomsOf keys slots probes offsets links)) (callAt log i) step (standingOf (linkAt ledger′ (step .watch)) queue′ (roomsOf keys′ slots′ probes′ offsets′ links′))
+      → turned′ ≡ oneIf (step .refused) turned → watch′ ≡ step .watch
+      → Played (i + 1) watch′ turned′ ledger′ keys′ slots′ probes′ offsets′ links′ queue′
+  plays-on i watch turned ledger keys slots probes offsets links queue step ledger′ keys′ slots′ probes′ offsets′ links′ queue′ turned′ watch′ h less hs et el =
+      let t = tallyOf (standingOf (linkAt ledger watch) queue (roomsOf keys slots probes offsets links)) turned in
       let rooms = roomsOf keys′ slots′ probes′ offsets′ links′ in
-      let next : tallyOf (standingOf link′ queue′ rooms) turned′ ≡ recorded t (callAt log i) = (λ j. tallyOf (standingOf (el j) queue′ rooms) turned′) ∙ counted t (callAt log i) step (standingOf (step .link) queue′ rooms) turned′ hs et in
+      let next : tallyOf (standingOf (linkAt ledger′ watch′) queue′ rooms) turned′ ≡ recorded t (callAt log i) =
+      (λ j. tallyOf (standingOf (linkAt ledger′ (el j)) queue′ rooms) turned′) ∙ counted t (callAt log i) step (standingOf (linkAt ledger′ (step .watch)) queue′ rooms) turned′ hs et in
       (tallied-on log begun t _ i next (h .0), turned-on log begun t _ i next (h .0) (h .1))
 
-  pub all-played : (i : ℕ) (link : Link) (turned : ℕ) (keys slots probes : List (List ℕ)) (offsets : List ℕ) (links : List (List ℕ)) (queue : List QueuedProbe) (r : Tally)
-      → Played i link turned keys slots probes offsets links queue → i ≤ count → count ≤ i → (r .link ≡ link) × (r .turned ≡ turned)
-      → tallyOf (standingOf (r .link) queue (roomsOf keys slots probes offsets links)) (r .turned) ≡ tallied log begun count
-  all-played i link turned keys slots probes offsets links queue r h most least er =
+  pub all-played : (i : ℕ) (watch : Watch) (turned : ℕ) (ledger : List ℕ) (keys slots probes : List (List ℕ)) (offsets : List ℕ) (links : List (List ℕ)) (queue : List QueuedProbe) (r : Tally)
+      → Played i watch turned ledger keys slots probes offsets links queue → i ≤ count → count ≤ i → (r .watch ≡ watch) × (r .turned ≡ turned)
+      → tallyOf (standingOf (linkAt ledger (r .watch)) queue (roomsOf keys slots probes offsets links)) (r .turned) ≡ tallied log begun count
+  all-played i watch turned ledger keys slots probes offsets links queue r h most least er =
       let e : i ≡ count = omega arith in
-      (λ j. tallyOf (standingOf (er .0 j) queue (roomsOf keys slots probes offsets links)) (er .1 j)) ∙ h .0 ∙ ap (tallied log begun) e
+      (λ j. tallyOf (standingOf (linkAt ledger (er .0 j)) queue (roomsOf keys slots probes offsets links)) (er .1 j)) ∙ h .0 ∙ ap (tallied log begun) e
 
 -- the count fits
 pub fits : (turned i count : ℕ) → turned ≤ i → i < count → count < 2 ^ 32 → turned < 2 ^ 63

@@ -14,15 +14,15 @@ use Rattle.monitor.specs.Operations.{MonitorStand, Leaves, sentIf, replyIf, adv
 use Rattle.log_whole.specs.declared.PlayedCall.{PlayedCall as Read}
 use Rattle.log_whole.specs.declared.PlayedCall.the-variants as read
 use Rattle.log_whole.specs.Logs.{callAt}
-use Rattle.link_steps.specs.declared.Link.{Link}
 use Rattle.link_steps.specs.declared.Watch.{Watch}
 use Rattle.link_steps.specs.declared.Watch.the-variants.{Absent, Present}
 use Rattle.link_steps.specs.Steps.{LinkStand, after, refuses}
 use Rattle.log_play_parts.specs.declared.Part.{Part}
-use Rattle.log_play_parts.specs.Parts.{roomsOf, otherOf, Parted, parted, partOf, monitorOf, goesOn, kindOf, sequenceOf, timeOf, watchAfter}
+use Rattle.log_play_parts.specs.Parts.{ReadFits, roomsOf, otherOf, Parted, parted, partOf, monitorOf, goesOn, kindOf, sequenceOf, timeOf, watchAfter}
 use Rattle.log_play_turn.specs.Turn.{idledIf}
+use Rattle.host_ledger.specs.Words.{ledgerAt}
 use Rattle.log_play.specs.declared.Step.{Step}
-use Rattle.log_play.specs.Tally.{standingOf, afterRead, refusesRead, Stepped}
+use Rattle.log_play.specs.Tally.{linkAt, standingOf, afterRead, refusesRead, Stepped}
 
 -- the monitor's three calls in a row, each with whether it goes on
 abbrev three : Bool → Bool → Bool → Monitor → List QueuedProbe → ℕ → ℕ → MonitorStand
@@ -33,7 +33,7 @@ three g₁ g₂ g₃ m queue s t =
 
 -- the record from its parts
 abbrev joined : Watch → Read → Parted → MonitorStand → LinkStand
-joined w r p x = standingOf (record { ledger = p .part .ledger; watch = watchAfter w (idledIf (eqb (kindOf r) 5) (x .monitor)) }) (x .room) (p .rooms)
+joined w r p x = standingOf (record { ledger = p .ledger; watch = watchAfter w (idledIf (eqb (kindOf r) 5) (x .monitor)) }) (x .room) (p .rooms)
 
 abbrev partsOf : LinkStand → Read → Parted
 partsOf k r = partOf (otherOf (k .link .watch) r (length (k .queue))) (k .link .ledger) (k .rooms) r
@@ -70,20 +70,19 @@ numbers k (read.Call (call.Observe o)) = refl
 numbers k (read.Call (call.Advance t)) = refl
 numbers k (read.Call call.Idle) = refl
 
-pub steps : (link : Link) (log : List ℕ) (i : ℕ) (keys slots probes : List (List ℕ)) (offsets : List ℕ) (links : List (List ℕ)) (queue : List QueuedProbe)
-    (r : Read) (other : ℕ) (part : Part) (keys′ slots′ probes′ : List (List ℕ)) (offsets′ : List ℕ) (links′ : List (List ℕ)) (m : Monitor) (g₁ g₂ g₃ : Bool) (s t : ℕ)
+pub steps : (watch : Watch) (log : List ℕ) (i : ℕ) (ledger : List ℕ) (keys slots probes : List (List ℕ)) (offsets : List ℕ) (links : List (List ℕ)) (queue : List QueuedProbe)
+    (r : Read) (other : ℕ) (part : Part) (ledger′ : List ℕ) (keys′ slots′ probes′ : List (List ℕ)) (offsets′ : List ℕ) (links′ : List (List ℕ)) (m : Monitor) (g₁ g₂ g₃ : Bool) (s t : ℕ)
     (first : Monitor) (queue₁ : List QueuedProbe) (second : Monitor) (queue₂ : List QueuedProbe) (third : Monitor) (queue₃ : List QueuedProbe) (step : Step)
-    → r ≡ callAt log i → other ≡ otherOf (link .watch) r (length queue)
-    → parted part (roomsOf keys′ slots′ probes′ offsets′ links′) ≡ partOf other (link .ledger) (roomsOf keys slots probes offsets links) r
-    → m ≡ monitorOf (link .watch) → g₁ ≡ goesOn 1 (link .watch) r (part .go) → g₂ ≡ goesOn 2 (link .watch) r (part .go) → g₃ ≡ goesOn 4 (link .watch) r (part .go)
+    → (r ≡ callAt log i) × ReadFits r → other ≡ otherOf watch r (length queue)
+    → parted part (ledgerAt ledger′) (roomsOf keys′ slots′ probes′ offsets′ links′) ≡ partOf other (ledgerAt ledger) (roomsOf keys slots probes offsets links) r
+    → m ≡ monitorOf watch → g₁ ≡ goesOn 1 watch r (part .go) → g₂ ≡ goesOn 2 watch r (part .go) → g₃ ≡ goesOn 4 watch r (part .go)
     → s ≡ sequenceOf r → t ≡ timeOf r → Leaves (sentIf g₁ m queue s t) first queue₁ → Leaves (replyIf g₂ first queue₁ s) second queue₂ → Leaves (advanceIf g₃ second queue₂ t) third queue₃
-    → (step .link .ledger ≡ part .ledger) × (step .link .watch ≡ watchAfter (link .watch) (idledIf (eqb (kindOf r) 5) third)) × (step .refused ≡ part .refused)
-    → Stepped (standingOf link queue (roomsOf keys slots probes offsets links)) (callAt log i) step (standingOf (step .link) queue₃ (roomsOf keys′ slots′ probes′ offsets′ links′))
-steps link log i keys slots probes offsets links queue r other part keys′ slots′ probes′ offsets′ links′ m g₁ g₂ g₃ s t first queue₁ second queue₂ third queue₃ step er eo ep em e₁ e₂ e₃ es et l₁ l₂ l₃ eq =
-    let k = standingOf link queue (roomsOf keys slots probes offsets links) in
+    → (step .watch ≡ watchAfter watch (idledIf (eqb (kindOf r) 5) third)) × (step .refused ≡ part .refused)
+    → Stepped (standingOf (linkAt ledger watch) queue (roomsOf keys slots probes offsets links)) (callAt log i) step (standingOf (linkAt ledger′ (step .watch)) queue₃ (roomsOf keys′ slots′ probes′ offsets′ links′))
+steps w log i ledger keys slots probes offsets links queue r other part ledger′ keys′ slots′ probes′ offsets′ links′ m g₁ g₂ g₃ s t first queue₁ second queue₂ third queue₃ step er eo ep em e₁ e₂ e₃ es et l₁ l₂ l₃ eq =
+    let k = standingOf (linkAt ledger w) queue (roomsOf keys slots probes offsets links) in
     let left = roomsOf keys′ slots′ probes′ offsets′ links′ in
-    let w = link .watch in
-    let parts : parted part left ≡ partsOf k r = ep ∙ ap (λ (n : ℕ). partOf n (link .ledger) (k .rooms) r) eo in
+    let parts : parted part (ledgerAt ledger′) left ≡ partsOf k r = ep ∙ ap (λ (n : ℕ). partOf n (ledgerAt ledger) (k .rooms) r) eo in
     -- the monitor and the queue that the three calls leave
     let x : MonitorStand = record { monitor = third; room = queue₃ } in
     let last : x ≡ three g₁ g₂ g₃ m queue s t =
@@ -93,8 +92,8 @@ steps link log i keys slots probes offsets links queue r other part keys′ slot
     let flags : three g₁ g₂ g₃ m queue s t ≡ three (goesOn 1 w r (part .go)) (goesOn 2 w r (part .go)) (goesOn 4 w r (part .go)) (monitorOf w) queue (sequenceOf r) (timeOf r) = λ j. three (e₁ j) (e₂ j) (e₃ j) (em j) queue (es j) (et j) in
     let all : x ≡ threeOf k r =
     last ∙ flags ∙ ap (λ (p : Parted). three (goesOn 1 w r (p .part .go)) (goesOn 2 w r (p .part .go)) (goesOn 4 w r (p .part .go)) (monitorOf w) queue (sequenceOf r) (timeOf r)) parts in
-    let stands : standingOf (step .link) queue₃ left ≡ joined w r (parted part left) x = λ j. standingOf (record { ledger = eq .0 j; watch = eq .1 j }) queue₃ left in
+    let stands : standingOf (linkAt ledger′ (step .watch)) queue₃ left ≡ joined w r (parted part (ledgerAt ledger′) left) x = λ j. standingOf (linkAt ledger′ (eq .0 j)) queue₃ left in
     record {
-      stands = stands ∙ (λ j. joined w r (parts j) (all j)) ∙ joins w (link .ledger) (k .rooms) queue r ∙ ap (afterRead k) er;
-      refused = eq .2 ∙ ap (λ (p : Parted). p .part .refused) parts ∙ numbers k r ∙ ap (refusesRead k) er;
+      stands = stands ∙ (λ j. joined w r (parts j) (all j)) ∙ joins w (ledgerAt ledger) (k .rooms) queue r ∙ ap (afterRead k) (er .0);
+      refused = eq .1 ∙ ap (λ (p : Parted). p .part .refused) parts ∙ numbers k r ∙ ap (refusesRead k) (er .0);
     }

@@ -10,8 +10,14 @@ use Rattle.log_whole.specs.declared.PlayedCall.{PlayedCall}
 use Rattle.log_whole.specs.declared.PlayedCall.the-variants as read
 use Rattle.log_whole.specs.Logs.{callAt}
 use Rattle.link_steps.specs.declared.Link.{Link}
+use Rattle.link_steps.specs.declared.Watch.{Watch}
 use Rattle.link_steps.specs.Steps.{LinkStand, refuses, after, oneIf}
+use Rattle.host_ledger.specs.Words.{ledgerAt}
 use Rattle.log_play.specs.declared.Step.{Step}
+
+-- the link whose ledger the words say, with its monitor, if it has one
+abbrev pub linkAt : List ℕ → Watch → Link
+linkAt words watch = record { ledger = ledgerAt words; watch = watch }
 
 -- a link with its queue and its ledger's rooms
 abbrev pub standingOf : Link → List QueuedProbe → Rooms → LinkStand

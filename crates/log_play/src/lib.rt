@@ -1,4 +1,4 @@
-// The records of a log, played one after the other on a link whose queue is lent: no room is copied.
+// The records of a log, played one after the other on a link whose ledger's words, rooms and queue are lent: nothing of them is copied.
 // A record is a straight line of calls: what depends on a test is in log_play_parts. Of the monitor's three calls at most one goes on, and one that does
 // not go on changes nothing, so that none stands behind a branch.
 ghost use mathlib.Core.Path.{_≡_};
@@ -8,43 +8,43 @@ ghost use Rattle.log_whole.specs.Logs.{callAt};
 ghost use Rattle.link_steps.specs.Steps.{oneIf};
 ghost use Rattle.log_play_parts.specs.Parts.{roomsOf, kindOf, watchAfter};
 ghost use Rattle.log_play_turn.specs.Turn.{idledIf};
-ghost use Rattle.log_play.specs.Tally.{standingOf, tallyOf, tallied, Stepped};
-use link_steps::Link;
+ghost use Rattle.log_play.specs.Tally.{linkAt, standingOf, tallyOf, tallied, Stepped};
+use host_ledger::LEDGER_WORDS;
+use link_steps::Watch;
 use log_play_parts::Part;
 use log_whole::PlayedCall as Read;
 use monitor::Monitor;
 use probe_queue::QueuedProbe;
 
-// The link after a record, and the number of the refusal or 0.
+// The monitor after a record, if the link has one, and the number of the refusal or 0.
 pub struct Step {
-    pub link: Link,
+    pub watch: Watch,
     pub refused: u8,
 }
 
-// A link, and how many records were turned away so far.
+// The monitor, and how many records were turned away so far.
 pub struct Tally {
-    pub link: Link,
+    pub watch: Watch,
     pub turned: u64,
 }
 
-fn step_of(link: Link, read: Read, part: Part, monitor: Monitor) -> Step
-    ensures { λ r. ⌜ (r .link .ledger ≡ part .ledger) × (r .link .watch ≡ watchAfter (link .watch) (idledIf (eqb (kindOf read) 5) monitor)) × (r .refused ≡ part .refused) ⌝ }
+fn step_of(watch: Watch, read: Read, part: Part, monitor: Monitor) -> Step
+    ensures { λ r. ⌜ (r .watch ≡ watchAfter watch (idledIf (eqb (kindOf read) 5) monitor)) × (r .refused ≡ part .refused) ⌝ }
 {
-    let ledger = part.ledger;
-    let watch = log_play_parts::watch_after(
-        link,
+    let next = log_play_parts::watch_after(
+        watch,
         log_play_turn::idled(monitor, log_play_parts::kind_of(read)),
     );
     Step {
-        link: Link { ledger, watch },
+        watch: next,
         refused: part.refused,
     }
 }
 
-fn link_of(step: Step) -> Link
-    ensures { λ r. ⌜ r ≡ step .link ⌝ }
+fn watch_of(step: Step) -> Watch
+    ensures { λ r. ⌜ r ≡ step .watch ⌝ }
 {
-    step.link
+    step.watch
 }
 
 // A refused record counts as turned away.
@@ -55,20 +55,21 @@ fn count_refused(step: Step, turned: u64) -> u64
     log_play_turn::turned_by(step.refused, turned)
 }
 
-fn tally_of(link: Link, turned: u64) -> Tally
-    ensures { λ r. ⌜ (r .link ≡ link) × (r .turned ≡ turned) ⌝ }
+fn tally_of(watch: Watch, turned: u64) -> Tally
+    ensures { λ r. ⌜ (r .watch ≡ watch) × (r .turned ≡ turned) ⌝ }
 {
     Tally {
-        link: link,
+        watch: watch,
         turned: turned,
     }
 }
 
 // Record i; nothing where the log has no such record.
 pub fn play_record(
-    link: Link,
+    watch: Watch,
     log: &[u8],
     i: u32,
+    ledger: &mut [u64; LEDGER_WORDS],
     keys: &mut [[u64; 2]],
     slots: &mut [[u64; 3]],
     probes: &mut [[u64; 4]],
@@ -79,29 +80,39 @@ pub fn play_record(
     ensures { λ r. ⌜ (
         let before = roomsOf (now (keys .entry)) (now (slots .entry)) (now (probes .entry)) (now (offsets .entry)) (now (links .entry)) in
         let after = roomsOf (now (keys .exit)) (now (slots .exit)) (now (probes .exit)) (now (offsets .exit)) (now (links .exit)) in
-        Stepped (standingOf link (now (queue .entry)) before) (callAt (now (log .entry)) i) r (standingOf (r .link) (now (queue .exit)) after)) ⌝ }
+        Stepped (standingOf (linkAt (now (ledger .entry)) watch) (now (queue .entry)) before) (callAt (now (log .entry)) i) r (standingOf (linkAt (now (ledger .exit)) (r .watch)) (now (queue .exit)) after)) ⌝ }
 {
-    let read = log_whole::call_at(log, i);
+    let read = log_play_parts::record_at(log, i);
     let room = queue.len();
-    let other = log_play_parts::refusal_of(link, read, room);
-    let part = log_play_parts::ledger_part(other, link, read, keys, slots, probes, offsets, links);
-    let monitor = log_play_parts::monitor_of(link);
-    let sends = log_play_parts::goes(1, link, read, part);
-    let hears = log_play_parts::goes(2, link, read, part);
-    let advances = log_play_parts::goes(4, link, read, part);
+    let other = log_play_parts::refusal_of(watch, read, room);
+    let part = log_play_parts::ledger_part(
+        other,
+        read,
+        ledger,
+        keys,
+        slots,
+        probes,
+        offsets,
+        links,
+    );
+    let monitor = log_play_parts::monitor_of(watch);
+    let sends = log_play_parts::goes(1, watch, read, part);
+    let hears = log_play_parts::goes(2, watch, read, part);
+    let advances = log_play_parts::goes(4, watch, read, part);
     let sequence = log_play_parts::sequence_of(read);
     let time = log_play_parts::time_of(read);
     let first = monitor.sent_if(sends, queue, sequence, time);
     let second = first.reply_if(hears, queue, sequence);
     let third = second.advance_if(advances, queue, time);
-    step_of(link, read, part, third)
+    step_of(watch, read, part, third)
 }
 
 // The first `count` records of a log.
 pub fn play_records(
-    start: Link,
+    start: Watch,
     log: &[u8],
     count: u32,
+    ledger: &mut [u64; LEDGER_WORDS],
     keys: &mut [[u64; 2]],
     slots: &mut [[u64; 3]],
     probes: &mut [[u64; 4]],
@@ -112,16 +123,27 @@ pub fn play_records(
     ensures { λ r. ⌜ (
         let before = roomsOf (now (keys .entry)) (now (slots .entry)) (now (probes .entry)) (now (offsets .entry)) (now (links .entry)) in
         let after = roomsOf (now (keys .exit)) (now (slots .exit)) (now (probes .exit)) (now (offsets .exit)) (now (links .exit)) in
-        tallyOf (standingOf (r .link) (now (queue .exit)) after) (r .turned) ≡ tallied (now (log .entry)) (tallyOf (standingOf start (now (queue .entry)) before) 0) count) ⌝ }
+        tallyOf (standingOf (linkAt (now (ledger .exit)) (r .watch)) (now (queue .exit)) after) (r .turned) ≡ tallied (now (log .entry)) (tallyOf (standingOf (linkAt (now (ledger .entry)) start) (now (queue .entry)) before) 0) count) ⌝ }
 {
-    let mut link = start;
+    let mut watch = start;
     let mut turned = 0;
     let mut i = 0;
     while i < count {
-        let step = play_record(link, log, i, keys, slots, probes, offsets, links, queue);
+        let step = play_record(
+            watch,
+            log,
+            i,
+            ledger,
+            keys,
+            slots,
+            probes,
+            offsets,
+            links,
+            queue,
+        );
         turned = count_refused(step, turned);
-        link = link_of(step);
+        watch = watch_of(step);
         i = i + 1;
     }
-    tally_of(link, turned)
+    tally_of(watch, turned)
 }

@@ -2,9 +2,11 @@
 // a record.
 ghost use mathlib.Core.Path.{_≡_};
 ghost use Rattle.log_settings.specs.Checks.{checkedOf, checkedBy, settingsBy, roomsFit};
-ghost use Rattle.log_settings.specs.Fresh.{watchBy, linkBy};
+ghost use Rattle.ledger_state.specs.State.{freshLedger};
+ghost use Rattle.host_ledger.specs.Words.{ledgerAt};
+ghost use Rattle.log_settings.specs.Fresh.{watchBy};
+use host_ledger::LEDGER_WORDS;
 use limits::CAPACITY;
-use link_steps::Link;
 use link_steps::Watch;
 use log_whole::Log;
 use log_whole::Settings;
@@ -100,11 +102,21 @@ fn watch_by(threshold: u16, timeout: u64) -> Watch
     Watch::Present(monitor)
 }
 
-pub fn link_by(settings: Settings, secret: &[u32; 8]) -> Link
-    ensures { λ r. ⌜ r ≡ linkBy settings (now (secret .entry)) ⌝ }
+// The monitor of a log's link, if its settings ask for one.
+pub fn watch_of(settings: Settings) -> Watch
+    ensures { λ r. ⌜ r ≡ watchBy (settings .threshold) (settings .timeout) ⌝ }
 {
-    let words = *secret;
-    let ledger = ledger_state::fresh(settings.copies, words);
-    let watch = watch_by(settings.threshold, settings.timeout);
-    Link { ledger, watch }
+    watch_by(settings.threshold, settings.timeout)
+}
+
+// The words of its ledger, fresh.
+pub fn ledger_of(settings: Settings, secret: &[u32; 8]) -> [u64; LEDGER_WORDS]
+    ensures { λ r. ⌜ ledgerAt r ≡ freshLedger (settings .copies) (now (secret .entry)) ⌝ }
+{
+    let hash = *secret;
+    let fresh = ledger_state::fresh(settings.copies, hash);
+    let words = fresh.secret;
+    let mut ledger = [0u64; LEDGER_WORDS];
+    host_ledger::store_fresh(&mut ledger, fresh.copies, words);
+    ledger
 }

@@ -19,7 +19,7 @@ watch-after-requires : tie.Need-watch-after-requires
 watch-after-requires c κs = search needs
 
 returns : tie.Need-returns
-returns c = (refl, c .watch-after .ensures ∙ ap (watchAfter (c .before .before .before .before .args .link .watch)) (c .before .idled .ensures ∙ ap (λ (n : ℕ). idledIf (eqb n 5) (c .before .before .before .before .args .monitor)) (c .before .before .kind-of .ensures)), refl)
+returns c = (c .watch-after .ensures ∙ ap (watchAfter (c .before .before .before .args .watch)) (c .before .idled .ensures ∙ ap (λ (n : ℕ). idledIf (eqb n 5) (c .before .before .before .args .monitor)) (c .before .before .kind-of .ensures)), refl)
 
 pub step-of-spec : {M : Type 1} → statement M
 step-of-spec = tie.close (tie.spec kind-of-requires idled-requires watch-after-requires returns)
