@@ -7,15 +7,17 @@ use lib.Dec.{eqb}
 use lib.ListN.{length}
 use Rattle.limits.specs.Limits.{capacity}
 use Rattle.probe_queue.specs.declared.QueuedProbe.{QueuedProbe}
+use Rattle.ledger_state.specs.State.{freshLedger}
 use Rattle.ledger_steps.specs.Rooms.{Rooms}
 use Rattle.link_steps.specs.declared.Link.{Link}
+use Rattle.link_steps.specs.declared.Watch.{Watch}
 use Rattle.log_whole.specs.declared.Settings.{Settings}
 use Rattle.log_whole.specs.declared.Log.{Log}
 use Rattle.log_whole.specs.declared.Log.the-variants as log'
 use Rattle.log_whole.specs.Logs.{logOf}
 use Rattle.log_play_parts.specs.Parts.{roomsOf}
 use Rattle.log_play.specs.declared.Tally.{Tally}
-use Rattle.log_play.specs.Tally.{standingOf, Tallied, tallyOf, tallied}
+use Rattle.log_play.specs.Tally.{linkAt, standingOf, Tallied, tallyOf, tallied}
 use Rattle.report.specs.declared.ReportAnswer.{ReportAnswer}
 use Rattle.report.specs.declared.ReportAnswer.the-variants as answer
 use Rattle.report.specs.Report.{Outcome, outcome, pickOutcome, written, wrong, reportOf, reportRoom}
@@ -24,6 +26,7 @@ use Rattle.log_settings.specs.declared.Checked.{Checked}
 use Rattle.log_settings.specs.declared.Checked.the-variants.{Refused, Good}
 use Rattle.log_settings.specs.Checks.{checkedOf, checkedBy, settingsBy}
 use Rattle.log_settings.specs.Fresh.{watchBy, linkBy}
+use Rattle.host_ledger.specs.Words.{ledgerAt}
 use Rattle.link_report.specs.LogReport.{startBy, endOf, playedText, outcomeBy, Reported, reported, reportBy, fits, reportOfLog, emptyQueue}
 
 -- the answer by the check
@@ -65,21 +68,23 @@ module _ (log secret : List ℕ) (queue : List QueuedProbe) (rooms : Rooms) (buf
 
 -- the call, in the order of its parts
 pub reports : (log secret : List ℕ) (keys slots probes : List (List ℕ)) (offsets : List ℕ) (links : List (List ℕ)) (queue : List QueuedProbe) (text : List ℕ)
-    (fit : Bool) (found : Log) (checked : Checked) (settings : Settings) (start : Link) (count : ℕ)
-    (tally : Tally) (keys′ slots′ probes′ : List (List ℕ)) (offsets′ : List ℕ) (links′ : List (List ℕ)) (queue′ : List QueuedProbe) (r : ReportAnswer) (text′ : List ℕ)
-    → fit ≡ fits queue (roomsOf keys slots probes offsets links) text → found ≡ logOf log → checked ≡ checkedBy fit found → settings ≡ settingsBy checked → start ≡ linkBy settings secret → count ≡ settings .count
-    → tallyOf (standingOf (tally .link) queue′ (roomsOf keys′ slots′ probes′ offsets′ links′)) (tally .turned) ≡ tallied log (tallyOf (standingOf start queue (roomsOf keys slots probes offsets links)) 0) count
-    → outcome r text′ ≡ outcomeBy checked (tally .link) (tally .turned) text
+    (fit : Bool) (found : Log) (checked : Checked) (settings : Settings) (start : Watch) (ledger : List ℕ) (count : ℕ)
+    (tally : Tally) (ledger′ : List ℕ) (keys′ slots′ probes′ : List (List ℕ)) (offsets′ : List ℕ) (links′ : List (List ℕ)) (queue′ : List QueuedProbe) (r : ReportAnswer) (text′ : List ℕ)
+    → fit ≡ fits queue (roomsOf keys slots probes offsets links) text → found ≡ logOf log → checked ≡ checkedBy fit found → settings ≡ settingsBy checked
+    → start ≡ watchBy (settings .threshold) (settings .timeout) → ledgerAt ledger ≡ freshLedger (settings .copies) secret → count ≡ settings .count
+    → tallyOf (standingOf (linkAt ledger′ (tally .watch)) queue′ (roomsOf keys′ slots′ probes′ offsets′ links′)) (tally .turned) ≡ tallied log (tallyOf (standingOf (linkAt ledger start) queue (roomsOf keys slots probes offsets links)) 0) count
+    → outcome r text′ ≡ outcomeBy checked (linkAt ledger′ (tally .watch)) (tally .turned) text
     → reported (outcome r text′) queue′ (roomsOf keys′ slots′ probes′ offsets′ links′) ≡ reportOfLog log secret queue (roomsOf keys slots probes offsets links) text
 unfolding reportOfLog
-reports log secret keys slots probes offsets links queue text fit found checked settings start count tally keys′ slots′ probes′ offsets′ links′ queue′ r text′ ef el ec es eb en et eo =
+reports log secret keys slots probes offsets links queue text fit found checked settings start ledger count tally ledger′ keys′ slots′ probes′ offsets′ links′ queue′ r text′ ef el ec es ew eb en et eo =
     let rooms = roomsOf keys slots probes offsets links in
-    let t = tallyOf (standingOf (tally .link) queue′ (roomsOf keys′ slots′ probes′ offsets′ links′)) (tally .turned) in
+    let link = linkAt ledger′ (tally .watch) in
+    let t = tallyOf (standingOf link queue′ (roomsOf keys′ slots′ probes′ offsets′ links′)) (tally .turned) in
     let set : settings ≡ settingsBy (checkedBy fit found) = es ∙ ap settingsBy ec in
-    let begun : start ≡ linkBy (settingsBy (checkedBy fit found)) secret = eb ∙ ap (λ (s : Settings). linkBy s secret) set in
+    let begun : linkAt ledger start ≡ linkBy (settingsBy (checkedBy fit found)) secret = (λ j. record { ledger = eb j; watch = ew j }) ∙ ap (λ (s : Settings). linkBy s secret) set in
     let many : count ≡ settingsBy (checkedBy fit found) .count = en ∙ ap (λ (s : Settings). s .count) set in
     let left : t ≡ tallied log (startBy (settingsBy (checkedBy fit found)) secret queue rooms) (settingsBy (checkedBy fit found) .count) = et ∙ (λ j. tallied log (tallyOf (standingOf (begun j) queue rooms) 0) (many j)) in
-    let told : outcome r text′ ≡ outcomeBy (checkedBy fit found) (tally .link) (tally .turned) text = eo ∙ ap (λ (c : Checked). outcomeBy c (tally .link) (tally .turned) text) ec in
+    let told : outcome r text′ ≡ outcomeBy (checkedBy fit found) link (tally .turned) text = eo ∙ ap (λ (c : Checked). outcomeBy c link (tally .turned) text) ec in
     reports-by log secret queue rooms text fit ef found t (outcome r text′) left told
     ∙ (λ j. reportBy (checkedBy (ef j) (el j)) (endOf log secret queue rooms) queue rooms text)
 

@@ -1,10 +1,14 @@
 // The report of a log: its records played on a link that is made fresh, and its figures as text; or the number with which the log is refused.
-// The queue is lent, so that `report_log` is a straight line of calls: of a log that is refused no record is played, and nothing is written.
+// The link's ledger is made, lent to the records and read for its figures in its words. The queue is lent, so that `report_log` is a straight line of calls: of a log that is refused no record is played, and nothing is written.
 ghost use mathlib.Core.Path.{_≡_};
 ghost use Rattle.report.specs.Report.{outcome, reportOf};
 ghost use Rattle.link_figures.specs.Figures.{figuresOf};
 ghost use Rattle.log_play_parts.specs.Parts.{roomsOf};
+ghost use Rattle.log_play.specs.Tally.{linkAt};
 ghost use Rattle.link_report.specs.LogReport.{outcomeBy, emptyQueue, reported, reportOfLog};
+use host_ledger::LEDGER_WORDS;
+use link_steps::Link;
+use link_steps::Watch;
 use log_play::Tally;
 use log_settings::Checked;
 use probe_queue::QueuedProbe;
@@ -12,20 +16,39 @@ use report::ReportAnswer;
 
 // ---- the text
 
-fn write_played(text: &mut [u8], tally: Tally, count: u32) -> ReportAnswer
-    ensures { λ r. ⌜ outcome r (now (text .exit)) ≡ reportOf (now (text .entry)) (figuresOf (tally .link) count (tally .turned)) ⌝ }
+// The link that the ledger's words say, with its monitor.
+fn link_of(words: [u64; LEDGER_WORDS], watch: Watch) -> Link
+    ensures { λ r. ⌜ r ≡ linkAt words watch ⌝ }
 {
-    let link = tally.link;
+    let ledger = host_ledger::load(&words);
+    Link { ledger, watch }
+}
+
+fn write_played(
+    text: &mut [u8],
+    ledger: [u64; LEDGER_WORDS],
+    tally: Tally,
+    count: u32,
+) -> ReportAnswer
+    ensures { λ r. ⌜ outcome r (now (text .exit)) ≡ reportOf (now (text .entry)) (figuresOf (linkAt ledger (tally .watch)) count (tally .turned)) ⌝ }
+{
+    let watch = tally.watch;
+    let link = link_of(ledger, watch);
     let figures = link_figures::figures_of(link, count as u64, tally.turned);
     report::report(text, figures)
 }
 
-fn write_checked(text: &mut [u8], checked: Checked, tally: Tally) -> ReportAnswer
-    ensures { λ r. ⌜ outcome r (now (text .exit)) ≡ outcomeBy checked (tally .link) (tally .turned) (now (text .entry)) ⌝ }
+fn write_checked(
+    text: &mut [u8],
+    checked: Checked,
+    ledger: [u64; LEDGER_WORDS],
+    tally: Tally,
+) -> ReportAnswer
+    ensures { λ r. ⌜ outcome r (now (text .exit)) ≡ outcomeBy checked (linkAt ledger (tally .watch)) (tally .turned) (now (text .entry)) ⌝ }
 {
     match checked {
         Checked::Refused(number) => ReportAnswer::Refused(number),
-        Checked::Good(settings) => write_played(text, tally, settings.count),
+        Checked::Good(settings) => write_played(text, ledger, tally, settings.count),
     }
 }
 
@@ -61,12 +84,14 @@ pub fn report_log(
     let found = log_whole::check(log);
     let checked = log_settings::checked_by(fit, found);
     let settings = log_settings::settings_of(checked);
-    let start = log_settings::link_by(settings, secret);
+    let start = log_settings::watch_of(settings);
+    let mut ledger = log_settings::ledger_of(settings, secret);
     let count = log_settings::count_of(settings);
     let tally = log_play::play_records(
         start,
         log,
         count,
+        &mut ledger,
         keys,
         slots,
         probes,
@@ -74,7 +99,7 @@ pub fn report_log(
         links,
         queue,
     );
-    write_checked(text, checked, tally)
+    write_checked(text, checked, ledger, tally)
 }
 
 fn empty_queue() -> [QueuedProbe; 4096]

@@ -1,0 +1,1 @@
+// Laws for walks of functions with a local array that they lend whole. No code.
