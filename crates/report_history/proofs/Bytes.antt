@@ -1,11 +1,11 @@
 -- The numbers of a call that is read from a log fit their types. Assumes nothing.
 use mathlib.Core.Path.{_≡_, ap, subst}
 use mathlib.Core.Bool.{Bool, true, false, cond}
-use mathlib.Core.List.{List, [], _∷_}
+use mathlib.Core.List.{List}
 use Prim.Native.Nat.{ℕ, zero, suc, _+_, _*_, _^_, _<_}
 use native.Mathlib.Omega.{arith}
-use lib.Dec.{eqb, ltb, lit<}
-use lib.ListN.{length, getD, take, drop}
+use lib.Dec.{eqb, ltb}
+use lib.ListN.{length, drop}
 use Rattle.big_endian.specs.Numbers.{numberAt}
 use Rattle.call_types.specs.declared.Call.{Call}
 use Rattle.call_types.specs.declared.Call.the-variants as call
@@ -22,42 +22,9 @@ use Rattle.log_whole.specs.declared.PlayedCall.{PlayedCall}
 use Rattle.log_whole.specs.declared.PlayedCall.the-variants as read
 use Rattle.log_whole.specs.Logs.{trailerAt, countOf, settingsOf, mostBytes, trailerGood, recordAt, playedBy, callAt, logOf, numberBy, recordsNumber, firstOf, badTrailer}
 use Rattle.link_history.specs.Fresh.{Fits, AllFits}
+use Rattle.log_play_parts.proofs.Bytes.{bytes-drop, bytes-take, two-bytes, four-bytes, eight-bytes}
 use Rattle.report_history.specs.Bytes.{BytesIn}
 use Rattle.report_history.specs.Figures.{callThen, logCalls}
-
--- ---- bytes of a part of the log
-
-bytes-drop : (n : ℕ) (bs : List ℕ) → BytesIn bs → BytesIn (drop n bs)
-bytes-drop zero bs h = h
-bytes-drop (suc n) [] h = h
-bytes-drop (suc n) (b ∷ bs) h = bytes-drop n bs (λ i. h (suc i))
-
-bytes-take : (n : ℕ) (bs : List ℕ) → BytesIn bs → BytesIn (take n bs)
-bytes-take zero bs h i = lit< tt
-bytes-take (suc n) [] h i = lit< tt
-bytes-take (suc n) (b ∷ bs) h zero = h 0
-bytes-take (suc n) (b ∷ bs) h (suc i) = bytes-take n bs (λ j. h (suc j)) i
-
--- ---- numbers of two, four and eight bytes
-
-join-two : (a b : ℕ) → a < 256 → b < 256 → a * 256 + b < 65536
-join-two a b l m = omega arith
-
-join-four : (a b : ℕ) → a < 65536 → b < 65536 → a * 65536 + b < 4294967296
-join-four a b l m = omega arith
-
-join-eight : (a b : ℕ) → a < 4294967296 → b < 4294967296 → a * 4294967296 + b < 18446744073709551616
-join-eight a b l m = omega arith
-
-module _ (bs : List ℕ) (h : BytesIn bs) where
-  pub two-bytes : (at : ℕ) → numberAt 1 bs at < 2 ^ 16
-  two-bytes at = join-two (getD bs at 0) (getD bs (at + 1) 0) (h at) (h (at + 1))
-
-  pub four-bytes : (at : ℕ) → numberAt 2 bs at < 2 ^ 32
-  four-bytes at = join-four (numberAt 1 bs at) (numberAt 1 bs (at + 2)) (two-bytes at) (two-bytes (at + 2))
-
-  pub eight-bytes : (at : ℕ) → numberAt 3 bs at < 2 ^ 64
-  eight-bytes at = join-eight (numberAt 2 bs at) (numberAt 2 bs (at + 4)) (four-bytes at) (four-bytes (at + 4))
 
 -- ---- the parts of a call
 
