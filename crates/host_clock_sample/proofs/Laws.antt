@@ -6,11 +6,10 @@ use Prim.Native.Nat.{ℕ, _+_, _-_, _*_, _<_}
 use native.Mathlib.Omega.{arith}
 use lib.Ieee.{Float, binary64, add, toBits}
 use lib.ListN.{getD, set}
-use lib.Seq.{sets, set-getD, getD-set-other}
+use lib.Seq.{sets, getD-set-other}
 use Rattle.estimate.specs.declared.Estimates.{Estimates}
 use Rattle.estimate.specs.declared.Estimates.the-variants as estimates
 use Rattle.estimate.specs.declared.ErrorEstimate.{ErrorEstimate}
-use Rattle.estimate.specs.declared.Reading.{Reading}
 use Rattle.estimate.specs.declared.Reading.the-variants.{Known}
 use Rattle.estimate.specs.Make.{isPtp, formatOf}
 use Rattle.estimate.specs.Error.{readingOf}
@@ -26,6 +25,7 @@ use Rattle.correlation.specs.declared.Wires.the-variants as wires
 use Rattle.follow_ups.specs.Followed.{estimatesOf}
 use Rattle.host_numbers.specs.Numbers.{flagWord}
 use Rattle.host_quality.specs.Words.{errorBits, estimateWord, largestWord, largestBits, largestOf, qualityAt, qualityWords}
+use Rattle.host_ledger.proofs.Kept.{kept}
 use Rattle.host_ledger_parts.specs.Last.{qualityWithoutLast}
 
 -- ---- a sample of any kind
@@ -60,10 +60,6 @@ pub told-as : (w w' : List ℕ) (x y : Wires) → x ≡ y → w' ≡ sets w 58 (
 told-as w w' x y e h = h ∙ ap (λ (z : Wires). sets w 58 (qualityWords (recordedOf (qualityAt 58 w) (estimatesOf z)))) (sym e)
 
 -- ---- both errors known: what is stored, and what stays
-
--- a word that is stored as it stands changes nothing
-kept : (v w : List ℕ) (i : ℕ) → getD v i 0 ≡ getD w i 0 → set v i (getD w i 0) ≡ v
-kept v w i e = ap (set v i) (sym e) ∙ set-getD v i 0
 
 module _ (w : List ℕ) (a n u : ℕ) where
   abbrev three : List ℕ

@@ -2,17 +2,16 @@
 use mathlib.Core.Path.{_≡_, refl, sym, ap, _∙_}
 use mathlib.Core.Bool.{Bool, true, false, _&&_, _||_, cond, and-eq-true-iff}
 use mathlib.Core.List.{List, [], _∷_}
-use Prim.Native.Nat.{ℕ, zero, suc, _+_, _/_, _%_, _^_, _≤_, _<_}
+use Prim.Native.Nat.{ℕ, zero, suc, _+_, _≤_, _<_}
 use native.Mathlib.Nat.{zero-lt-suc}
 use native.Mathlib.Omega.{arith}
 use lib.Dec.{eqb, ltb, leb}
 use lib.IntN.{ℤ, pos, negsuc, _+ℤ_}
 use lib.Signed.{ltZ}
 use lib.ListN.{getD, set}
-use lib.Seq.{sets, set-getD, getD-set-other}
+use lib.Seq.{sets, getD-set-other}
 use borrow.Author.Tests.{eqb-true, leb-true, le-ltb, lt-ltb, le-leb, lt-leb, eq-eqb, ne-eqb}
 use Rattle.floats.specs.Whole.{magnitude, signed}
-use Rattle.delays.specs.declared.Delays.{Delays}
 use Rattle.delays.specs.declared.Extreme.{Extreme}
 use Rattle.delays.specs.declared.Extreme.the-variants as extreme
 use Rattle.delays.specs.declared.Nanoseconds.{Nanoseconds}
@@ -25,7 +24,7 @@ use Rattle.round_trips.proofs.Steps.{none-under}
 use Rattle.host_numbers.specs.Numbers.{flagWord, isSet}
 use Rattle.host_ledger.specs.Parts.{extremeOf, extremeKind, extremeMagnitude, delaysOf, delaysAt, delaysWords}
 use Rattle.host_ledger.proofs.Back.{extreme-again}
-use Rattle.host_round_trip.proofs.Laws.{kept}
+use Rattle.host_ledger.proofs.Kept.{kept}
 use Rattle.host_delay.specs.Usual.{within, usual}
 
 -- ---- the tests

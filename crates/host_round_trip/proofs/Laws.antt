@@ -2,12 +2,12 @@
 use mathlib.Core.Path.{_≡_, refl, sym, ap, _∙_}
 use mathlib.Core.Bool.{Bool, true, false, _&&_, cond}
 use mathlib.Core.List.{List, [], _∷_}
-use Prim.Native.Nat.{ℕ, _+_, _*_, _^_, _<_}
+use Prim.Native.Nat.{ℕ, _+_, _^_, _<_}
 use native.Mathlib.Omega.{arith}
 use lib.Dec.{eqb, ltb}
 use lib.IntN.{pos}
 use lib.ListN.{getD, set}
-use lib.Seq.{sets, set-getD, getD-set-other}
+use lib.Seq.{sets, getD-set-other}
 use borrow.Author.Tests.{eqb-true}
 use Rattle.floats.specs.Whole.{magnitude}
 use Rattle.delays.specs.declared.Delays.{Delays}
@@ -17,6 +17,7 @@ use Rattle.limits.specs.Limits.{sumBound}
 use Rattle.delays.specs.Delays.{recordedOf}
 use Rattle.delays.specs.Sums.{nanosecondsOf, sumOf}
 use Rattle.host_ledger.specs.Parts.{extremeKind, extremeMagnitude, delaysOf, delaysAt, delaysWords}
+use Rattle.host_ledger.proofs.Kept.{kept}
 
 pub high-below : (high low : ℕ) → magnitude high low < sumBound → high < 2 ^ 62
 high-below high low h = omega (arith, h)
@@ -45,10 +46,6 @@ ordinary-as w b e t =
     (eqb-true _ _ (three .0), eqb-true _ _ (three .1), eqb-true _ _ (three .2))
 
 -- ---- the stores
-
--- a word that is stored as it stands changes nothing
-pub kept : (v w : List ℕ) (i : ℕ) → getD v i 0 ≡ getD w i 0 → set v i (getD w i 0) ≡ v
-kept v w i e = ap (set v i) (sym e) ∙ set-getD v i 0
 
 module _ (w : List ℕ) (c h l a b : ℕ) where
   abbrev counted : List ℕ

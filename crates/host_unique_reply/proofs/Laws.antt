@@ -14,6 +14,7 @@ use Rattle.replies.specs.declared.Replies.{Replies}
 use Rattle.replies.specs.Served.{tally, answeredBy, stepFrom, highestBy, highestAfter, isReordered, numberedBy, evictedBy, afterUnique}
 use Rattle.host_numbers.specs.Numbers.{lower, isSet}
 use Rattle.host_ledger.specs.Parts.{reflectorOf, reflectorWord, repliesAt, repliesWords}
+use Rattle.host_ledger.proofs.Kept.{kept}
 use Rattle.host_unique_reply.specs.Stored.{raised, answersWords, orderWords, numbersWords, evictedStored, repliesStored}
 
 -- ---- words that stay
@@ -36,10 +37,6 @@ after-sets (x ∷ xs) w at i h =
 -- a count that stayed is as low as it was
 pub still-low : (n m : ℕ) → n ≡ m → m < countBound → n < countBound
 still-low n m e h = subst (λ (k : ℕ). k < countBound) (sym e) h
-
--- a word that is stored as it stands changes nothing
-kept : (v w : List ℕ) (i : ℕ) → getD v i 0 ≡ getD w i 0 → set v i (getD w i 0) ≡ v
-kept v w i e = ap (set v i) (sym e) ∙ set-getD v i 0
 
 -- one more where the test holds, of a word that had stayed
 raised-as : (v w v' : List ℕ) (at : ℕ) (test : Bool) → v' ≡ raised v at test → getD v at 0 ≡ getD w at 0 → v' ≡ set v at (tally test (getD w at 0))
