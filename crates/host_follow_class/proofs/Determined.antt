@@ -5,7 +5,7 @@ use borrow.Fn.World as World
 use borrow.Fn.Kinds as Kinds'
 use denote.Triple.Clauses as Clauses
 use denote.Ref.{now}
-use Rattle.ledger_follow.specs.Class.{ClassOutcome}
+use Rattle.host_follow_class.specs.Class.{ClassOutcome}
 use Rattle.host_follow_class.proofs.class_of_follow_up as class-of-follow-up
 use Rattle.host_follow_class.proofs.class_of_follow_up.Kinds as class-of-follow-up-kinds
 use Rattle.host_follow_class.proofs.class_of_follow_up.Reads as class-of-follow-up-reads

@@ -1,5 +1,5 @@
 // The class of a follow-up over the rooms of a host. What a matched one corrects is one bit of its slot's first word: it is set there, where the
-// words are as a call leaves them. Any other slot is read and written whole. Crate ledger_follow has the same by value.
+// words are as a call leaves them. Any other slot is read and written whole.
 ghost use mathlib.Core.Path.{_≡_};
 ghost use lib.ListN.{length};
 ghost use Rattle.limits.specs.Limits.{capacity};
@@ -9,7 +9,7 @@ ghost use Rattle.correlation.specs.Words.{slotBy, slotOf, wordsOf};
 ghost use Rattle.correlation.specs.Slots.{correctedSlot};
 ghost use Rattle.key_ring.specs.Table.{hashOf, wordsAt};
 ghost use Rattle.ledger_steps.specs.Observe.{correctedAt};
-ghost use Rattle.ledger_follow.specs.Class.{classOutcome, classWith, classIn};
+ghost use Rattle.host_follow_class.specs.Class.{classOutcome, classWith, classIn};
 ghost use Rattle.host_follow_class.specs.Whole.{whole};
 use call_types::FollowUpTelemetry;
 use call_types::Time;

@@ -1,13 +1,12 @@
 -- A matched follow-up in the words: two counts, the delay and the clock quality, one after the other, are all that there is of follow-ups.
 -- Assumes nothing.
 use mathlib.Core.Path.{_≡_, refl, sym, ap, _∙_, subst}
-use mathlib.Core.List.{List, [], _∷_, _++_}
+use mathlib.Core.List.{List}
 use Prim.Native.Nat.{ℕ, _+_, _≤_}
 use native.Mathlib.Omega.{arith}
 use lib.IntN.{ℤ}
 use lib.ListN.{getD, set}
 use lib.Seq.{sets, set-getD}
-use Rattle.estimate.specs.declared.Estimates.{Estimates}
 use Rattle.clock_quality.specs.declared.ClockQuality.{ClockQuality}
 use Rattle.clock_quality.specs.Bounds as quality
 use Rattle.clock_quality.specs.Quality as clock_quality

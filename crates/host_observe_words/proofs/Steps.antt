@@ -1,8 +1,10 @@
 -- What the library's `observe` leaves on the ledger that the words say, as the number, words and rooms that are left. Assumes nothing.
 use mathlib.Core.Path.{_≡_, refl, sym, ap, _∙_, subst}
+use mathlib.Core.Bool.{true, _&&_}
 use mathlib.Core.List.{List}
 use Prim.Native.Nat.{ℕ, zero, suc, _+_, _≤_}
 use native.Mathlib.Omega.{arith}
+use borrow.Author.Tests.{leb-true}
 use mir.Syntax.{w64}
 use mir.Val.{Fits}
 use lib.IntN.{pos}
@@ -13,7 +15,10 @@ use Rattle.call_types.specs.declared.ReplyKey.{ReplyKey}
 use Rattle.call_types.specs.declared.ReplyObservation.{ReplyObservation}
 use Rattle.chains.specs.declared.Ring.{Ring}
 use Rattle.chains.specs.Hash.{numberHash}
+use Rattle.ranges.specs.Ranges.{timeFits, referenceWithin, offsetWithin, estimatesFit, inRange}
+use Rattle.correlation.specs.Class.{offsetInRange}
 use Rattle.key_ring.specs.Table.{hashOf}
+use Rattle.replies.proofs.Tested.{both}
 use Rattle.delays.specs.declared.Delays.{Delays}
 use Rattle.delays.specs.Bounds as delays
 use Rattle.delays.specs.Delays.{recordedOf}
@@ -99,6 +104,16 @@ observed-as w keys slots offsets links o secret ring copies w₂ w₃ w₄ offse
     ∙ ap (λ (h : List ℕ). servedLeaves (o .counters) w (observeIn capacity (hashOf h) (numberHash h) (ledgerAt w) keys slots offsets links o)) s
 
 -- ---- what the tests show to each part
+
+-- what the range tests show to the follow-up's part
+pub follow-ranged : (o : ReplyObservation) → inRange o ≡ true → offsetInRange (o .offset)
+unfolding inRange
+follow-ranged o h =
+    let a = timeFits (o .t4) in
+    let b = referenceWithin (o .reference) in
+    let c = offsetWithin (o .offset) in
+    let x = both (a && b && c) (estimatesFit (o .quality)) h in
+    leb-true _ _ (both (a && b) c (x .0) .1)
 
 module _ (w : List ℕ) (keys : List (List ℕ)) (slots offsets links : ℕ) (o : ReplyObservation) (sound : SoundObserve (ledgerAt w) keys slots offsets links o) where
   -- one call more can be counted

@@ -5,7 +5,7 @@ use mathlib.Core.List.{List, [], _∷_}
 use Prim.Native.Nat.{ℕ, _+_}
 use native.Mathlib.Omega.{arith}
 use lib.IntN.{ℤ}
-use lib.ListN.{getD, set}
+use lib.ListN.{getD}
 use lib.Seq.{sets, set-getD}
 use Rattle.call_types.specs.declared.FollowUp.{FollowUp}
 use Rattle.call_types.specs.declared.FollowUp.the-variants as follow
@@ -19,12 +19,37 @@ use Rattle.correlation.specs.declared.follow.Class.the-variants as class
 use Rattle.correlation.specs.declared.follow.Match.{Match}
 use Rattle.follow_ups.specs.declared.FollowUps.{FollowUps}
 use Rattle.follow_ups.specs.Followed.{counted, followed}
-use Rattle.ledger_steps.specs.Observe.{followOutcome, followBy, followIn}
-use Rattle.ledger_follow.specs.Class.{classOutcome, classIn}
-use Rattle.ledger_follow.proofs.Steps.{follow-as, counted-as}
+use Rattle.ledger_steps.specs.Observe.{FollowOutcome, followOutcome, followBy, followIn}
+use Rattle.host_follow_class.specs.Class.{ClassOutcome, classOutcome, classIn}
 use Rattle.host_ledger.specs.Parts.{followAt, followCountsWords, followWords}
 use Rattle.host_ledger.specs.Left.{followStored}
 use Rattle.host_observe_words.specs.Observe.{followLeft, followLeaves}
+
+-- ---- the follow-up, at any capacity N
+
+module _ (N : ℕ) (byKey : ReplyKey → ℕ) (byNumber : ℕ → ℕ) where
+  -- an observation, by its follow-up
+  follow-as :
+      (fs : FollowUps) (ring : Ring) (keys slots links : List (List ℕ)) (o : ReplyObservation) (x : FollowUp) (out : FollowOutcome)
+      → o .follow ≡ x → out ≡ followBy N byKey byNumber x fs ring keys slots links o
+      → out ≡ followIn N byKey byNumber fs ring keys slots links o
+  unfolding followIn
+  follow-as fs ring keys slots links o x out e h = h ∙ sym (ap (λ (y : FollowUp). followBy N byKey byNumber y fs ring keys slots links o) e)
+
+  -- a follow-up whose class is known
+  counted-as :
+      (fs fs' : FollowUps) (ring : Ring) (keys slots slots' links : List (List ℕ)) (o : ReplyObservation) (f : FollowUpTelemetry) (c : Class) (offset : ℤ)
+      → classOutcome c slots' ≡ classIn N byKey byNumber ring keys slots links (o .key .reflector) offset f
+      → offset ≡ o .offset
+      → fs' ≡ followed fs c offset
+      → followOutcome fs' slots' ≡ followBy N byKey byNumber (follow.Telemetry f) fs ring keys slots links o
+  unfolding classIn
+  counted-as fs fs' ring keys slots slots' links o f c offset e₁ e₂ e₃ =
+      ap (λ (x : FollowUps). followOutcome x slots') (e₃ ∙ ap (followed fs c) e₂)
+      ∙ ap (λ (x : ClassOutcome). followOutcome (followed fs (x .class) (o .offset)) (x .slots))
+      (e₁ ∙ ap (λ (z : ℤ). classIn N byKey byNumber ring keys slots links (o .key .reflector) z f) e₂)
+
+-- ---- its words
 
 module _ (w : List ℕ) where
   -- counts as they are read are stored as they were

@@ -1,7 +1,6 @@
 // `observe` of src/sender/measurements.rs on the words and the rooms that a host lends: the refusals first, then one part of the ledger after the
 // other is taken out of its words, counted and stored, in the original's order. It is no call of its own, since a crate that exports one cannot be
-// what another call's object is made of. Crate ledger_observe has the same call on a ledger by value; its contract and this one cite one
-// definition, `observeTo`.
+// what another call's object is made of.
 ghost use mathlib.Core.Path.{_≡_};
 ghost use lib.ListN.{length};
 ghost use lib.Seq.{sets};

@@ -1,3 +1,4 @@
 pub mod Order
 pub mod Sound
 pub mod Observed
+pub mod Refused

@@ -1,6 +1,6 @@
 -- What each function of the crate leaves, from what its callees ensure. Assumes nothing.
 use mathlib.Core.Path.{_≡_, refl, sym, ap, _∙_}
-use mathlib.Core.Bool.{Bool, true, false, cond}
+use mathlib.Core.Bool.{Bool, false, cond}
 use mathlib.Core.List.{List, []}
 use Prim.Native.Nat.{ℕ, zero, suc, _+_, _<_, _≤_}
 use lib.ListN.{length, getD}
@@ -20,10 +20,9 @@ use Rattle.replies.specs.Served.{afterSent}
 use Rattle.ledger_state.specs.declared.Ledger.{Ledger}
 use Rattle.ledger_state.specs.State.{wordsOf}
 use Rattle.ledger_steps.specs.declared.LedgerAnswer.the-variants as answer
-use Rattle.ledger_steps.specs.declared.AnsweredAnswer.{AnsweredAnswer}
 use Rattle.ledger_steps.specs.declared.AnsweredAnswer.the-variants as answers
 use Rattle.ledger_steps.specs.Refusals.{refusalOfSent, refusalOfAnswered}
-use Rattle.ledger_steps.specs.Sent.{SentOutcome, sentWith, sentIn, sentOn}
+use Rattle.ledger_steps.specs.Sent.{sentWith, sentIn, sentOn}
 use Rattle.ledger_steps.specs.Readers.{answeredAt, answeredIn, answeredOn}
 use Rattle.ledger_steps.specs.Calls.{sentResult, sentBy, sentTo, answeredBy, answeredTo}
 use Rattle.ledger_sent.specs.Left.{left}
@@ -53,7 +52,7 @@ module _ (l : Ledger) (probes links : List (List ℕ)) (s : SentProbe) where
       ∙ ap (sentWith l) e
       ∙ ap (λ (ws : List ℕ). sentIn capacity (numberHash ws) l probes links s) w
 
--- ---- `sent_unless`
+-- ---- a `sent` that is refused
 
 module _ (other : ℕ) (l : Ledger) (probes links : List (List ℕ)) (s : SentProbe) where
   pub refused-is :
@@ -62,14 +61,6 @@ module _ (other : ℕ) (l : Ledger) (probes links : List (List ℕ)) (s : SentPr
   unfolding sentTo
   refused-is zero e h = absurd (h refl)
   refused-is (suc n) e h = ap (λ (k : ℕ). sentBy k (sentOn l probes links s) probes links) e
-
-  pub served-is :
-      (n : ℕ) (next : Ledger) (probes′ links′ : List (List ℕ)) → n ≡ refusalOfSent other l (length probes) (length links) → n ≡ 0 →
-      left next probes′ links′ ≡ sentOn l probes links s →
-      sentResult (answer.Served next) probes′ links′ ≡ sentTo other l probes links s
-  unfolding sentTo
-  served-is n next probes′ links′ e z h =
-      ap (λ (o : SentOutcome). sentBy 0 o probes links) h ∙ ap (λ (k : ℕ). sentBy k (sentOn l probes links s) probes links) (sym z ∙ e)
 
 -- ---- `answered`
 

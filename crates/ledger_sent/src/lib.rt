@@ -1,6 +1,5 @@
-// `sent` and `answered` of src/sender/measurements.rs, over the lent rooms of the held probes and of the links.
+// `sent` once no test has refused it, and `answered`, of src/sender/measurements.rs, over the lent rooms of the held probes and of the links.
 ghost use mathlib.Core.Path.{_≡_};
-ghost use Prim.Native.Nat.{ℕ};
 ghost use lib.ListN.{length};
 ghost use Rattle.limits.specs.Limits.{capacity};
 ghost use Rattle.chains.specs.Rings.{RingFits};
@@ -10,18 +9,16 @@ ghost use Rattle.probe_ring.specs.Rooms.{rooms, slotOf};
 ghost use Rattle.ledger_checks.specs.Sound.{SoundSent};
 ghost use Rattle.ledger_steps.specs.Sent.{sentOn};
 ghost use Rattle.ledger_steps.specs.Readers.{answeredAt};
-ghost use Rattle.ledger_steps.specs.Calls.{sentResult, sentTo, answeredTo};
+ghost use Rattle.ledger_steps.specs.Calls.{answeredTo};
 ghost use Rattle.ledger_sent.specs.Left.{left};
 use call_types::Ordinal;
 use call_types::SentProbe;
 use chains::Ring;
 use ledger_checks::refusal_of_answered;
-use ledger_checks::refusal_of_sent;
 use ledger_state::Counts;
 use ledger_state::Ledger;
 use ledger_state::Tables;
 use ledger_steps::AnsweredAnswer;
-use ledger_steps::LedgerAnswer;
 use limits::CAPACITY;
 
 // Remembers the probe, and counts: a `sent` that no test has refused.
@@ -74,34 +71,6 @@ pub fn served(
             follow,
         },
     }
-}
-
-// `sent`, refused also where `other` is a refusal: that of the monitor's part of the same call.
-pub fn sent_unless(
-    other: u8,
-    ledger: Ledger,
-    probes: &mut [[u64; 4]],
-    links: &mut [[u16; 8]],
-    probe: SentProbe,
-) -> LedgerAnswer
-    ensures { λ r. ⌜ sentResult r (now (probes .exit)) (now (links .exit)) ≡ sentTo other ledger (now (probes .entry)) (now (links .entry)) probe ⌝ }
-{
-    let refused = refusal_of_sent(other, ledger, probes.len(), links.len());
-    if refused != 0 {
-        return LedgerAnswer::Refused(refused);
-    }
-    LedgerAnswer::Served(served(ledger, probes, links, probe))
-}
-
-pub fn sent(
-    ledger: Ledger,
-    probes: &mut [[u64; 4]],
-    links: &mut [[u16; 8]],
-    probe: SentProbe,
-) -> LedgerAnswer
-    ensures { λ r. ⌜ sentResult r (now (probes .exit)) (now (links .exit)) ≡ sentTo 0 ledger (now (probes .entry)) (now (links .entry)) probe ⌝ }
-{
-    sent_unless(0, ledger, probes, links, probe)
 }
 
 fn is_answered(

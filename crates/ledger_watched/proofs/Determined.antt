@@ -25,12 +25,9 @@ use Rattle.ledger_steps.specs.Refusals as refusals
 use Rattle.ledger_steps.specs.Accept.{AcceptOutcome, acceptOn}
 use Rattle.ledger_steps.specs.Calls as ledger
 use Rattle.ledger_checks.proofs.Order.{first-of-both}
-use Rattle.ledger_sent.proofs.Determined as sent
-use Rattle.ledger_accept.proofs.Determined as accept
+use Rattle.ledger_checks.proofs.Refused as refused
 use Rattle.link_steps.specs.Steps.{wasServed, wasUnique}
-use Rattle.ledger_watched.specs.declared.WatchedAnswer.{WatchedAnswer}
 use Rattle.ledger_watched.specs.declared.WatchedAnswer.the-variants as watched
-use Rattle.ledger_watched.specs.declared.WatchedAccept.{WatchedAccept}
 use Rattle.ledger_watched.specs.declared.WatchedAccept.the-variants as watchedAccept
 use Rattle.ledger_watched.specs.Watched.{number, acceptNumber, sentResult, bothSent, sentWith, sentBy, sentTo}
 use Rattle.ledger_watched.specs.Watched.{acceptResult, bothAccept, acceptWith, acceptBy, acceptTo}
@@ -76,7 +73,7 @@ sent-number l m probes links queue s =
     let other = refusalOfSent m (length queue) (s .packet .time) in
     let placed = sized (length probes) && sized (length links) && ringsFit l in
     number-is (ledger.sentTo other l probes links s .answer) (sentIf (wasServed (ledger.sentTo other l probes links s .answer)) m queue (s .sequence) (s .packet .time) .monitor)
-    ∙ sent.sent-number other l probes links s
+    ∙ refused.sent-number other l probes links s
     ∙ ap (refusals.earlier (firstRefusal placed true true (roomForCall l) true true)) (monitor-sent-table m (length queue) (s .packet .time))
     ∙ first-of-both placed true true (roomForCall l) true true (not (misplaced m (length queue))) true (not (passing m (s .packet .time)))
     (not (counted (m .summary))) true (not (crowded m))
@@ -174,7 +171,7 @@ sent-refused l m probes links queue s n e =
     let other = refusalOfSent m (length queue) (s .packet .time) in
     let r = ledger.sentTo other l probes links s in
     ap (λ (x : ledger.SentResult). sentBy x m queue s)
-    (sent.sent-refused other l probes links s n (refused-of (r .answer) (sentIf (wasServed (r .answer)) m queue (s .sequence) (s .packet .time) .monitor) n e) .1)
+    (refused.sent-refused other l probes links s n (refused-of (r .answer) (sentIf (wasServed (r .answer)) m queue (s .sequence) (s .packet .time) .monitor) n e) .1)
     ∙ ap (sentWith (ledger.sentResult (answer.Refused n) probes links)) (stays-sent m queue (s .sequence) (s .packet .time))
 
 stays-reply : (m : Monitor) (queue : List QueuedProbe) (sender : ℕ) → replyIf false m queue sender ≡ unchanged m queue
@@ -194,5 +191,5 @@ accept-refused l m keys slots probes links queue a n e =
     let other = refusalOf m (length queue) in
     let r = ledger.acceptTo other l keys slots probes links a in
     ap (λ (x : ledger.AcceptResult). acceptBy x m queue a)
-    (accept.accept-refused other l keys slots probes links a n (accept-refused-of (r .answer) (replyIf (wasUnique (r .answer)) m queue (a .key .sender) .monitor) n e) .1)
+    (refused.accept-refused other l keys slots probes links a n (accept-refused-of (r .answer) (replyIf (wasUnique (r .answer)) m queue (a .key .sender) .monitor) n e) .1)
     ∙ ap (acceptWith (ledger.acceptResult (accepts.Refused n) keys slots probes links)) (stays-reply m queue (a .key .sender))

@@ -4,7 +4,7 @@ use denote.Ref.{now}
 use mir.Syntax.{w32}
 use mir.ValLaws.{toZ-ofZ}
 use Rattle.correlation.specs.Words.{slotOf}
-use Rattle.ledger_follow.proofs.Steps.{class-as}
+use Rattle.host_follow_class.proofs.Steps.{class-as}
 use borrow.Author.Needs.{needs}
 use Rattle.host_follow_class.proofs.class_at.Statement.{statement}
 use Rattle.host_follow_class.proofs.class_at.Tie as tie

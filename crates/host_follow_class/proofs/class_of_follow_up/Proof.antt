@@ -4,7 +4,7 @@ use mir.Syntax.{w32}
 use mir.ValLaws.{toZ-ofZ}
 use Rattle.chains.specs.Hash.{numberHash}
 use Rattle.key_ring.specs.Table.{hashOf}
-use Rattle.ledger_follow.proofs.Steps.{found-as}
+use Rattle.host_follow_class.proofs.Steps.{found-as}
 use borrow.Author.Needs.{needs}
 use Rattle.host_follow_class.proofs.class_of_follow_up.Statement.{statement}
 use Rattle.host_follow_class.proofs.class_of_follow_up.Tie as tie

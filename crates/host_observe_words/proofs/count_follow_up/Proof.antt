@@ -6,7 +6,7 @@ use denote.Ref.{now}
 use Rattle.chains.specs.Hash.{numberHash}
 use Rattle.correlation.specs.Class.{offsetInRange}
 use Rattle.key_ring.specs.Table.{hashOf}
-use Rattle.ledger_follow.proofs.Steps.{found-ranged}
+use Rattle.host_follow_class.proofs.Steps.{found-ranged}
 use Rattle.host_observe_words.proofs.Stored.{follow-untold, follow-told}
 use borrow.Author.Needs.{needs}
 use Rattle.host_observe_words.proofs.count_follow_up.Statement.{statement}

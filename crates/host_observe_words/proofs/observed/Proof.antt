@@ -6,9 +6,8 @@ use Rattle.chains.specs.Hash.{numberHash}
 use Rattle.chains.specs.Rings.{RingFits}
 use Rattle.key_ring.specs.Table.{hashOf}
 use Rattle.ledger_steps.specs.Observe.{ownIn}
-use Rattle.ledger_observe.proofs.Steps.{follow-ranged}
 use Rattle.host_ledger.specs.Words.{ledgerAt}
-use Rattle.host_observe_words.proofs.Steps.{calls-fit, rtt-bounded, direct-bounded, follow-bounded, observed-as}
+use Rattle.host_observe_words.proofs.Steps.{calls-fit, rtt-bounded, direct-bounded, follow-bounded, follow-ranged, observed-as}
 use borrow.Author.Needs.{needs}
 use Rattle.host_observe_words.proofs.observed.Statement.{statement}
 use Rattle.host_observe_words.proofs.observed.Tie as tie
