@@ -9,7 +9,7 @@ ghost use Rattle.direct.specs.Offsets.{offset, jumps, senderOffset, rece
 ghost use Rattle.direct.specs.Outcomes.{oneUnavailable, oneObserved, oneDiscontinuity, oneReordered, historyExceeded};
 ghost use Rattle.direct.specs.Outcomes.{mismatched};
 ghost use Rattle.direct.specs.Outcomes.{step, movedBy, withoutAnchor, withAnchor, bothZero, inWindow, recorded, soughtIn};
-ghost use Rattle.direct.specs.Outcomes.{freshDirect, countsInBounds, InBounds, seenIn};
+ghost use Rattle.direct.specs.Outcomes.{freshDirect, InBounds, seenIn};
 
 pub mod summary;
 
@@ -127,16 +127,6 @@ fn larger(a: u32, b: u32) -> u32
     ensures { λ r. ⌜ r ≡ max a b ⌝ }
 {
     if a < b { b } else { a }
-}
-
-// Refusal 4: whether every count is below 2^63.
-pub fn counts_in_bounds(counts: Counts) -> bool
-    ensures { λ r. ⌜ r ≡ countsInBounds counts ⌝ }
-{
-    (counts.observations < limits::COUNT_BOUND)
-        & (counts.unavailable < limits::COUNT_BOUND)
-        & (counts.discontinuities < limits::COUNT_BOUND)
-        & (counts.reordered < limits::COUNT_BOUND)
 }
 
 impl Counts {

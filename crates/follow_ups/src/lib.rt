@@ -1,10 +1,8 @@
-// `FollowUpSummary` and `follow_delay` of src/sender/measurements.rs by value: what `observe` does for a follow-up whose class is known.
+// `FollowUpSummary` and `follow_delay` of src/sender/measurements.rs by value: the count of a follow-up's class, and what the summary shows.
+// Crate host_observe_words has all that `observe` does for a follow-up.
 ghost use mathlib.Core.Path.{_≡_};
-ghost use Rattle.correlation.specs.Class.{MatchedInRange, offsetInRange};
-ghost use Rattle.delays.specs.Bounds as delays;
-ghost use Rattle.clock_quality.specs.Bounds as quality;
-ghost use Rattle.follow_ups.specs.Followed.{estimatesOf, wiresOf, counted, delayAfter, qualityAfter, followed, freshFollowUps};
-ghost use Rattle.follow_ups.specs.Bounds.{CountsIn, InBounds, countsFit, followUpsFit};
+ghost use Rattle.follow_ups.specs.Followed.{estimatesOf, counted, freshFollowUps};
+ghost use Rattle.follow_ups.specs.Bounds.{CountsIn};
 
 pub mod summary;
 
@@ -46,20 +44,6 @@ pub fn estimates_of(wires: Wires) -> Estimates
     }
 }
 
-// The wires of an observation's estimates.
-pub fn wires_of(quality: Estimates) -> Wires
-    ensures { λ r. ⌜ r ≡ wiresOf quality ⌝ }
-{
-    match quality {
-        Estimates::Absent => Wires::Absent,
-        Estimates::Pair(sender, reflector) => {
-            let first = sender.to_wire();
-            let second = reflector.to_wire();
-            Wires::Pair(first, second)
-        }
-    }
-}
-
 // One follow-up more, of a class.
 pub fn count(class: Class, counts: FollowCounts) -> FollowCounts
     requires { ⌜ CountsIn counts ⌝ }
@@ -91,38 +75,6 @@ pub fn count(class: Class, counts: FollowCounts) -> FollowCounts
     }
 }
 
-fn delay_after(class: Class, offset: i32, delay: Delays) -> Delays
-    requires { ⌜ delays.Bounded delay × MatchedInRange class × offsetInRange offset ⌝ }
-    ensures { λ r. ⌜ r ≡ delayAfter class offset delay ⌝ }
-{
-    match class {
-        Class::Unavailable => delay,
-        Class::Ambiguous => delay,
-        Class::Unmatched => delay,
-        Class::Repeated => delay,
-        Class::Matched(times) => {
-            let ns = correlation::follow::delay(times.t4, times.t3, offset);
-            delay.recorded(delays::from_i64(ns))
-        }
-    }
-}
-
-fn quality_after(class: Class, sofar: ClockQuality) -> ClockQuality
-    requires { ⌜ quality.Bounded sofar ⌝ }
-    ensures { λ r. ⌜ r ≡ qualityAfter class sofar ⌝ }
-{
-    match class {
-        Class::Unavailable => sofar,
-        Class::Ambiguous => sofar,
-        Class::Unmatched => sofar,
-        Class::Repeated => sofar,
-        Class::Matched(times) => {
-            let wires = times.quality;
-            sofar.recorded(estimates_of(wires))
-        }
-    }
-}
-
 impl FollowUps {
     pub fn fresh() -> FollowUps
         ensures { λ r. ⌜ r ≡ freshFollowUps ⌝ }
@@ -140,40 +92,4 @@ impl FollowUps {
             quality: ClockQuality::new(),
         }
     }
-
-    // One follow-up of a class, with the observation's offset.
-    pub fn follow(self, class: Class, offset: i32) -> FollowUps
-        requires { ⌜ InBounds self × MatchedInRange class × offsetInRange offset ⌝ }
-        ensures { λ r. ⌜ r ≡ followed self class offset ⌝ }
-    {
-        let counts = self.counts;
-        let delay = self.delay;
-        let quality = self.quality;
-        FollowUps {
-            counts: count(class, counts),
-            delay: delay_after(class, offset, delay),
-            quality: quality_after(class, quality),
-        }
-    }
-
-    // Refusal 4: whether every count and the sum are below their bounds.
-    pub fn counts_in_bounds(self) -> bool
-        ensures { λ r. ⌜ r ≡ followUpsFit self ⌝ }
-    {
-        let counts = self.counts;
-        let delay = self.delay;
-        let quality = self.quality;
-        counts_fit(counts) & delay.counts_fit() & quality.counts_fit()
-    }
-}
-
-fn counts_fit(n: FollowCounts) -> bool
-    ensures { λ r. ⌜ r ≡ countsFit n ⌝ }
-{
-    (n.observations < limits::COUNT_BOUND)
-        & (n.matched < limits::COUNT_BOUND)
-        & (n.repeated < limits::COUNT_BOUND)
-        & (n.unmatched < limits::COUNT_BOUND)
-        & (n.ambiguous < limits::COUNT_BOUND)
-        & (n.unavailable < limits::COUNT_BOUND)
 }

@@ -1,6 +1,6 @@
-// What refusals 4 and 5 test of a ledger, and the words of its hash, in its words alone: `ledger_state`, `rings_fit` and `room_for_call`, say
-// the same of the ledger that the words say; but a ledger that is taken out of its words for a test alone would stay in registers and on the
-// stack, which is a quarter of a duplicate's time and a tenth of an observe's.
+// What refusals 4 and 5 test of a ledger, and the words of its hash, in its words alone: a ledger that is taken out of its words for a test
+// would stay in registers and on the stack, which is a quarter of a duplicate's time and a tenth of an observe's. `answered`, which takes it out
+// for itself, has `rings_fit` of `ledger_state`.
 ghost use mathlib.Core.Path.{_≡_};
 ghost use mathlib.Core.Bool.{true, _&&_};
 ghost use lib.Dec.{leb};

@@ -1,8 +1,8 @@
-// `Measurements` of src/sender/measurements.rs: its state by value, the refusals of the calls that change it, and `needs_burst_wait`, which
+// `Measurements` of src/sender/measurements.rs: its state by value, the order of the refusals, the test of its rings, and `needs_burst_wait`, which
 // only reads it. The snapshot, the rooms and the calls over them stand above.
 ghost use mathlib.Core.Path.{_≡_};
 ghost use Rattle.ledger_state.specs.State.{atLeastOne, secretOf, wordsOf, freshCounts, freshLedger};
-ghost use Rattle.ledger_state.specs.Refusal.{firstRefusal, ringFits, ringsFit, countsFit, roomForCall};
+ghost use Rattle.ledger_state.specs.Refusal.{firstRefusal, ringFits, ringsFit};
 ghost use Rattle.ledger_state.specs.BurstWait.{burstWait};
 use chains::Ring;
 use delays::Delays;
@@ -166,28 +166,6 @@ pub fn rings_fit(ledger: Ledger) -> bool
     let direct = counts.direct;
     let window = direct.window;
     ring_fits(keys) & ring_fits(probes) & (direct::seen_in(window) <= limits::CAPACITY)
-}
-
-fn counts_fit(counts: Counts) -> bool
-    ensures { λ r. ⌜ r ≡ countsFit counts ⌝ }
-{
-    let replies = counts.replies;
-    let rtt = counts.rtt;
-    let direct = counts.direct;
-    let follow = counts.follow;
-    let loss = direct.counts;
-    replies.counts_in_bounds()
-        & rtt.counts_fit()
-        & direct::counts_in_bounds(loss)
-        & follow.counts_in_bounds()
-}
-
-// Refusal 4: whether one more call can be served and every count and sum is below its bound.
-pub fn room_for_call(ledger: Ledger) -> bool
-    ensures { λ r. ⌜ r ≡ roomForCall ledger ⌝ }
-{
-    let counts = ledger.counts;
-    (ledger.calls < limits::MOST_CALLS) & counts_fit(counts)
 }
 
 pub fn needs_burst_wait(ledger: Ledger) -> bool
