@@ -129,30 +129,27 @@ fn wide_word(word: u32) -> u64
     word as u64
 }
 
-// A 16-bit piece times its secret word.
+// A piece of at most 22 bits times its secret word.
 fn times(word: u32, piece: u64) -> u64
-    requires { ⌜ piece < 65536 ⌝ }
-    ensures { λ q. ⌜ (q ≡ word * piece) × (q < 281474976710656) ⌝ }
+    requires { ⌜ piece < 4194304 ⌝ }
+    ensures { λ q. ⌜ (q ≡ word * piece) × (q < 18014398509481984) ⌝ }
 {
     wide_word(word) * piece
 }
 
-// The four pieces of a word, each times its secret word.
-fn products(w0: u32, w1: u32, w2: u32, w3: u32, x: u64) -> u64
-    ensures { λ q. ⌜ (q ≡ productsOf w0 w1 w2 w3 x) × (q < 1125899906842624) ⌝ }
+// The three pieces of a word, each times its secret word.
+fn products(w0: u32, w1: u32, w2: u32, x: u64) -> u64
+    ensures { λ q. ⌜ (q ≡ productsOf w0 w1 w2 x) × (q < 54043195528445952) ⌝ }
 {
-    times(w0, x % 65536)
-        + times(w1, x / 65536 % 65536)
-        + times(w2, x / 4294967296 % 65536)
-        + times(w3, x / 281474976710656)
+    times(w0, x % 4194304) + times(w1, x / 4194304 % 4194304) + times(w2, x / 17592186044416)
 }
 
 // The hash of a key of two words.
 pub fn key_hash(secret: [u32; 8], a: u64, b: u64) -> usize
     ensures { λ q. ⌜ (q ≡ keyHash secret a b) × (q < capacity) ⌝ }
 {
-    let first = products(secret[0], secret[1], secret[2], secret[3], a);
-    let second = products(secret[4], secret[5], secret[6], secret[7], b);
+    let first = products(secret[0], secret[1], secret[2], a);
+    let second = products(secret[3], secret[4], secret[5], b);
     ((first + second) / 1048576 % 4096) as usize
 }
 
@@ -161,6 +158,6 @@ pub fn number_hash(secret: [u32; 8], n: u32) -> usize
     ensures { λ q. ⌜ (q ≡ numberHash secret n) × (q < capacity) ⌝ }
 {
     let wide = wide_word(n);
-    let sum = times(secret[0], wide % 65536) + times(secret[1], wide / 65536);
+    let sum = times(secret[0], wide % 4194304) + times(secret[6], wide / 4194304);
     (sum / 1048576 % 4096) as usize
 }

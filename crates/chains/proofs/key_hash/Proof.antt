@@ -16,23 +16,17 @@ array-read-products-2 c = search needs
 array-read-products-3 : tie.Need-array-read-products-3
 array-read-products-3 c = search needs
 
-array-read-products-4 : tie.Need-array-read-products-4
-array-read-products-4 c = search needs
-
 products-requires : tie.Need-products-requires
 products-requires c κs = search needs
+
+array-read-products-4 : tie.Need-array-read-products-4
+array-read-products-4 c = search needs
 
 array-read-products-5 : tie.Need-array-read-products-5
 array-read-products-5 c = search needs
 
 array-read-products-6 : tie.Need-array-read-products-6
 array-read-products-6 c = search needs
-
-array-read-products-7 : tie.Need-array-read-products-7
-array-read-products-7 c = search needs
-
-array-read-products-8 : tie.Need-array-read-products-8
-array-read-products-8 c = search needs
 
 products-requires-2 : tie.Need-products-requires-2
 products-requires-2 c κs = search needs
@@ -51,12 +45,10 @@ key-hash-spec =
     array-read-products
     array-read-products-2
     array-read-products-3
-    array-read-products-4
     products-requires
+    array-read-products-4
     array-read-products-5
     array-read-products-6
-    array-read-products-7
-    array-read-products-8
     products-requires-2
     add-result
     returns)

@@ -21,15 +21,9 @@ times-requires-3 c κs = search needs
 add-result-2 : tie.Need-add-result-2
 add-result-2 c = search needs
 
-times-requires-4 : tie.Need-times-requires-4
-times-requires-4 c κs = search needs
-
-add-result-3 : tie.Need-add-result-3
-add-result-3 c = search needs
-
 returns : tie.Need-returns
 unfolding productsOf
-returns c = (rw (c .before .before .before .times .ensures .0, c .before .before .times2 .ensures .0, c .before .times3 .ensures .0, c .times4 .ensures .0), omega arith)
+returns c = (rw (c .before .before .times .ensures .0, c .before .times2 .ensures .0, c .times3 .ensures .0), omega arith)
 
 pub products-spec : {M : Type 1} → statement M
 products-spec =
@@ -40,6 +34,4 @@ products-spec =
     add-result
     times-requires-3
     add-result-2
-    times-requires-4
-    add-result-3
     returns)

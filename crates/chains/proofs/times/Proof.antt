@@ -1,4 +1,4 @@
--- `chains::times` meets its contract: a product of 32 and 16 bits fits.
+-- `chains::times` meets its contract: a product of 32 and 22 bits fits.
 -- Assumes nothing.
 use mathlib.Core.Path.{ap}
 use Prim.Native.Nat.{ℕ, _≤_, _*_}
@@ -13,12 +13,12 @@ wide-word-requires c κs = search needs
 
 mul-result : tie.Need-mul-result
 mul-result c =
-    let b : c .wide-word .result * c .before .args .piece ≤ 4294967295 * 65535 = mul-le-mul {n₁ = c .wide-word .result} {m₁ = c .before .args .piece} {n₂ = 4294967295} {m₂ = 65535} (omega arith) (omega arith) in
+    let b : c .wide-word .result * c .before .args .piece ≤ 4294967295 * 4194303 = mul-le-mul {n₁ = c .wide-word .result} {m₁ = c .before .args .piece} {n₂ = 4294967295} {m₂ = 4194303} (omega arith) (omega arith) in
     omega arith
 
 returns : tie.Need-returns
 returns c =
-    let b : c .wide-word .result * c .before .args .piece ≤ 4294967295 * 65535 = mul-le-mul {n₁ = c .wide-word .result} {m₁ = c .before .args .piece} {n₂ = 4294967295} {m₂ = 65535} (omega arith) (omega arith) in
+    let b : c .wide-word .result * c .before .args .piece ≤ 4294967295 * 4194303 = mul-le-mul {n₁ = c .wide-word .result} {m₁ = c .before .args .piece} {n₂ = 4294967295} {m₂ = 4194303} (omega arith) (omega arith) in
     (ap (λ (w : ℕ). w * c .before .args .piece) (c .wide-word .ensures .0), omega arith)
 
 pub times-spec : {M : Type 1} → statement M
