@@ -1,7 +1,7 @@
 -- What the calls leave, put together from what their callees leave.
 -- Assumes nothing.
 use mathlib.Core.Path.{_≡_, _∙_}
-use mathlib.Core.Bool.{_&&_}
+use mathlib.Core.Bool.{Bool, _&&_}
 use mathlib.Core.List.{List, []}
 use Prim.Native.Nat.{ℕ, _-_, _≤_, _<_}
 use native.Mathlib.Omega.{arith}
@@ -18,14 +18,14 @@ use Rattle.probe_ring.specs.declared.HeldProbe.{HeldProbe}
 use Rattle.probe_ring.specs.Row.{sequenceOf, repliesOf, wordsOf}
 use Rattle.probe_ring.specs.Rooms.{Rooms, rooms, lane, Outcome, outcome, slotOf, rememberedAt, remembered, moved, moveRow, moveLink, mendedLink, mendNewest, closedUp, takenOut, pushed}
 
--- `push`: the slot, the hash, the ring after it, the two rooms, and the replies of the row that went
-pub pushed-as : (N : ℕ) (hash : ℕ → ℕ) (r : Rooms) (p : HeldProbe) (slot h : ℕ) (next : Ring) (rows links : List (List ℕ))
-    → slot ≡ pushSlot N (r .ring) → h ≡ hash (p .sequence) → next ≡ afterPush N (r .ring) → rows ≡ set (r .rows) slot (wordsOf p)
+-- `push_when`: whether the ring is full, the slot, the hash, the ring after it, the two rooms, and the replies of the row that went
+pub pushed-as : (N : ℕ) (hash : ℕ → ℕ) (r : Rooms) (p : HeldProbe) (full : Bool) (slot h : ℕ) (next : Ring) (rows links : List (List ℕ))
+    → full ≡ leb N (r .ring .len) → slot ≡ pushSlot N (r .ring) → h ≡ hash (p .sequence) → next ≡ afterPush N (r .ring) → rows ≡ set (r .rows) slot (wordsOf p)
     → links ≡ linked lane (r .links) h slot
     → (before : ℕ) → before ≡ repliesOf (getD (r .rows) slot [])
-    → outcome rows links (record { ring = next; slot = slot; evicted = leb N (r .ring .len); lost = leb N (r .ring .len) && eqb before 0 }) ≡ pushed N hash r p
+    → outcome rows links (record { ring = next; slot = slot; evicted = full; lost = full && eqb before 0 }) ≡ pushed N hash r p
 unfolding pushed
-pushed-as N hash r p slot h next rows links a b c d e before f = rw (f, d, e, a, b, c)
+pushed-as N hash r p full slot h next rows links g a b c d e before f = rw (g, f, d, e, a, b, c)
 
 -- `take_out`: the place of the slot, what its own link is, and the rooms, mended and then moved
 pub taken-as : (N : ℕ) (r : Rooms) (slot gone above own lift at : ℕ) (mended links rows : List (List ℕ))

@@ -3,6 +3,7 @@
 ghost use mathlib.Core.Path.{_≡_};
 ghost use mathlib.Core.List.{[]};
 ghost use Prim.Native.Nat.{_+_, _-_, _*_, _/_, _%_, _≤_, _<_};
+ghost use lib.Dec.{leb};
 ghost use lib.ListN.{length, getD, set};
 ghost use Rattle.limits.specs.Limits.{capacity};
 ghost use Rattle.chains.specs.Rings.{RingFits};
@@ -349,7 +350,33 @@ pub fn put(probes: &mut [[u64; 4]], slot: usize, probe: HeldProbe)
     probes[slot] = words;
 }
 
-// A probe as the newest, of a sequence that is not held; where 4,096 are held, the oldest goes.
+// A probe as the newest; `full` is whether 4,096 are held, and the oldest goes for it.
+fn push_when(
+    full: bool,
+    probes: &mut [[u64; 4]],
+    links: &mut [[u16; 8]],
+    ring: Ring,
+    secret: [u32; 8],
+    probe: HeldProbe,
+) -> Remembered
+    requires { ⌜ (full ≡ leb capacity (ring .len)) × (length (now probes) ≡ capacity) × (length (now links) ≡ capacity) × RingFits capacity ring ⌝ }
+    ensures { λ q. ⌜ (outcome (now (probes .exit)) (now (links .exit)) q ≡ pushed capacity (numberHash secret) (rooms (now (probes .entry)) (now (links .entry)) ring) probe) × RingFits capacity (q .ring) × (q .slot < capacity) ⌝ }
+{
+    let slot = push_slot(ring);
+    let hash = number_hash(secret, probe.sequence);
+    let before = count_of(probes[slot][0]);
+    put(probes, slot, probe);
+    link(links, LANE, hash, slot);
+    let next = chains::pushed(ring);
+    Remembered {
+        ring: next,
+        slot: slot,
+        evicted: full,
+        lost: full & (before == 0),
+    }
+}
+
+// A probe as the newest, of a sequence that is not held; where 4,096 are held, the oldest goes. That is asked once, for all that it bears on.
 pub fn push(
     probes: &mut [[u64; 4]],
     links: &mut [[u16; 8]],
@@ -360,19 +387,10 @@ pub fn push(
     requires { ⌜ (length (now probes) ≡ capacity) × (length (now links) ≡ capacity) × RingFits capacity ring ⌝ }
     ensures { λ q. ⌜ (outcome (now (probes .exit)) (now (links .exit)) q ≡ pushed capacity (numberHash secret) (rooms (now (probes .entry)) (now (links .entry)) ring) probe) × RingFits capacity (q .ring) × (q .slot < capacity) ⌝ }
 {
-    let len = ring.len;
-    let slot = push_slot(ring);
-    let hash = number_hash(secret, probe.sequence);
-    let before = count_of(probes[slot][0]);
-    put(probes, slot, probe);
-    link(links, LANE, hash, slot);
-    let next = chains::pushed(ring);
-    Remembered {
-        ring: next,
-        slot: slot,
-        evicted: CAPACITY <= len,
-        lost: (CAPACITY <= len) & (before == 0),
+    if ring.len < CAPACITY {
+        return push_when(false, probes, links, ring, secret, probe);
     }
+    push_when(true, probes, links, ring, secret, probe)
 }
 
 // `remember` of the original: the probe of a sequence as the newest, unanswered. A held one is taken out first, and nothing is evicted for it.

@@ -1,9 +1,9 @@
--- `probe_ring::push` meets its contract: the row, the link and the ring are what the definition says (Leaves).
+-- `probe_ring::push_when` meets its contract: the row, the link and the ring are what the definition says (Leaves).
 -- Assumes nothing.
 use Rattle.probe_ring.proofs.Leaves.{pushed-as}
 use borrow.Author.Needs.{needs}
-use Rattle.probe_ring.proofs.push.Statement.{statement}
-use Rattle.probe_ring.proofs.push.Tie as tie
+use Rattle.probe_ring.proofs.push_when.Statement.{statement}
+use Rattle.probe_ring.proofs.push_when.Tie as tie
 
 push-slot-requires : tie.Need-push-slot-requires
 push-slot-requires c κs = search needs
@@ -39,10 +39,10 @@ same-length-2 : tie.Need-same-length-2
 same-length-2 c = search needs
 
 returns : tie.Need-returns
-returns c = (pushed-as 4096 _ _ _ _ _ _ _ _ (c .before .before .before .before .before .before .before .before .before .before .push-slot .ensures .0) ((c .before .before .before .before .before .before .before .before .before .number-hash .ensures .0)) (c .pushed .ensures .0) (c .before .before .before .before .before .put .ensures) (c .before .before .link .ensures) _ (c .before .before .before .before .before .before .before .count-of .ensures), c .pushed .ensures .1, c .before .before .before .before .before .before .before .before .before .before .push-slot .ensures .1)
+returns c = (pushed-as 4096 _ _ _ _ _ _ _ _ _ (c .before .before .before .before .before .before .before .before .before .before .before .pre .0) (c .before .before .before .before .before .before .before .before .before .before .push-slot .ensures .0) ((c .before .before .before .before .before .before .before .before .before .number-hash .ensures .0)) (c .pushed .ensures .0) (c .before .before .before .before .before .put .ensures) (c .before .before .link .ensures) _ (c .before .before .before .before .before .before .before .count-of .ensures), c .pushed .ensures .1, c .before .before .before .before .before .before .before .before .before .before .push-slot .ensures .1)
 
-pub push-spec : {M : Type 1} → statement M
-push-spec =
+pub push-when-spec : {M : Type 1} → statement M
+push-when-spec =
     tie.close
     (tie.spec
     push-slot-requires
