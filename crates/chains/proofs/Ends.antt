@@ -1,12 +1,14 @@
 -- A chain that loses its last entry ends: one word of one lane may change, and the chains of the entries that stay are whole.
 -- Assumes nothing.
-use mathlib.Core.Path.{_≡_, refl, sym, _∙_}
+use mathlib.Core.Path.{_≡_, refl, sym, ap, _∙_}
 use mathlib.Core.Bool.{Bool, true, false, cond}
 use mathlib.Core.Logic.{_≢_}
-use mathlib.Core.List.{List}
+use mathlib.Core.List.{List, []}
 use Prim.Native.Nat.{ℕ, suc, _+_, _≤_, _<_}
 use native.Mathlib.Omega.{arith}
 use lib.Dec.{eqb}
+use lib.ListN.{getD, set}
+use lib.Seq.{set-getD}
 use Rattle.chains.specs.Rings.{wrap}
 use Rattle.chains.specs.Links.{wordOf, setWord, newest, older, ended, Rows}
 use Rattle.chains.specs.Whole.{Indexed}
@@ -14,15 +16,15 @@ use Rattle.chains.proofs.Tests.{Test, holds, fails, eq-test, eq-true, e
 use Rattle.chains.proofs.Chains.{evict-indexed, oldest-alone, free-indexed}
 use Rattle.chains.proofs.Lanes.{set-word, word-other, word-other-row}
 
--- what `end_at` leaves, by its test of the link v
-module _ (N lane : ℕ) (links : List (List ℕ)) (h p v : ℕ) (link : v ≡ newest lane links h) where
-  pub end-taken : v ≡ p → setWord links h lane N ≡ ended N lane links h p
-  unfolding ended
-  end-taken e = rw (eq-true (newest lane links h) p (sym link ∙ e))
-
-  pub end-left : (v ≡ p → ⊥) → links ≡ ended N lane links h p
-  unfolding ended
-  end-left ne = rw (eq-false (newest lane links h) p (λ e. ne (link ∙ e)))
+-- what `end_at` leaves: its link is written in either case
+pub end-stored : (N lane : ℕ) (links : List (List ℕ)) (h p : ℕ)
+    → setWord links h lane (cond (eqb (newest lane links h) p) N (newest lane links h)) ≡ ended N lane links h p
+unfolding ended
+end-stored N lane links h p = go (eqb (newest lane links h) p)
+  where
+    go : (b : Bool) → setWord links h lane (cond b N (newest lane links h)) ≡ cond b (setWord links h lane N) links
+    go true = refl
+    go false = ap (set links h) (set-getD (getD links h []) lane 0) ∙ set-getD links h []
 
 module _ (N lane : ℕ) (links : List (List ℕ)) (fit : Rows N 8 links) (h p : ℕ) (h-in : h < N) where
   pub ended-fits : Rows N 8 (ended N lane links h p)

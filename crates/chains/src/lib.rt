@@ -5,7 +5,9 @@
 // entries that left need not be cleared. One may be (`end_at`): the newest link of a hash whose last entry leaves. It would lead to the slot's next
 // entry, of another hash, and walks would go on through chains that are not theirs.
 ghost use mathlib.Core.Path.{_≡_};
+ghost use mathlib.Core.Bool.{cond};
 ghost use Prim.Native.Nat.{ℕ, _+_, _-_, _*_, _≤_, _<_};
+ghost use lib.Dec.{eqb};
 ghost use lib.ListN.{length};
 ghost use Rattle.limits.specs.Limits.{capacity};
 ghost use Rattle.chains.specs.Rings.{wrap, pushSlot, afterPush, RingFits};
@@ -113,14 +115,20 @@ pub fn link(links: &mut [[u16; 8]], lane: usize, hash: usize, slot: usize)
     links[hash][lane] = narrow(slot);
 }
 
+// The newest link of a chain that the entry in `slot` leaves: to no slot where it led there.
+fn link_after(newest: u16, slot: usize) -> u16
+    ensures { λ q. ⌜ q ≡ cond (eqb newest slot) capacity newest ⌝ }
+{
+    if wide(newest) == slot { 4096 } else { newest }
+}
+
 // The oldest entry, in `slot` and with this hash, leaves. Where it is the newest of its chain, it is the only one: the chain leads to no slot, in one lane.
+// The link is written in either case: which one it is changes from entry to entry, and a jump would be guessed wrong.
 pub fn end_at(links: &mut [[u16; 8]], lane: usize, hash: usize, slot: usize)
     requires { ⌜ (length (now links) ≡ capacity) × (lane < 7) × (hash < capacity) ⌝ }
     ensures { λ q. ⌜ now (links .exit) ≡ ended capacity lane (now (links .entry)) hash slot ⌝ }
 {
-    if wide(links[hash][lane]) == slot {
-        links[hash][lane] = 4096;
-    }
+    links[hash][lane] = link_after(links[hash][lane], slot);
 }
 
 fn wide_word(word: u32) -> u64
