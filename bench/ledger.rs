@@ -72,13 +72,20 @@ impl Ours {
     }
 }
 
+// T3 of reply i: a second later each, and up to a millisecond as good as drawn. Keys whose T3 came in a regular order would be spread evenly over
+// the chains, and a walk's length be guessed right, which no wire's timestamps give.
+#[inline(always)]
+pub fn t3(i: u64) -> u64 {
+    (i << 32) + (i.wrapping_mul(0x9E37_79B9_7F4A_7C15) >> 44)
+}
+
 // What the observe of reply i is told, in plain words: numbers, T3, round trip, T4, reference, ordinal, counters in two words, the follow-up's
 // sequence and timestamp, 1 if there are no counters and no follow-up, the estimates as on the wire.
 pub fn words(sender: u32, i: u64, bare: bool) -> [u64; 12] {
     let n = u64::from(i as u32);
     let timestamp = (1_790_000_000 << 32) + i % 1000;
     let (numbers, rtt, before) = (u64::from(sender) | n << 32, 20_000_000 + i % 1000, u64::from((i as u32).wrapping_sub(1)));
-    [numbers, i, rtt, 1_790_000_000_000_000_000, 1_790_000_000, n, n | n << 32, n, before, timestamp, u64::from(bare), 0xcb09_ca07]
+    [numbers, t3(i), rtt, 1_790_000_000_000_000_000, 1_790_000_000, n, n | n << 32, n, before, timestamp, u64::from(bare), 0xcb09_ca07]
 }
 
 fn told_of(w: &[u64; 12]) -> Observation {
@@ -121,18 +128,18 @@ macro_rules! turn {
         let n = $i as u32;
         let held = 3000 + n % 2000;
         match $stream {
-            Stream::Unique => assert!($ledger.accept(held, n, $i)),
-            Stream::Duplicate => assert!(!$ledger.accept(held, held, u64::from(held))),
-            Stream::Unknown => assert!(!$ledger.accept(n + 1_000_000, n, $i)),
+            Stream::Unique => assert!($ledger.accept(held, n, t3($i))),
+            Stream::Duplicate => assert!(!$ledger.accept(held, held, t3(u64::from(held)))),
+            Stream::Unknown => assert!(!$ledger.accept(n + 1_000_000, n, t3($i))),
             Stream::New => $ledger.sent(n, n, $i),
             Stream::Held(distance) => $ledger.sent((FULL - $i % distance) as u32, n, $i),
             Stream::Observed => {
-                assert!($ledger.accept(held, n, $i));
+                assert!($ledger.accept(held, n, t3($i)));
                 $ledger.observe(black_box(&words(held, $i, false)));
             }
             Stream::Three => {
                 $ledger.sent(n, n, $i);
-                assert!($ledger.accept(n, n, $i));
+                assert!($ledger.accept(n, n, t3($i)));
                 $ledger.observe(black_box(&words(n, $i, false)));
             }
         }
@@ -179,7 +186,7 @@ fn alone(table: &mut Table, few: bool) {
             let (n, i) = (i as u32, i);
             let told = told_of(&words(n, i, which == 3));
             timed(watch, which == 0, || ours.sent(black_box(n), n, i));
-            assert!(timed(watch, which == 1, || ours.accept(black_box(n), n, i)));
+            assert!(timed(watch, which == 1, || ours.accept(black_box(n), n, t3(i))));
             timed(watch, which > 1, || ours.hand_over(black_box(&told)));
         };
         let mut original_turn = |watch: &mut Stopwatch| {
@@ -190,7 +197,7 @@ fn alone(table: &mut Table, few: bool) {
             let (n, j) = (j as u32, j);
             let told = words(n, j, which == 3);
             timed(watch, which == 0, || original.sent(black_box(n), n, j));
-            assert!(timed(watch, which == 1, || original.accept(black_box(n), n, j)));
+            assert!(timed(watch, which == 1, || original.accept(black_box(n), n, t3(j))));
             timed(watch, which > 1, || original.observe(black_box(&told)));
         };
         let mut idle = Stopwatch::new();
@@ -277,7 +284,7 @@ fn bursts(table: &mut Table) {
                 for entry in &mut entries {
                     i += 1;
                     let n = i as u32;
-                    *entry = Entry { t3: i, sender: 3000 + n % 2000, reflector: n, ..Entry::default() };
+                    *entry = Entry { t3: t3(i), sender: 3000 + n % 2000, reflector: n, ..Entry::default() };
                 }
                 let Link { ledger, rooms: r, .. } = &mut ours.link;
                 let entries = black_box(&entries);

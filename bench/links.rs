@@ -1,7 +1,7 @@
 // Many watched links at once, as a yard has them: each call goes to the next link, so that it finds little of its link in the caches. All tables are full, and no
 // two neighbours stand at the same place of their rings. Each side has all its links at the same time; both must show the same figures in the end.
 use crate::{
-    ledger::{same, words, Ours, FULL},
+    ledger::{same, t3, words, Ours, FULL},
     sender::measurements::Timed,
     table::Table,
 };
@@ -25,7 +25,7 @@ macro_rules! told {
                 self.sent(n as u32, n as u32, n);
             }
             fn accept(&mut self, n: u64) {
-                assert!(self.accept(n as u32, n as u32, n));
+                assert!(self.accept(n as u32, n as u32, t3(n)));
             }
             fn observe(&mut self, n: u64) {
                 self.observe(black_box(&words(n as u32, n, false)));
