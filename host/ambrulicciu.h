@@ -324,7 +324,8 @@ typedef struct {
  * length or the number of seen offsets above 4,096. Refusal 4 is about the state before the call. */
 
 /* Makes a ledger fresh: counts 0, nothing held. `copies` replies are asked for each probe; 0 counts as 1. `secret`: random words, kept
- * from whoever sends replies: they decide where entries are searched, never an answer. Rooms may hold anything. Refuses nothing. */
+ * from whoever sends replies, and other ones each time: they decide where entries are searched, never an answer. With the words of before,
+ * over rooms that were used with them, each of the first 4,096 probes can take some us. Rooms may hold anything. Refuses nothing. */
 uint8_t ambrulicciu_ledger_fresh(ambrulicciu_ledger *ledger, uint16_t copies, const uint32_t secret[8]);
 
 /* A probe was sent: adds copies to requested, and holds the probe. A sequence that is held already becomes the newest, unanswered, with
