@@ -114,10 +114,6 @@ afterUnique replies copies pending sender reflector probe lost key r = record {
   evicted = evictedBy probe lost key (r .evicted);
 }
 
--- a probe's replies stay at 65,535: copies are at most that, so no test sees the difference
-abbrev pub nextReplies : ℕ → ℕ
-nextReplies n = tally (ltb n 65535) n
-
 -- ---- what is shown
 
 -- "Unobserved is requested less satisfied, not below 0."
