@@ -6,7 +6,7 @@ use Prim.Native.Nat.{ℕ, _+_}
 use lib.Dec.{ltb}
 use lib.ListN.{length, take, drop}
 use Rattle.limits.specs.Refusals.{wrongRoom, countsFull}
-use Rattle.quantiles.specs.State.{roomSize}
+use Rattle.quantile_room.specs.Room.{roomSize}
 use Rattle.directions.specs.declared.OwdDirection.{OwdDirection}
 use Rattle.directions.specs.declared.Directions.{Directions}
 use Rattle.directions.specs.declared.Measuring.{Measuring}

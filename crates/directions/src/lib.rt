@@ -84,7 +84,7 @@ fn record_part(direction: OwdDirection, slice: &mut [u64], start: usize, value: 
     requires { ⌜ start + partSize ≤ length (now slice) ⌝ }
     ensures { λ r. ⌜ (outcome direction r (now (slice .exit)) ≡ recordPart direction (now (slice .entry)) start value) × Untouched start (now (slice .entry)) (now (slice .exit)) ⌝ }
 {
-    let size = quantiles::room_size(true);
+    let size = quantile_room::room_size(true);
     let end = start + size;
     direction.record(&mut slice[start..end], value)
 }
@@ -94,7 +94,7 @@ fn start_of(reverse: bool) -> usize
     ensures { λ r. ⌜ r ≡ startOf reverse ⌝ }
 {
     if reverse {
-        return quantiles::room_size(true);
+        return quantile_room::room_size(true);
     }
     0
 }
@@ -103,7 +103,7 @@ fn start_of(reverse: bool) -> usize
 pub fn record_own(own: OwdDirection, slice: &mut [u64], reverse: bool, value: u64) -> Recording
     ensures { λ r. ⌜ (outcome own r (now (slice .exit)) ≡ recordOwn own (now (slice .entry)) reverse value) × Untouched (startOf reverse) (now (slice .entry)) (now (slice .exit)) ⌝ }
 {
-    let size = quantiles::room_size(true);
+    let size = quantile_room::room_size(true);
     if slice.len() < size + size {
         return Recording::Refused;
     }
@@ -117,7 +117,7 @@ pub fn try_own(own: OwdDirection, slice: &mut [u64], reverse: bool, value: u64) 
     requires { ⌜ sumFits (own .sum) ≡ true ⌝ }
     ensures { λ r. ⌜ TriedOwn r own (now (slice .entry)) reverse value (now (slice .exit)) ⌝ }
 {
-    let size = quantiles::room_size(true);
+    let size = quantile_room::room_size(true);
     if slice.len() < size + size {
         return false;
     }

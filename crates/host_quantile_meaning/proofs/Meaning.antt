@@ -12,7 +12,7 @@ use lib.ListN.{length, getD, set, length-append, length-set}
 use lib.Seq.{sets, length-sets}
 use Rattle.host_numbers.specs.Numbers.{isSet, flagWord}
 use Rattle.quantiles.specs.declared.Quantiles.{Quantiles}
-use Rattle.quantiles.specs.State.{roomSize}
+use Rattle.quantile_room.specs.Room.{roomSize}
 use Rattle.quantiles.specs.Record as record-call
 use Rattle.percentiles.specs.Percentiles as percentiles-call
 use Rattle.percentiles.specs.declared.Showing.the-variants.{Refused, Empty}

@@ -20,9 +20,9 @@ use Rattle.histogram.specs.Histogram.{total, bucketAt, leftAt}
 use Rattle.histogram.proofs.Sums.{at-below}
 use Rattle.histogram.proofs.Blocks.{left-below}
 use Rattle.quantiles.specs.declared.Quantiles.{Quantiles}
-use Rattle.quantiles.specs.State.{blockCount, roomSize, buckets, totals}
-use Rattle.quantiles.proofs.Parts.{whole-part, bucket-word, total-word}
-use Rattle.quantiles.proofs.Tally.{parts-in}
+use Rattle.quantile_room.specs.Room.{blockCount, roomSize, buckets, totals}
+use Rattle.quantile_room.proofs.Parts.{whole-part, bucket-word, total-word}
+use Rattle.quantile_room.proofs.Places.{parts-in}
 use Rattle.percentiles.specs.Percentiles.{blockAt, block, lies, anyLies, spoilt, bucketOf}
 use Rattle.percentiles.specs.Blocks.{blockEnd}
 

@@ -4,4 +4,3 @@ pub mod Ways
 pub mod Determined
 pub mod Blocks
 pub mod Examples
-pub mod Adds

@@ -9,7 +9,8 @@ use lib.Dec.{ltb, eqb}
 use lib.Ieee.{Float}
 use lib.ListN.{length}
 use Rattle.quantiles.specs.declared.Quantiles.{Quantiles}
-use Rattle.quantiles.specs.State.{roomSize, sized, crossed}
+use Rattle.quantile_room.specs.Room.{roomSize, sized}
+use Rattle.quantiles.specs.State.{crossed}
 use Rattle.percentiles.specs.declared.Showing.the-variants.{Refused, Empty, Shown}
 use Rattle.percentiles.specs.Percentiles.{Outcome, outcome, spoilt, refuses, percentile, pickOutcome, percentilesOf}
 

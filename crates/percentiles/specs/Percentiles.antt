@@ -13,7 +13,8 @@ use Rattle.buckets.specs.Buckets.{pick}
 use Rattle.buckets.specs.Signed.{order, valueOf}
 use Rattle.histogram.specs.Histogram.{total, bucketAt, leftAt}
 use Rattle.quantiles.specs.declared.Quantiles.{Quantiles}
-use Rattle.quantiles.specs.State.{buckets, totals, sized, crossed}
+use Rattle.quantile_room.specs.Room.{buckets, totals, sized}
+use Rattle.quantiles.specs.State.{crossed}
 use Rattle.percentiles.specs.declared.Showing.{Showing}
 use Rattle.percentiles.specs.declared.Showing.the-variants.{Refused, Empty, Shown}
 

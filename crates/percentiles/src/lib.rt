@@ -8,7 +8,8 @@ ghost use lib.ListN.{length};
 ghost use Rattle.buckets.specs.Signed.{bucketCount, order};
 ghost use Rattle.exact_rank.specs.Rank.{atRanks, Ranks};
 ghost use Rattle.histogram.specs.Histogram.{total, bucketAt, leftAt};
-ghost use Rattle.quantiles.specs.State.{blockCount, roomSize, totals, crossed};
+ghost use Rattle.quantile_room.specs.Room.{blockCount, roomSize, totals};
+ghost use Rattle.quantiles.specs.State.{crossed};
 ghost use Rattle.percentiles.specs.Percentiles.{outcome, blockAt, lies, anyLies, spoilt, bucketOf, clamped, histogramValue, percentile, percentilesOf};
 ghost use Rattle.percentiles.specs.Blocks.{blockEnd};
 ghost use Rattle.percentiles.specs.Fours.{orLast, rankAt, fourRanks, putFour};
@@ -22,33 +23,13 @@ pub enum Showing {
     Shown,
 }
 
-// Whether counts add up to a number. One sum modulo 2^64 tells it where no count is large, with one addition a count; otherwise the sum is exact.
-fn add_up(counts: &[u64], number: u64) -> bool
-    requires { ⌜ length (now counts) ≤ 65536 ⌝ }
-    ensures { λ r. ⌜ r ≡ eqb (total (now (counts .entry))) number ⌝ }
-{
-    let mut sum: u64 = 0;
-    let mut any: u64 = 0;
-    let mut i = 0;
-    while i < counts.len() {
-        let here = counts[i];
-        sum = std::num::wrapping_add_u64(sum, here);
-        any = any | here;
-        i += 1;
-    }
-    if any < 281474976710656 {
-        return sum == number;
-    }
-    histogram::total_is(counts, number)
-}
-
 // Whether the totals add up to the count.
 fn totals_are(q: Quantiles, room: &[u64]) -> bool
     requires { ⌜ length (now room) ≡ roomSize (q .signed) ⌝ }
     ensures { λ r. ⌜ r ≡ eqb (total (totals (q .signed) (now (room .entry)))) (q .count) ⌝ }
 {
-    let start = quantiles::totals_start(q.signed);
-    add_up(&room[start..], q.count)
+    let start = quantile_room::totals_start(q.signed);
+    counts_sum::add_up(&room[start..], q.count)
 }
 
 // The block that holds a rank.
@@ -56,7 +37,7 @@ fn held(signed: bool, room: &[u64], rank: u64) -> Found
     requires { ⌜ length (now room) ≡ roomSize signed ⌝ }
     ensures { λ r. ⌜ (r .place ≡ bucketAt (totals signed (now (room .entry))) rank) × (r .left ≡ leftAt (totals signed (now (room .entry))) rank) ⌝ }
 {
-    let start = quantiles::totals_start(signed);
+    let start = quantile_room::totals_start(signed);
     histogram::find(&room[start..], rank)
 }
 
@@ -65,7 +46,7 @@ fn block_end(signed: bool, from: usize) -> usize
     requires { ⌜ from < 4096 + bucketCount signed ⌝ }
     ensures { λ r. ⌜ (r ≡ blockEnd signed from) × (from < r) × (r ≤ 4096 + bucketCount signed) ⌝ }
 {
-    let start = quantiles::totals_start(signed);
+    let start = quantile_room::totals_start(signed);
     if from + 128 < start {
         from + 128
     } else {
@@ -80,8 +61,8 @@ fn block_lies(signed: bool, room: &[u64], k: usize) -> bool
 {
     let from = 4096 + 128 * k;
     let end = block_end(signed, from);
-    let at = quantiles::totals_start(signed) + k;
-    let whole = add_up(&room[from..end], room[at]);
+    let at = quantile_room::totals_start(signed) + k;
+    let whole = counts_sum::add_up(&room[from..end], room[at]);
     if signed & (k == 114) {
         return !whole | (room[18688] != 0);
     }
@@ -260,7 +241,7 @@ fn show_histogram(q: Quantiles, room: &[u64], ps: &[f64], shown: &mut [u64]) -> 
 pub fn percentiles(q: Quantiles, room: &[u64], ps: &[f64], shown: &mut [u64]) -> Showing
     ensures { λ r. ⌜ outcome r (now (shown .exit)) ≡ percentilesOf q (now (room .entry)) (now (ps .entry)) (now (shown .entry)) ⌝ }
 {
-    if room.len() != quantiles::room_size(q.signed) {
+    if room.len() != quantile_room::room_size(q.signed) {
         return Showing::Refused;
     }
     if shown.len() != ps.len() {

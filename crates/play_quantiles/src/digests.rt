@@ -35,5 +35,5 @@ pub fn digest(state: Quantiles, room: &[u64], asked: bool) -> Digest {
     if state.count <= 4096 {
         return samples(room, (state.count % 8192) as usize);
     }
-    filled(room, quantiles::room_size(state.signed))
+    filled(room, quantile_room::room_size(state.signed))
 }

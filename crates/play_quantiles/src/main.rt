@@ -39,7 +39,7 @@ fn refused(state: Quantiles) -> Outcome {
 
 // How many words of the room are lent: all that the width has, less those that the call leaves out.
 fn lent(signed: bool, short: u64) -> usize {
-    let size = quantiles::room_size(signed);
+    let size = quantile_room::room_size(signed);
     let less = (short % 8192) as usize;
     if less < size { size - less } else { 0 }
 }

@@ -18,9 +18,10 @@ use Rattle.histogram.specs.Histogram.{total, bucketAt, leftAt}
 use Rattle.histogram.proofs.Sums.{at-below}
 use Rattle.histogram.proofs.Blocks.{at-within, block-total, by-blocks}
 use Rattle.quantiles.specs.declared.Quantiles.{Quantiles}
-use Rattle.quantiles.specs.State.{blockCount, buckets, totals, blockOf}
+use Rattle.quantile_room.specs.Room.{blockCount, buckets, totals, blockOf}
 use Rattle.quantiles.specs.Record.{filled, filledBuckets, filledTotals}
-use Rattle.quantiles.proofs.Tally.{block-below, filled-length}
+use Rattle.quantile_room.proofs.Places.{block-below}
+use Rattle.quantiles.proofs.Tally.{filled-length}
 use Rattle.percentiles.specs.Percentiles.{blockAt, block, bucketOf}
 use Rattle.quantile_meaning.specs.Words.{Words, none, more}
 use Rattle.quantile_meaning.proofs.Buckets.{filled-total, below-by}

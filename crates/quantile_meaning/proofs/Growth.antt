@@ -17,10 +17,12 @@ use Rattle.buckets.proofs.Facts.{lt-or-ge}
 use Rattle.buckets.proofs.SignedFacts.{pick-below, pick-above}
 use Rattle.histogram.specs.Histogram.{bumped}
 use Rattle.quantiles.specs.declared.Quantiles.{Quantiles}
-use Rattle.quantiles.specs.State.{blockCount, roomSize, samples, buckets, totals, blockOf, crossed}
+use Rattle.quantile_room.specs.Room.{blockCount, roomSize, samples, buckets, totals, blockOf}
+use Rattle.quantiles.specs.State.{crossed}
 use Rattle.quantiles.specs.Record.{Outcome, taken, filled, filledBuckets, filledTotals, counted, grown, recorded}
-use Rattle.quantiles.proofs.Parts.{three-buckets, three-totals, three-length, samples-length}
-use Rattle.quantiles.proofs.Tally.{parts-in, filled-snoc, filled-length, filled-le}
+use Rattle.quantile_room.proofs.Parts.{three-buckets, three-totals, three-length, samples-length}
+use Rattle.quantile_room.proofs.Places.{parts-in}
+use Rattle.quantiles.proofs.Tally.{filled-snoc, filled-length, filled-le}
 use Rattle.quantiles.proofs.Ways.{first-room, later-room, way-exact, way-first, way-later}
 use Rattle.quantile_meaning.specs.Words.{Words, none, more}
 use Rattle.quantile_meaning.specs.Grown.{Kept, fresh, recordAll}

@@ -12,7 +12,7 @@ use Rattle.rank.specs.Rank.{rankOf, rank-below}
 use Rattle.exact_rank.specs.Rank.{sorted, atRank}
 use Rattle.exact_rank.proofs.Sorting.{length-sorted}
 use Rattle.limits.specs.Refusals.{wrongRoom}
-use Rattle.quantiles.specs.State.{roomSize}
+use Rattle.quantile_room.specs.Room.{roomSize}
 use Rattle.buckets.specs.Signed.{magnitude, order, gap, indexOf, valueOf}
 use Rattle.histogram.specs.Histogram.{bucketAt}
 use Rattle.quantiles.specs.declared.Quantiles.{Quantiles}

@@ -17,7 +17,8 @@ use Rattle.buckets.specs.Signed.{order, valueOf}
 use Rattle.buckets.proofs.Facts.{lt-or-ge}
 use Rattle.histogram.specs.Histogram.{total, bucketAt}
 use Rattle.quantiles.specs.declared.Quantiles.{Quantiles}
-use Rattle.quantiles.specs.State.{blockCount, roomSize, buckets, totals, crossed}
+use Rattle.quantile_room.specs.Room.{blockCount, roomSize, buckets, totals}
+use Rattle.quantiles.specs.State.{crossed}
 use Rattle.quantiles.specs.Record.{filledBuckets, filledTotals}
 use Rattle.percentiles.specs.declared.Showing.the-variants.{Shown}
 use Rattle.percentiles.specs.Percentiles.{outcome, blockAt, block, lies, anyLies, spoilt, bucketOf, clamped, histogramValue, valueAt, percentile, percentilesOf}

@@ -13,7 +13,7 @@ use lib.ListN.{length, length-append}
 use Rattle.rank.specs.Rank.{rankOf, rank-below}
 use Rattle.exact_rank.specs.Counting.{KeyOfRank}
 use Rattle.exact_rank.proofs.Sorting.{sorted-is-counted}
-use Rattle.quantiles.specs.State.{roomSize}
+use Rattle.quantile_room.specs.Room.{roomSize}
 use Rattle.buckets.specs.Signed.{magnitude, order, gap, indexOf, valueOf}
 use Rattle.histogram.specs.Histogram.{bucketAt}
 use Rattle.quantiles.specs.declared.Quantiles.{Quantiles}

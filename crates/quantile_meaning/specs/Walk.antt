@@ -10,7 +10,7 @@ use Rattle.buckets.specs.Buckets.{pick}
 use Rattle.buckets.specs.Signed.{order, valueOf}
 use Rattle.histogram.specs.Histogram.{bucketAt}
 use Rattle.quantiles.specs.declared.Quantiles.{Quantiles}
-use Rattle.quantiles.specs.State.{buckets}
+use Rattle.quantile_room.specs.Room.{buckets}
 use Rattle.percentiles.specs.Percentiles.{clamped}
 
 -- histogram: rank 0 is the minimum, the last the maximum, else the value of the first bucket with which all counts from bucket 0 on,

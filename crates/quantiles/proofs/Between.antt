@@ -11,7 +11,8 @@ use lib.ListN.{length, set}
 use Rattle.buckets.specs.Buckets.{pick}
 use Rattle.buckets.specs.Signed.{order}
 use Rattle.quantiles.specs.declared.Quantiles.{Quantiles}
-use Rattle.quantiles.specs.State.{roomSize, crossed}
+use Rattle.quantile_room.specs.Room.{roomSize}
+use Rattle.quantiles.specs.State.{crossed}
 use Rattle.quantiles.specs.Record.{taken, grown, recorded}
 use Rattle.quantiles.specs.Between.{between, oneMore}
 use Rattle.quantiles.proofs.Ways.{crossed-by, grown-later, way-exact, way-later, later-room, inBucket, inBlock}

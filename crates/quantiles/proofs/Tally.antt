@@ -10,21 +10,10 @@ use lib.ListN.{length, getD, set, take, drop, replicate, length-set, length-take
 use lib.Seq.{take-suc}
 use Rattle.buckets.specs.Signed.{bucketCount, order, indexOf}
 use Rattle.histogram.specs.Histogram.{total, bumped}
-use Rattle.quantiles.specs.State.{blockCount, roomSize, samples, buckets, totals, blockOf}
+use Rattle.quantile_room.specs.Room.{blockCount, roomSize, samples, buckets, totals, blockOf, fullAt}
 use Rattle.quantiles.specs.Record.{tally, filled, filledBuckets, filledTotals}
-use Rattle.quantiles.proofs.Parts.{three-samples, three-buckets, three-totals, three-length, samples-length, joined-sample}
-
--- a bucket of the room has a block
-pub block-below : (s : Bool) (i : ℕ) → i < bucketCount s → i / 128 < blockCount s
-block-below true i h = omega arith
-block-below false i h = omega arith
-
--- the parts of a room of the right size lie in it, and so does the total of a block
-pub parts-in : (s : Bool) (n : ℕ) → n ≡ roomSize s → 4096 + bucketCount s ≤ n
-parts-in s n h = omega arith
-
-pub total-in : (s : Bool) (place start n : ℕ) → n ≡ roomSize s → start ≡ 4096 + bucketCount s → place < bucketCount s → start + place / 128 < n
-total-in s place start n h e l = omega (arith, block-below s place l)
+use Rattle.quantile_room.proofs.Parts.{three-samples, three-buckets, three-totals, three-length, samples-length, joined-sample}
+use Rattle.quantile_room.proofs.Places.{neither-full}
 
 module _ (place : ℕ → ℕ) where
   -- one sample more
@@ -117,12 +106,12 @@ module _ (s : Bool) (room₀ room : List ℕ) (i : ℕ) (sized : length room₀ 
       ap length is ∙ three-length 4096 (bucketCount s) (take 4096 room₀) (filledBuckets s (take i room₀)) (filledTotals s (take i room₀)) many wide
       ∙ ap (λ (n : ℕ). 4096 + bucketCount s + n) (filled-length (blockOf s) (blockCount s) (take i room₀))
 
-  -- no count is near u64
-  pub filling-small : (k : ℕ) → i ≤ 4096 → (getD (buckets s room) k 0 + 1 < 2 ^ 64) × (getD (totals s room) (k / 128) 0 + 1 < 2 ^ 64)
-  filling-small k h = (
-    subst (λ (b : List ℕ). getD b k 0 + 1 < 2 ^ 64) (sym filling-buckets) (small (getD (filledBuckets s (take i room₀)) k 0) (length (take i room₀)) (filled-le (indexOf s) (bucketCount s) (take i room₀) k) taken-le),
-    subst (λ (b : List ℕ). getD b (k / 128) 0 + 1 < 2 ^ 64) (sym filling-totals) (small (getD (filledTotals s (take i room₀)) (k / 128) 0) (length (take i room₀)) (filled-le (blockOf s) (blockCount s) (take i room₀) (k / 128)) taken-le),
-  )
+  -- no count is full
+  pub filling-small : (k : ℕ) → i ≤ 4096 → fullAt s room k ≡ false
+  filling-small k h =
+      neither-full s room k
+      (subst (λ (b : List ℕ). getD b k 0 + 1 < 2 ^ 64) (sym filling-buckets) (small (getD (filledBuckets s (take i room₀)) k 0) (length (take i room₀)) (filled-le (indexOf s) (bucketCount s) (take i room₀) k) taken-le))
+      (subst (λ (b : List ℕ). getD b (k / 128) 0 + 1 < 2 ^ 64) (sym filling-totals) (small (getD (filledTotals s (take i room₀)) (k / 128) 0) (length (take i room₀)) (filled-le (blockOf s) (blockCount s) (take i room₀) (k / 128)) taken-le))
     where
       small : (t n : ℕ) → t ≤ n → n ≤ i → t + 1 < 2 ^ 64
       small t n l m = omega arith

@@ -13,7 +13,8 @@ use Rattle.limits.specs.Refusals.{wrongRoom}
 use Rattle.buckets.specs.Buckets.{pick}
 use Rattle.buckets.specs.Signed.{order, indexOf}
 use Rattle.quantiles.specs.declared.Quantiles.{Quantiles}
-use Rattle.quantiles.specs.State.{roomSize, samples, buckets, totals, blockOf, sized, crossed}
+use Rattle.quantile_room.specs.Room.{roomSize, samples, buckets, totals, blockOf, sized, fullAt}
+use Rattle.quantiles.specs.State.{crossed}
 use Rattle.quantiles.specs.Record.{Outcome, still, taken, passes, refuses, filledBuckets, filledTotals, pickList, counted, stored, grown, pickOutcome, recorded}
 
 -- the state that `grow` builds is the definition's, by the two tests for minimum and maximum
@@ -104,27 +105,18 @@ passes-by q room v late top high e f g =
     ap (λ (t : Bool). t && (eqb (inBucket q room v) (2 ^ 64 - 1) || eqb (inBlock q room v) (2 ^ 64 - 1))) e ∙ ap (λ (t : Bool). late && (t || eqb (inBlock q room v) (2 ^ 64 - 1))) f
     ∙ ap (λ (t : Bool). late && (top || t)) g
 
-or-true : (t : Bool) → true && (t || true) ≡ true
-or-true true = refl
-or-true false = refl
+-- what is asked of the place that a value has, is asked of the value
+pub of-value : (s : Bool) (room : List ℕ) (v place : ℕ) (full : Bool) → place ≡ indexOf s v → full ≡ fullAt s room place → fullAt s room (indexOf s v) ≡ full
+of-value s room v place full e f = ap (λ (i : ℕ). fullAt s room i) (sym e) ∙ sym f
 
--- a bucket that would pass u64
+-- a bucket or a block total that would pass u64
 pub way-passes : (q : Quantiles) (room : List ℕ) (v : ℕ) → length room ≡ roomSize (q .signed) → crossed q ≡ false → 4096 < q .count
-    → inBucket q room v ≡ 2 ^ 64 - 1 → still wrongRoom q room ≡ recorded q room v
+    → fullAt (q .signed) room (indexOf (q .signed) v) ≡ true → still wrongRoom q room ≡ recorded q room v
 unfolding either-refuses
 way-passes q room v h e l f =
     refused-by q room v
     (refuses-by q room v true false true (eq-eqb (length room) (roomSize (q .signed)) h) e
-    (passes-by q room v true true (eqb (inBlock q room v) (2 ^ 64 - 1)) (lt-ltb 4096 (q .count) l) (eq-eqb (inBucket q room v) (2 ^ 64 - 1) f) refl))
-
--- a block total that would
-pub way-block-passes : (q : Quantiles) (room : List ℕ) (v : ℕ) → length room ≡ roomSize (q .signed) → crossed q ≡ false → 4096 < q .count
-    → inBlock q room v ≡ 2 ^ 64 - 1 → still wrongRoom q room ≡ recorded q room v
-unfolding either-refuses
-way-block-passes q room v h e l f =
-    refused-by q room v
-    (refuses-by q room v true false true (eq-eqb (length room) (roomSize (q .signed)) h) e
-    (passes-by q room v true (eqb (inBucket q room v) (2 ^ 64 - 1)) true (lt-ltb 4096 (q .count) l) refl (eq-eqb (inBlock q room v) (2 ^ 64 - 1) f) ∙ or-true (eqb (inBucket q room v) (2 ^ 64 - 1))))
+    (passes-by q room v true (eqb (inBucket q room v) (2 ^ 64 - 1)) (eqb (inBlock q room v) (2 ^ 64 - 1)) (lt-ltb 4096 (q .count) l) refl refl ∙ f))
 
 -- what is served: the bucket is not full, or not in use yet
 served : (q : Quantiles) (room : List ℕ) (v : ℕ) → length room ≡ roomSize (q .signed) → crossed q ≡ false → passes q room v ≡ false → refuses q room v ≡ false

@@ -12,7 +12,8 @@ use Rattle.histogram.specs.Histogram.{bumped}
 use Rattle.quantiles.specs.declared.Quantiles.{Quantiles}
 use Rattle.quantiles.specs.declared.Recording.{Recording}
 use Rattle.quantiles.specs.declared.Recording.the-variants.{Refused, Full, Counted}
-use Rattle.quantiles.specs.State.{blockCount, samples, buckets, totals, blockOf, sized, crossed}
+use Rattle.quantile_room.specs.Room.{blockCount, samples, buckets, totals, blockOf, sized}
+use Rattle.quantiles.specs.State.{crossed}
 
 -- what a call leaves: the refusal's number, or 0; Rust's answer; the state; the room
 pub record Outcome : Type 0 where

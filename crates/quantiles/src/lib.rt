@@ -1,15 +1,12 @@
-// `Quantiles` of src/stats/quantiles.rs: its state by value, and `record`. `Storage` is a lent room of u64 words: 4,096 samples,
-// then the buckets, then a total for each block of 128 buckets. The type parameter is the flag `signed`, and an i64 is its two's complement word.
+// `Quantiles` of src/stats/quantiles.rs: its state by value, and `record`. `Storage` is a lent room of u64 words (`quantile_room`). The type
+// parameter is the flag `signed`, and an i64 is its two's complement word.
 ghost use mathlib.Core.Path.{_≡_};
 ghost use mathlib.Core.Bool.{true, false};
 ghost use mathlib.Core.List.{_++_};
-ghost use Prim.Native.Nat.{_+_, _-_, _/_, _<_, _≤_, _^_};
-ghost use lib.ListN.{length, getD, set, take, drop, replicate};
-ghost use lib.Dec.{ltb};
-ghost use Rattle.buckets.specs.Buckets.{pick};
-ghost use Rattle.buckets.specs.Signed.{bucketCount, order, indexOf};
-ghost use Rattle.histogram.specs.Histogram.{bumped};
-ghost use Rattle.quantiles.specs.State.{roomSize, samples, buckets as bucketsOf, totals, crossed};
+ghost use Prim.Native.Nat.{_+_, _-_, _<_, _≤_, _^_};
+ghost use lib.ListN.{length, take, replicate};
+ghost use Rattle.quantile_room.specs.Room.{roomSize, samples};
+ghost use Rattle.quantiles.specs.State.{crossed};
 ghost use Rattle.quantiles.specs.Record.{outcome, recorded, grown, filledBuckets, filledTotals};
 ghost use Rattle.quantiles.specs.Between.{between, Tried};
 
@@ -31,20 +28,6 @@ pub enum Recording {
     Counted(Quantiles),
 }
 
-// How many words a room has.
-pub fn room_size(signed: bool) -> usize
-    ensures { λ r. ⌜ r ≡ roomSize signed ⌝ }
-{
-    if signed { 18804 } else { 11578 }
-}
-
-// The word where the totals begin.
-pub fn totals_start(signed: bool) -> usize
-    ensures { λ r. ⌜ r ≡ 4096 + bucketCount signed ⌝ }
-{
-    if signed { 18689 } else { 11520 }
-}
-
 // `Default`: no samples yet. What the room holds then does not matter.
 pub fn fresh(signed: bool) -> Quantiles
     ensures { λ r. ⌜ (r .signed ≡ signed) × (r .count ≡ 0) × (r .min ≡ 0) × (r .max ≡ 0) ⌝ }
@@ -57,20 +40,11 @@ pub fn fresh(signed: bool) -> Quantiles
     }
 }
 
-// Whether the least value is above the greatest.
-fn above(q: Quantiles) -> bool
-    ensures { λ r. ⌜ r ≡ ltb (order (q .signed) (q .max)) (order (q .signed) (q .min)) ⌝ }
-{
-    let low = buckets::ordered(q.signed, q.min);
-    let high = buckets::ordered(q.signed, q.max);
-    high < low
-}
-
 // Whether the minimum is above the maximum at a count above 0.
 pub fn min_above_max(q: Quantiles) -> bool
     ensures { λ r. ⌜ r ≡ crossed q ⌝ }
 {
-    let crossed = above(q);
+    let crossed = extremes::above(q.signed, q.min, q.max);
     (0 < q.count) & crossed
 }
 
@@ -79,8 +53,8 @@ fn grow(q: Quantiles, value: u64) -> Quantiles
     requires { ⌜ (0 < q .count) × (q .count + 1 < 2 ^ 64) ⌝ }
     ensures { λ r. ⌜ r ≡ grown q value ⌝ }
 {
-    let low = least(q.signed, q.min, value);
-    let high = greatest(q.signed, q.max, value);
+    let low = extremes::least(q.signed, q.min, value);
+    let high = extremes::greatest(q.signed, q.max, value);
     Quantiles {
         signed: q.signed,
         count: q.count + 1,
@@ -89,41 +63,12 @@ fn grow(q: Quantiles, value: u64) -> Quantiles
     }
 }
 
-// The value where it is below the least so far, else that.
-fn least(signed: bool, old: u64, value: u64) -> u64
-    ensures { λ r. ⌜ r ≡ pick (ltb (order signed value) (order signed old)) value old ⌝ }
-{
-    let was = buckets::ordered(signed, old);
-    let is = buckets::ordered(signed, value);
-    if is < was { value } else { old }
-}
-
-// The value where it is above the greatest so far, else that.
-fn greatest(signed: bool, old: u64, value: u64) -> u64
-    ensures { λ r. ⌜ r ≡ pick (ltb (order signed old) (order signed value)) value old ⌝ }
-{
-    let was = buckets::ordered(signed, old);
-    let is = buckets::ordered(signed, value);
-    if was < is { value } else { old }
-}
-
 // The words behind the samples are lent on, and zeroed.
 fn clear_counts(room: &mut [u64])
     requires { ⌜ 4096 ≤ length (now room) ⌝ }
     ensures { λ r. ⌜ now (room .exit) ≡ take 4096 (now (room .entry)) ++ replicate (length (now (room .entry)) - 4096) 0 ⌝ }
 {
     histogram::clear(&mut room[limits::CAPACITY..]);
-}
-
-// One sample more in a bucket, and in the total of its block.
-fn count_in(signed: bool, room: &mut [u64], place: usize)
-    requires { ⌜ (length (now room) ≡ roomSize signed) × (place < bucketCount signed) × (getD (bucketsOf signed (now room)) place 0 + 1 < 2 ^ 64) × (getD (totals signed (now room)) (place / 128) 0 + 1 < 2 ^ 64) ⌝ }
-    ensures { λ r. ⌜ now (room .exit) ≡ samples (now (room .entry)) ++ (bumped (bucketsOf signed (now (room .entry))) place ++ bumped (totals signed (now (room .entry))) (place / 128)) ⌝ }
-{
-    let at = limits::CAPACITY + place;
-    let block = totals_start(signed) + place / 128;
-    room[at] = room[at] + 1;
-    room[block] = room[block] + 1;
 }
 
 // Zeroes, then fills the buckets and the totals from the 4,096 samples.
@@ -135,7 +80,7 @@ fn fill(signed: bool, room: &mut [u64])
     let mut i = 0;
     while i < limits::CAPACITY {
         let place = buckets::bucket_of(signed, room[i]);
-        count_in(signed, room, place);
+        quantile_room::count_in(signed, room, place);
         i += 1;
     }
 }
@@ -157,7 +102,7 @@ fn add_first(q: Quantiles, room: &mut [u64], value: u64) -> Recording
 {
     let place = buckets::bucket_of(q.signed, value);
     fill(q.signed, room);
-    count_in(q.signed, room, place);
+    quantile_room::count_in(q.signed, room, place);
     Recording::Counted(grow(q, value))
 }
 
@@ -167,29 +112,14 @@ fn add_later(q: Quantiles, room: &mut [u64], value: u64) -> Recording
     ensures { λ r. ⌜ outcome q r (now (room .exit)) ≡ recorded q (now (room .entry)) value ⌝ }
 {
     let place = buckets::bucket_of(q.signed, value);
-    let at = limits::CAPACITY + place;
-    let block = totals_start(q.signed) + place / 128;
-    if room[at] == 18446744073709551615 {
+    if quantile_room::full_at(q.signed, room, place) {
         return Recording::Refused;
     }
-    if room[block] == 18446744073709551615 {
-        return Recording::Refused;
-    }
-    if q.count == 18446744073709551615 {
+    if q.count == MOST {
         return Recording::Full;
     }
-    count_in(q.signed, room, place);
+    quantile_room::count_in(q.signed, room, place);
     Recording::Counted(grow(q, value))
-}
-
-// Whether a value changes neither the least nor the greatest.
-fn is_between(q: Quantiles, value: u64) -> bool
-    ensures { λ r. ⌜ r ≡ between q value ⌝ }
-{
-    let low = buckets::ordered(q.signed, q.min);
-    let is = buckets::ordered(q.signed, value);
-    let high = buckets::ordered(q.signed, q.max);
-    (low <= is) & (is <= high)
 }
 
 // Tries a sample of the exact mode.
@@ -197,7 +127,7 @@ fn try_sample(q: Quantiles, room: &mut [u64], value: u64) -> bool
     requires { ⌜ (between q value ≡ true) × (0 < q .count) × (q .count < 4096) ⌝ }
     ensures { λ r. ⌜ Tried r q (now (room .entry)) value (now (room .exit)) ⌝ }
 {
-    if room.len() != room_size(q.signed) {
+    if room.len() != quantile_room::room_size(q.signed) {
         return false;
     }
     let behind = q.count as usize;
@@ -210,19 +140,14 @@ fn try_later(q: Quantiles, room: &mut [u64], value: u64) -> bool
     requires { ⌜ (between q value ≡ true) × (4096 < q .count) × (q .count + 1 < 2 ^ 64) ⌝ }
     ensures { λ r. ⌜ Tried r q (now (room .entry)) value (now (room .exit)) ⌝ }
 {
-    if room.len() != room_size(q.signed) {
+    if room.len() != quantile_room::room_size(q.signed) {
         return false;
     }
     let place = buckets::bucket_of(q.signed, value);
-    let at = limits::CAPACITY + place;
-    let block = totals_start(q.signed) + place / 128;
-    if room[at] == MOST {
+    if quantile_room::full_at(q.signed, room, place) {
         return false;
     }
-    if room[block] == MOST {
-        return false;
-    }
-    count_in(q.signed, room, place);
+    quantile_room::count_in(q.signed, room, place);
     true
 }
 
@@ -232,7 +157,7 @@ impl Quantiles {
         requires { ⌜ self .count ≡ 0 ⌝ }
         ensures { λ r. ⌜ outcome self r (now (room .exit)) ≡ recorded self (now (room .entry)) value ⌝ }
     {
-        if room.len() != room_size(self.signed) {
+        if room.len() != quantile_room::room_size(self.signed) {
             return Recording::Refused;
         }
         room[0] = value;
@@ -249,10 +174,10 @@ impl Quantiles {
         requires { ⌜ (0 < self .count) × (self .count < 4096) ⌝ }
         ensures { λ r. ⌜ outcome self r (now (room .exit)) ≡ recorded self (now (room .entry)) value ⌝ }
     {
-        if room.len() != room_size(self.signed) {
+        if room.len() != quantile_room::room_size(self.signed) {
             return Recording::Refused;
         }
-        if above(self) {
+        if extremes::above(self.signed, self.min, self.max) {
             return Recording::Refused;
         }
         add_sample(self, room, value)
@@ -263,10 +188,10 @@ impl Quantiles {
         requires { ⌜ self .count ≡ 4096 ⌝ }
         ensures { λ r. ⌜ outcome self r (now (room .exit)) ≡ recorded self (now (room .entry)) value ⌝ }
     {
-        if room.len() != room_size(self.signed) {
+        if room.len() != quantile_room::room_size(self.signed) {
             return Recording::Refused;
         }
-        if above(self) {
+        if extremes::above(self.signed, self.min, self.max) {
             return Recording::Refused;
         }
         add_first(self, room, value)
@@ -277,10 +202,10 @@ impl Quantiles {
         requires { ⌜ 4096 < self .count ⌝ }
         ensures { λ r. ⌜ outcome self r (now (room .exit)) ≡ recorded self (now (room .entry)) value ⌝ }
     {
-        if room.len() != room_size(self.signed) {
+        if room.len() != quantile_room::room_size(self.signed) {
             return Recording::Refused;
         }
-        if above(self) {
+        if extremes::above(self.signed, self.min, self.max) {
             return Recording::Refused;
         }
         add_later(self, room, value)
@@ -291,7 +216,7 @@ impl Quantiles {
     pub fn record_between(self, room: &mut [u64], value: u64) -> bool
         ensures { λ r. ⌜ Tried r self (now (room .entry)) value (now (room .exit)) ⌝ }
     {
-        if is_between(self, value) {
+        if extremes::is_between(self.signed, self.min, self.max, value) {
             if (4096 < self.count) & (self.count < MOST) {
                 return try_later(self, room, value);
             }

@@ -2,19 +2,17 @@
 use mathlib.Core.Path.{_≡_, refl, sym, _∙_, ap}
 use mathlib.Core.Bool.{Bool, true, false, not, _&&_, _||_}
 use mathlib.Core.List.{List}
-use Prim.Native.Nat.{ℕ, _+_, _-_, _/_, _^_, _≤_, _<_}
-use borrow.Author.Tests.{lt-ltb, le-ltb, eq-eqb, ne-eqb}
+use Prim.Native.Nat.{ℕ, _-_, _^_, _≤_, _<_}
+use borrow.Author.Tests.{lt-ltb, le-ltb}
 use lib.Dec.{ltb, eqb}
-use lib.ListN.{length, getD}
-use Rattle.buckets.specs.Signed.{bucketCount, indexOf}
+use Rattle.buckets.specs.Signed.{indexOf}
 use Rattle.limits.specs.Refusals.{wrongRoom, countsFull}
 use Rattle.limits.specs.Limits.{capacity}
 use Rattle.quantiles.specs.declared.Quantiles.{Quantiles}
 use Rattle.quantiles.specs.declared.Recording.{Recording}
 use Rattle.quantiles.specs.declared.Recording.the-variants as recording
-use Rattle.quantiles.specs.State.{roomSize, buckets, totals, blockOf, sized, crossed}
-use Rattle.quantiles.proofs.Parts.{bucket-word, total-word}
-use Rattle.quantiles.proofs.Tally.{parts-in}
+use Rattle.quantile_room.specs.Room.{sized, fullAt}
+use Rattle.quantiles.specs.State.{crossed}
 use Rattle.quantiles.specs.Record as record-call
 use Rattle.quantiles.specs.Record.{Outcome, still, taken, passes, refuses, grown, stored, pickOutcome, recorded}
 use Rattle.series.specs.declared.Sampling.{Sampling}
@@ -64,55 +62,26 @@ module _ (q : Quantiles) (room : List ℕ) (v : ℕ) where
   unfolding without
   way-sums h e f = by-test false (none-refuses h e f)
 
-  -- ---- a histogram: the value's bucket, then the total of its block
+  -- ---- a histogram: the value's bucket and the total of its block
 
-  abbrev inBucket : ℕ
-  inBucket = getD (buckets (q .signed) room) (indexOf (q .signed) v) 0
+  abbrev full : Bool
+  full = fullAt (q .signed) room (indexOf (q .signed) v)
 
-  abbrev inBlock : ℕ
-  inBlock = getD (totals (q .signed) room) (blockOf (q .signed) v) 0
-
-  passes-by : (top high : Bool) → 4096 < q .count → eqb inBucket (2 ^ 64 - 1) ≡ top → eqb inBlock (2 ^ 64 - 1) ≡ high → passes q room v ≡ (top || high)
+  passes-by : 4096 < q .count → passes q room v ≡ full
   unfolding passes
-  passes-by top high h e f =
-      ap (λ (t : Bool). t && (eqb inBucket (2 ^ 64 - 1) || eqb inBlock (2 ^ 64 - 1))) (lt-ltb 4096 (q .count) h)
-      ∙ ap (λ (t : Bool). t || eqb inBlock (2 ^ 64 - 1)) e
-      ∙ ap (λ (t : Bool). top || t) f
+  passes-by h = ap (λ (t : Bool). t && full) (lt-ltb 4096 (q .count) h)
 
-  refuses-by : (p : Bool) → sized (q .signed) room ≡ true → crossed q ≡ false → passes q room v ≡ p → refuses q room v ≡ p
+  refuses-by : sized (q .signed) room ≡ true → crossed q ≡ false → 4096 < q .count → refuses q room v ≡ full
   unfolding refuses
-  refuses-by p e f g = ap (λ (b : Bool). not b || (crossed q || passes q room v)) e ∙ ap (λ (b : Bool). b || passes q room v) f ∙ g
+  refuses-by e f h = ap (λ (b : Bool). not b || (crossed q || passes q room v)) e ∙ ap (λ (b : Bool). b || passes q room v) f ∙ passes-by h
 
-  -- the words that the code reads are those of the value's bucket and of its block
-  module _ (place start : ℕ) (size : length room ≡ roomSize (q .signed)) (is : place ≡ indexOf (q .signed) v) (below : place < bucketCount (q .signed)) (at : start ≡ 4096 + bucketCount (q .signed)) (h : 4096 < q .count) (c : crossed q ≡ false) where
-    bucket-is : inBucket ≡ getD room (4096 + place) 0
-    bucket-is = ap (λ (k : ℕ). getD (buckets (q .signed) room) k 0) (sym is) ∙ bucket-word 4096 (bucketCount (q .signed)) room (parts-in (q .signed) (length room) size) place below
+  pub way-full : sized (q .signed) room ≡ true → crossed q ≡ false → 4096 < q .count → full ≡ true → still wrongRoom q room ≡ recordedBeside false q room v
+  unfolding without
+  way-full e f h t = by-test true (refuses-by e f h ∙ t)
 
-    total-is : inBlock ≡ getD room (start + place / 128) 0
-    total-is =
-        ap (λ (k : ℕ). getD (totals (q .signed) room) (k / 128) 0) (sym is)
-        ∙ total-word 4096 (bucketCount (q .signed)) room (parts-in (q .signed) (length room) size) (place / 128)
-        ∙ ap (λ (k : ℕ). getD room (k + place / 128) 0) (sym at)
-
-    right : sized (q .signed) room ≡ true
-    right = eq-eqb (length room) (roomSize (q .signed)) size
-
-    pub way-bucket : getD room (4096 + place) 0 ≡ 2 ^ 64 - 1 → still wrongRoom q room ≡ recordedBeside false q room v
-    unfolding without
-    way-bucket e =
-        by-test true (refuses-by true right c (passes-by true (eqb inBlock (2 ^ 64 - 1)) h (eq-eqb inBucket (2 ^ 64 - 1) (bucket-is ∙ e)) refl))
-
-    pub way-block : (getD room (4096 + place) 0 ≡ 2 ^ 64 - 1 → ⊥) → getD room (start + place / 128) 0 ≡ 2 ^ 64 - 1 → still wrongRoom q room ≡ recordedBeside false q room v
-    unfolding without
-    way-block n e =
-        by-test true
-        (refuses-by true right c (passes-by false true h (ne-eqb inBucket (2 ^ 64 - 1) (λ f. n (sym bucket-is ∙ f))) (eq-eqb inBlock (2 ^ 64 - 1) (total-is ∙ e))))
-
-    pub way-neither : (getD room (4096 + place) 0 ≡ 2 ^ 64 - 1 → ⊥) → (getD room (start + place / 128) 0 ≡ 2 ^ 64 - 1 → ⊥) → still countsFull q room ≡ recordedBeside false q room v
-    unfolding without
-    way-neither n m =
-        by-test false
-        (refuses-by false right c (passes-by false false h (ne-eqb inBucket (2 ^ 64 - 1) (λ f. n (sym bucket-is ∙ f))) (ne-eqb inBlock (2 ^ 64 - 1) (λ f. m (sym total-is ∙ f)))))
+  pub way-left : sized (q .signed) room ≡ true → crossed q ≡ false → 4096 < q .count → full ≡ false → still countsFull q room ≡ recordedBeside false q room v
+  unfolding without
+  way-left e f h t = by-test false (refuses-by e f h ∙ t)
 
   -- ---- the sums have room
 

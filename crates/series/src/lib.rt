@@ -28,8 +28,6 @@ pub enum Sampling {
 // A sum's high word at this is a magnitude of 2^126.
 const HIGH_BOUND: u64 = 4611686018427387904;
 
-const MOST: u64 = 18446744073709551615;
-
 // The sum is below its bound.
 pub fn sum_fits(sum: Sum) -> bool
     ensures { λ r. ⌜ r ≡ sumFits sum ⌝ }
@@ -99,7 +97,7 @@ pub fn sum_step(sum: Sum, word: u64) -> SumWords
 fn refused_beside(q: Quantiles, room: &mut [u64], value: u64) -> Sampling
     ensures { λ r. ⌜ outcome q r (now (room .exit)) ≡ recordedBeside false q (now (room .entry)) value ⌝ }
 {
-    if room.len() != quantiles::room_size(q.signed) {
+    if room.len() != quantile_room::room_size(q.signed) {
         return Sampling::Refused;
     }
     if quantiles::min_above_max(q) {
@@ -109,12 +107,7 @@ fn refused_beside(q: Quantiles, room: &mut [u64], value: u64) -> Sampling
         return Sampling::SumsFull;
     }
     let place = buckets::bucket_of(q.signed, value);
-    let at = limits::CAPACITY + place;
-    let block = quantiles::totals_start(q.signed) + place / 128;
-    if room[at] == MOST {
-        return Sampling::Refused;
-    }
-    if room[block] == MOST {
+    if quantile_room::full_at(q.signed, room, place) {
         return Sampling::Refused;
     }
     Sampling::SumsFull

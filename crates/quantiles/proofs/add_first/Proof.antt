@@ -27,7 +27,7 @@ count-in-requires c κs =
     let k = c .before .before .before .before .before .bucket-of in
     let h = c .before .before .before .before .before .before .before .pre .0 in
     let n = filling-small (a .q .signed) (now (a .room)) (f .last .1 .0) 4096 h (f .ensures) (k .result) (le-refl 4096) in
-    (filling-length (a .q .signed) (now (a .room)) (f .last .1 .0) 4096 h (f .ensures), k .ensures .1, n .0, n .1)
+    (filling-length (a .q .signed) (now (a .room)) (f .last .1 .0) 4096 h (f .ensures), k .ensures .1, n)
 
 grow-requires : tie.Need-grow-requires
 grow-requires c κs = search needs

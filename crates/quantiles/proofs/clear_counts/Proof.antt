@@ -4,7 +4,7 @@ use mathlib.Core.List.{List, _++_}
 use Prim.Native.Nat.{ℕ, _-_}
 use denote.Ref.{now}
 use lib.ListN.{length, take, drop, replicate, length-drop}
-use Rattle.quantiles.proofs.Parts.{whole-part, part-back}
+use Rattle.quantile_room.proofs.Parts.{whole-part, part-back}
 use borrow.Author.Needs.{needs}
 use Rattle.quantiles.proofs.clear_counts.Statement.{statement}
 use Rattle.quantiles.proofs.clear_counts.Tie as tie

@@ -6,7 +6,7 @@ use native.Mathlib.Omega.{arith}
 use native.Mathlib.Nat.{le-antisymm}
 use denote.Ref.{now}
 use lib.ListN.{length, getD, take, drop, replicate}
-use Rattle.quantiles.specs.State.{roomSize}
+use Rattle.quantile_room.specs.Room.{roomSize}
 use Rattle.quantiles.proofs.Tally.{holding, filling-entry, filling-none, filling-done, filling-samples, filling-length, filling-small, filling-next}
 use borrow.Author.Needs.{needs}
 use Rattle.quantiles.proofs.fill.Statement.{statement}
@@ -44,7 +44,7 @@ count-in-requires c κs =
     let l = c .before .before .before .before .loop in
     let s = c .before .before .before .before .before .before .before .before .before .before .args .signed in
     let f = filling-small s (c .before .before .before .before .before .before .before .clear-counts .last .0) (l .room) (l .i) (l .inv .1) (l .inv .3) (c .before .bucket-of .result) (l .inv .0) in
-    (l .inv .2, c .before .bucket-of .ensures .1, f .0, f .1)
+    (l .inv .2, c .before .bucket-of .ensures .1, f)
 
 add-i : tie.Need-add-i Inv-loop μ-loop
 add-i c = search needs

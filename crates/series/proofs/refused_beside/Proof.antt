@@ -3,9 +3,9 @@ use mathlib.Core.Path.{sym, _∙_}
 use lib.ListN.{length}
 use borrow.Author.Tests.{eq-eqb, ne-eqb}
 use denote.Ref.{now}
-use Rattle.quantiles.proofs.Tally.{total-in}
+use Rattle.quantiles.proofs.Ways.{of-value}
 use Rattle.series.specs.Series.{outcome}
-use Rattle.series.proofs.Ways.{way-size, way-crossed, way-sums, way-bucket, way-block, way-neither}
+use Rattle.series.proofs.Ways.{way-size, way-crossed, way-sums, way-full, way-left}
 use borrow.Author.Needs.{needs}
 use Rattle.series.proofs.refused_beside.Statement.{statement}
 use Rattle.series.proofs.refused_beside.Tie as tie
@@ -37,57 +37,32 @@ returns-3 c =
 bucket-of-requires : tie.Need-bucket-of-requires
 bucket-of-requires c κs = search needs
 
-add-at : tie.Need-add-at
-add-at c = search needs
+full-at-requires : tie.Need-full-at-requires
+full-at-requires c κs = (c .before .before .before .before .before .before .if1 .left ∙ c .before .before .before .before .before .before .before .room-size .ensures, c .before .bucket-of .ensures .1)
 
-totals-start-requires : tie.Need-totals-start-requires
-totals-start-requires c κs = search needs
-
-add-block : tie.Need-add-block
-add-block c = search needs
-
-mul-if4 : tie.Need-mul-if4
-mul-if4 c = search needs
-
-slice-read-if4 : tie.Need-slice-read-if4
-slice-read-if4 c = search needs
+same-length : tie.Need-same-length
+same-length c = search needs
 
 returns-4 : tie.Need-returns-4
 unfolding outcome
 returns-4 c =
     let a = c .before .before .before .before .before .before .before .before .before .before .before .args in
     let k = c .before .before .before .bucket-of in
-    let t = c .before .before .totals-start in
-    way-bucket (a .q) (now (a .room)) (a .value) (k .result) (t .result) (c .before .before .before .before .before .before .before .before .if1 .left ∙ c .before .before .before .before .before .before .before .before .before .room-size .ensures) (k .ensures .0) (k .ensures .1) (t .ensures) (c .before .before .before .before .if3 .left) (sym (c .before .before .before .before .before .before .before .min-above-max .ensures) ∙ c .before .before .before .before .before .before .if2 .left)
-    (c .if4 .taken)
+    let f = c .before .full-at in
+    way-full (a .q) (now (a .room)) (a .value) (eq-eqb _ _ (c .before .before .before .before .before .before .before .before .if1 .left ∙ c .before .before .before .before .before .before .before .before .before .room-size .ensures)) (sym (c .before .before .before .before .before .before .before .min-above-max .ensures) ∙ c .before .before .before .before .before .before .if2 .left) (c .before .before .before .before .if3 .left)
+    (of-value (a .q .signed) (now (a .room)) (a .value) (k .result) (f .result) (k .ensures .0) (f .ensures) ∙ c .if4 .taken)
 
-mul-if5 : tie.Need-mul-if5
-mul-if5 c = search needs
-
-slice-read-if5 : tie.Need-slice-read-if5
-slice-read-if5 c =
-    let a = c .before .before .before .before .before .before .before .before .before .before .before .before .args in
-    let k = c .before .before .before .before .bucket-of in
-    let t = c .before .before .before .totals-start in
-    total-in (a .q .signed) (k .result) (t .result) (length (now (a .room))) (c .before .before .before .before .before .before .before .before .before .if1 .left ∙ c .before .before .before .before .before .before .before .before .before .before .room-size .ensures) (t .ensures) (k .ensures .1)
+same-length-2 : tie.Need-same-length-2
+same-length-2 c = search needs
 
 returns-5 : tie.Need-returns-5
 unfolding outcome
 returns-5 c =
-    let a = c .before .before .before .before .before .before .before .before .before .before .before .before .before .args in
-    let k = c .before .before .before .before .before .bucket-of in
-    let t = c .before .before .before .before .totals-start in
-    way-block (a .q) (now (a .room)) (a .value) (k .result) (t .result) (c .before .before .before .before .before .before .before .before .before .before .if1 .left ∙ c .before .before .before .before .before .before .before .before .before .before .before .room-size .ensures) (k .ensures .0) (k .ensures .1) (t .ensures) (c .before .before .before .before .before .before .if3 .left) (sym (c .before .before .before .before .before .before .before .before .before .min-above-max .ensures) ∙ c .before .before .before .before .before .before .before .before .if2 .left)
-    (c .before .before .if4 .left) (c .if5 .taken)
-
-returns-6 : tie.Need-returns-6
-unfolding outcome
-returns-6 c =
-    let a = c .before .before .before .before .before .before .before .before .before .before .before .before .before .args in
-    let k = c .before .before .before .before .before .bucket-of in
-    let t = c .before .before .before .before .totals-start in
-    way-neither (a .q) (now (a .room)) (a .value) (k .result) (t .result) (c .before .before .before .before .before .before .before .before .before .before .if1 .left ∙ c .before .before .before .before .before .before .before .before .before .before .before .room-size .ensures) (k .ensures .0) (k .ensures .1) (t .ensures) (c .before .before .before .before .before .before .if3 .left) (sym (c .before .before .before .before .before .before .before .before .before .min-above-max .ensures) ∙ c .before .before .before .before .before .before .before .before .if2 .left)
-    (c .before .before .if4 .left) (c .if5 .left)
+    let a = c .before .before .before .before .before .before .before .before .before .before .before .args in
+    let k = c .before .before .before .bucket-of in
+    let f = c .before .full-at in
+    way-left (a .q) (now (a .room)) (a .value) (eq-eqb _ _ (c .before .before .before .before .before .before .before .before .if1 .left ∙ c .before .before .before .before .before .before .before .before .before .room-size .ensures)) (sym (c .before .before .before .before .before .before .before .min-above-max .ensures) ∙ c .before .before .before .before .before .before .if2 .left) (c .before .before .before .before .if3 .left)
+    (of-value (a .q .signed) (now (a .room)) (a .value) (k .result) (f .result) (k .ensures .0) (f .ensures) ∙ c .if4 .left)
 
 pub refused-beside-spec : {M : Type 1} → statement M
 refused-beside-spec =
@@ -99,13 +74,8 @@ refused-beside-spec =
     returns-2
     returns-3
     bucket-of-requires
-    add-at
-    totals-start-requires
-    add-block
-    mul-if4
-    slice-read-if4
+    full-at-requires
+    same-length
     returns-4
-    mul-if5
-    slice-read-if5
-    returns-5
-    returns-6)
+    same-length-2
+    returns-5)
