@@ -1,4 +1,3 @@
-mod Windows
 mod Parts
 mod Patterns
 mod Words

@@ -17,6 +17,7 @@ use Rattle.bit_runs.specs.Tally.{after, Room}
 use Rattle.bit_runs.proofs.Lists.{ones-append}
 use Rattle.bit_runs.proofs.Digits.{bits-length, bits-cat}
 use Rattle.bit_runs.proofs.Steps.{after-append, after-none, room-after}
+use Rattle.word_runs.proofs.Windows.{bits-fair}
 
 pub bits-append : (s t : List ℕ) → allBits (s ++ t) ≡ allBits s ++ allBits t
 unfolding allBits
@@ -27,12 +28,6 @@ pub all-length : (s : List ℕ) → length (allBits s) ≡ 8 * length s
 unfolding allBits
 all-length [] = refl
 all-length (b ∷ s) = omega (arith, length-append (bitsOf 8 b) (allBits s), bits-length 8 b, all-length s)
-
--- a bit is 0 or 1
-pub bits-fair : (k n : ℕ) → onesOf (bitsOf k n) ≤ length (bitsOf k n)
-unfolding bitsOf onesOf
-bits-fair zero n = omega arith
-bits-fair (suc k) n = omega (arith, bits-fair k n, mod-lt (n / 2 ^ k) {m = 2} (omega arith))
 
 pub all-fair : (s : List ℕ) → onesOf (allBits s) ≤ length (allBits s)
 unfolding allBits onesOf

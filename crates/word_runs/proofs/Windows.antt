@@ -11,7 +11,8 @@ use lib.Dec.{leb}
 use lib.Bits.{bitAnd, and-shr, and-mod, and-self}
 use lib.Pow.{field, mod-mod-pow, mod-pow-add, shr-shr, ones-lt, ones-split, high, low}
 use borrow.Author.Tests.{leb-true, leb-false}
-use Rattle.bit_runs.specs.Bits.{bitsOf, longestFrom}
+use lib.ListN.{length}
+use Rattle.bit_runs.specs.Bits.{bitsOf, onesOf, longestFrom}
 
 -- n ones in a row, the lowest of them at place i
 abbrev pub OnesAt : (x i n : ℕ) → Type 0
@@ -107,3 +108,9 @@ none-left k x y m known l h e =
     le-trans
     (bounded k x m (λ (i : ℕ) (a : OnesAt x i (suc m)). none-at i (subst (λ (z : ℕ). OnesAt z i 1) e (l i 1 (subst (OnesAt x i) (omega arith) a)))))
     h
+
+-- a bit is 0 or 1
+pub bits-fair : (k n : ℕ) → onesOf (bitsOf k n) ≤ length (bitsOf k n)
+unfolding bitsOf onesOf
+bits-fair zero n = omega arith
+bits-fair (suc k) n = omega (arith, bits-fair k n, mod-lt (n / 2 ^ k) {m = 2} (omega arith))

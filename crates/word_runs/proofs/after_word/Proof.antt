@@ -1,11 +1,11 @@
--- `bit_errors::after_word` meets its contract. Assumes nothing.
+-- `word_runs::after_word` meets its contract. Assumes nothing.
 use Prim.Native.Nat.{_-_}
 use native.Mathlib.Omega.{arith}
 use lib.Count.{leading-le, ones-le}
 use borrow.Author.Needs.{needs}
 use Rattle.bit_runs.proofs.Steps.{clean, word-through, word-mixed}
-use Rattle.bit_errors.proofs.after_word.Statement.{statement}
-use Rattle.bit_errors.proofs.after_word.Tie as tie
+use Rattle.word_runs.proofs.after_word.Statement.{statement}
+use Rattle.word_runs.proofs.after_word.Tie as tie
 
 returns : tie.Need-returns
 returns c = clean 63 (c .before .args .t) (c .before .pre .run) (c .before .args .word) (c .if1 .taken)

@@ -1,4 +1,4 @@
--- `bit_errors::longest_in_word` meets its contract. The loop's invariant: the tally is that of the bits above `below`.
+-- `word_runs::longest_in_word` meets its contract. The loop's invariant: the tally is that of the bits above `below`.
 -- Assumes nothing.
 use mathlib.Core.Path.{_≡_, refl, sym, ap, _∙_, subst}
 use mathlib.Core.List.{List, _++_}
@@ -10,10 +10,10 @@ use Rattle.bit_runs.specs.declared.Tally.{Tally}
 use Rattle.bit_runs.specs.Bits.{bitsOf, onesOf, endingRun, longestFrom}
 use Rattle.bit_runs.specs.Tally.{none, after, Room}
 use Rattle.bit_runs.proofs.Digits.{bits-length, bits-split}
-use Rattle.bit_errors.proofs.Parts.{bits-fair}
+use Rattle.word_runs.proofs.Windows.{bits-fair}
 use Rattle.bit_runs.proofs.Steps.{after-append, room-after}
-use Rattle.bit_errors.proofs.longest_in_word.Statement.{statement}
-use Rattle.bit_errors.proofs.longest_in_word.Tie as tie
+use Rattle.word_runs.proofs.longest_in_word.Statement.{statement}
+use Rattle.word_runs.proofs.longest_in_word.Tie as tie
 
 -- the bits above a place, counted
 abbrev above : (word below : ℕ) → Tally
