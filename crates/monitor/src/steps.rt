@@ -90,14 +90,15 @@ impl Monitor {
         ensures { λ r. ⌜ r ≡ ascending self ⌝ }
     {
         let ring = self.ring;
-        ring.len <= self.run
+        sequence_run::covers(ring.len, self.run)
     }
 
     // Of so many pops, how many unmark what stays queued.
     pub fn repeats(self, count: usize) -> usize
         ensures { λ r. ⌜ r ≡ repeated self count ⌝ }
     {
-        if self.ascends() { 0 } else { count }
+        let ring = self.ring;
+        sequence_run::repeats(ring.len, self.run, count)
     }
 
     pub fn near(self, ring: QueueRing) -> QueueRing
@@ -164,17 +165,7 @@ impl Monitor {
         ensures { λ r. ⌜ r ≡ runs self sequence ⌝ }
     {
         let ring = self.ring;
-        if ring.len == 0 {
-            return 1;
-        }
-        if self.latest >= sequence {
-            return 1;
-        }
-        if self.run <= ring.len {
-            self.run + 1
-        } else {
-            ring.len + 1
-        }
+        sequence_run::longer(ring.len, self.run, self.latest, sequence)
     }
 
     // The monitor after `sent`.
