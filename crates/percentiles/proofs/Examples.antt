@@ -5,7 +5,7 @@ use mathlib.Core.List.{[], _∷_}
 use Prim.Native.Nat.{ℕ, _+_, _*_}
 use Rattle.histogram.specs.Histogram.{bucketAt, leftAt}
 use Rattle.quantile_room.specs.Room.{roomSize}
-use Rattle.percentiles.specs.Blocks.{blockEnd}
+use Rattle.histogram_ranks.specs.Blocks.{blockEnd}
 
 -- of totals 3, 0 and 5 the third block holds rank 4, and one sample of it lies before that rank
 pub search-block : bucketAt (3 ∷ 0 ∷ 5 ∷ []) 4 ≡ 2

@@ -2,5 +2,5 @@ pub mod Values
 pub mod Fours
 pub mod Ways
 pub mod Determined
-pub mod Blocks
+pub mod Lies
 pub mod Examples

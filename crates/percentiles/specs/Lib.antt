@@ -1,3 +1,2 @@
 pub mod Percentiles
 pub mod Fours
-pub mod Blocks

@@ -5,15 +5,13 @@ ghost use mathlib.Core.List.{map};
 ghost use Prim.Native.Nat.{_+_, _<_, _≤_};
 ghost use lib.Dec.{eqb};
 ghost use lib.ListN.{length};
-ghost use Rattle.buckets.specs.Signed.{bucketCount, order};
+ghost use Rattle.buckets.specs.Signed.{order};
 ghost use Rattle.exact_rank.specs.Rank.{atRanks, Ranks};
-ghost use Rattle.histogram.specs.Histogram.{total, bucketAt, leftAt};
-ghost use Rattle.quantile_room.specs.Room.{blockCount, roomSize, totals};
+ghost use Rattle.histogram.specs.Histogram.{total};
+ghost use Rattle.quantile_room.specs.Room.{roomSize, totals};
 ghost use Rattle.quantiles.specs.State.{crossed};
-ghost use Rattle.percentiles.specs.Percentiles.{outcome, blockAt, lies, anyLies, spoilt, bucketOf, clamped, histogramValue, percentile, percentilesOf};
-ghost use Rattle.percentiles.specs.Blocks.{blockEnd};
+ghost use Rattle.percentiles.specs.Percentiles.{outcome, anyLies, spoilt, percentile, percentilesOf};
 ghost use Rattle.percentiles.specs.Fours.{orLast, rankAt, fourRanks, putFour};
-use histogram::Found;
 use quantiles::Quantiles;
 
 // The answer of `percentiles`: refusal 5; no samples, so no values; or the values, in the lent answer.
@@ -32,53 +30,7 @@ fn totals_are(q: Quantiles, room: &[u64]) -> bool
     counts_sum::add_up(&room[start..], q.count)
 }
 
-// The block that holds a rank.
-fn held(signed: bool, room: &[u64], rank: u64) -> Found
-    requires { ⌜ length (now room) ≡ roomSize signed ⌝ }
-    ensures { λ r. ⌜ (r .place ≡ bucketAt (totals signed (now (room .entry))) rank) × (r .left ≡ leftAt (totals signed (now (room .entry))) rank) ⌝ }
-{
-    let start = quantile_room::totals_start(signed);
-    histogram::find(&room[start..], rank)
-}
-
-// The word behind a block that begins at a word: 128 on, or where the buckets end.
-fn block_end(signed: bool, from: usize) -> usize
-    requires { ⌜ from < 4096 + bucketCount signed ⌝ }
-    ensures { λ r. ⌜ (r ≡ blockEnd signed from) × (from < r) × (r ≤ 4096 + bucketCount signed) ⌝ }
-{
-    let start = quantile_room::totals_start(signed);
-    if from + 128 < start {
-        from + 128
-    } else {
-        start
-    }
-}
-
-// Whether a block is one that no `record` leaves.
-fn block_lies(signed: bool, room: &[u64], k: usize) -> bool
-    requires { ⌜ (length (now room) ≡ roomSize signed) × (k < blockCount signed) ⌝ }
-    ensures { λ r. ⌜ r ≡ lies signed (now (room .entry)) k ⌝ }
-{
-    let from = 4096 + 128 * k;
-    let end = block_end(signed, from);
-    let at = quantile_room::totals_start(signed) + k;
-    let whole = counts_sum::add_up(&room[from..end], room[at]);
-    if signed & (k == 114) {
-        return !whole | (room[18688] != 0);
-    }
-    !whole
-}
-
-// Whether the block that holds a rank is.
-fn rank_lies(q: Quantiles, room: &[u64], rank: u64) -> bool
-    requires { ⌜ (length (now room) ≡ roomSize (q .signed)) × (total (totals (q .signed) (now room)) ≡ q .count) × (rank < q .count) ⌝ }
-    ensures { λ r. ⌜ r ≡ lies (q .signed) (now (room .entry)) (blockAt q (now (room .entry)) rank) ⌝ }
-{
-    let found = held(q.signed, room, rank);
-    block_lies(q.signed, room, found.place)
-}
-
-// Whether that of one of the percentiles is.
+// Whether the block of one of the percentiles is one that no `record` leaves.
 fn any_lies(q: Quantiles, room: &[u64], ps: &[f64]) -> bool
     requires { ⌜ (length (now room) ≡ roomSize (q .signed)) × (total (totals (q .signed) (now room)) ≡ q .count) × (4096 < q .count) ⌝ }
     ensures { λ r. ⌜ r ≡ anyLies q (now (room .entry)) (now (ps .entry)) ⌝ }
@@ -87,53 +39,12 @@ fn any_lies(q: Quantiles, room: &[u64], ps: &[f64]) -> bool
     while i < ps.len() {
         let p = ps[i];
         let rank = rank::rank(p, q.count);
-        if rank_lies(q, room, rank) {
+        if histogram_ranks::rank_lies(q, room, rank) {
             return true;
         }
         i += 1;
     }
     false
-}
-
-// `clamp`, in the order of the values.
-fn clamp(signed: bool, word: u64, low: u64, high: u64) -> u64
-    ensures { λ r. ⌜ r ≡ clamped signed word low high ⌝ }
-{
-    let is = buckets::ordered(signed, word);
-    if is < buckets::ordered(signed, low) {
-        return low;
-    }
-    if buckets::ordered(signed, high) < is {
-        return high;
-    }
-    word
-}
-
-// The bucket of a rank whose block does not lie.
-fn place_of(q: Quantiles, room: &[u64], rank: u64) -> usize
-    requires { ⌜ (length (now room) ≡ roomSize (q .signed)) × (total (totals (q .signed) (now room)) ≡ q .count) × (rank < q .count) × (lies (q .signed) (now room) (blockAt q (now room) rank) ≡ false) ⌝ }
-    ensures { λ r. ⌜ (r ≡ bucketOf q (now (room .entry)) rank) × (r < bucketCount (q .signed)) ⌝ }
-{
-    let found = held(q.signed, room, rank);
-    let from = 4096 + 128 * found.place;
-    let end = block_end(q.signed, from);
-    let inner = histogram::find(&room[from..end], found.left);
-    128 * found.place + inner.place
-}
-
-// The value that a histogram shows for a rank.
-fn histogram_value(q: Quantiles, room: &[u64], rank: u64) -> u64
-    requires { ⌜ (length (now room) ≡ roomSize (q .signed)) × (total (totals (q .signed) (now room)) ≡ q .count) × (rank < q .count) × (lies (q .signed) (now room) (blockAt q (now room) rank) ≡ false) ⌝ }
-    ensures { λ r. ⌜ r ≡ histogramValue q (now (room .entry)) rank ⌝ }
-{
-    if rank == 0 {
-        return q.min;
-    }
-    if rank == q.count - 1 {
-        return q.max;
-    }
-    let place = place_of(q, room, rank);
-    clamp(q.signed, buckets::shown_by(q.signed, place), q.min, q.max)
 }
 
 // The place i, or the last of `many` where there is no such place.
@@ -217,7 +128,7 @@ fn show_buckets(q: Quantiles, room: &[u64], ps: &[f64], shown: &mut [u64])
     while i < ps.len() {
         let p = ps[i];
         let rank = rank::rank(p, q.count);
-        shown[i] = histogram_value(q, room, rank);
+        shown[i] = histogram_ranks::histogram_value(q, room, rank);
         i += 1;
     }
 }

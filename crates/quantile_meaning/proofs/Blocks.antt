@@ -22,7 +22,7 @@ use Rattle.quantile_room.specs.Room.{blockCount, buckets, totals, blockOf}
 use Rattle.quantiles.specs.Record.{filled, filledBuckets, filledTotals}
 use Rattle.quantile_room.proofs.Places.{block-below}
 use Rattle.quantiles.proofs.Tally.{filled-length}
-use Rattle.percentiles.specs.Percentiles.{blockAt, block, bucketOf}
+use Rattle.histogram_ranks.specs.Ranks.{blockAt, block, bucketOf}
 use Rattle.quantile_meaning.specs.Words.{Words, none, more}
 use Rattle.quantile_meaning.proofs.Buckets.{filled-total, below-by}
 use Rattle.quantile_meaning.proofs.Growth.{Holds}

@@ -15,8 +15,8 @@ use Rattle.exact_rank.proofs.Sorting.{sorted-is-counted}
 use Rattle.histogram.specs.Histogram.{bucketAt}
 use Rattle.quantiles.specs.Record.{filledBuckets}
 use Rattle.quantiles.proofs.Tally.{filled-length}
-use Rattle.percentiles.specs.Percentiles.{clamped}
-use Rattle.percentiles.proofs.Values.{clamp-low, clamp-high, clamp-between}
+use Rattle.histogram_ranks.specs.Ranks.{clamped}
+use Rattle.histogram_ranks.proofs.Values.{clamp-low, clamp-high, clamp-between}
 use Rattle.quantile_meaning.specs.Words.{Words}
 use Rattle.quantile_meaning.proofs.Buckets.{bucket-of-rank, sorted-word}
 

@@ -17,8 +17,10 @@ use Rattle.buckets.specs.Signed.{magnitude, order, gap, indexOf, valueOf}
 use Rattle.histogram.specs.Histogram.{bucketAt}
 use Rattle.quantiles.specs.declared.Quantiles.{Quantiles}
 use Rattle.quantiles.specs.Record.{Outcome, still, taken, grown, stored, refuses, pickOutcome, recorded}
-use Rattle.percentiles.specs.Percentiles.{clamped, histogramValue, valueAt, percentile}
-use Rattle.percentiles.proofs.Values.{shows-sample, shows-histogram, shows-bucket}
+use Rattle.histogram_ranks.specs.Ranks.{clamped, histogramValue}
+use Rattle.percentiles.specs.Percentiles.{valueAt, percentile}
+use Rattle.histogram_ranks.proofs.Values.{shows-bucket}
+use Rattle.percentiles.proofs.Values.{shows-sample, shows-histogram}
 use Rattle.quantile_meaning.specs.Words.{Words, none, more}
 use Rattle.quantile_meaning.specs.Grown.{Kept, fresh, recordAll}
 use Rattle.quantile_meaning.proofs.Meaning.{sampleOf, bucket-of-sample, within-one-part-in-128}

@@ -21,10 +21,11 @@ use Rattle.quantile_room.specs.Room.{blockCount, roomSize, buckets, totals}
 use Rattle.quantiles.specs.State.{crossed}
 use Rattle.quantiles.specs.Record.{filledBuckets, filledTotals}
 use Rattle.percentiles.specs.declared.Showing.the-variants.{Shown}
-use Rattle.percentiles.specs.Percentiles.{outcome, blockAt, block, lies, anyLies, spoilt, bucketOf, clamped, histogramValue, valueAt, percentile, percentilesOf}
+use Rattle.histogram_ranks.specs.Ranks.{blockAt, block, lies, bucketOf, clamped, histogramValue}
+use Rattle.percentiles.specs.Percentiles.{outcome, anyLies, spoilt, valueAt, percentile, percentilesOf}
 use Rattle.percentiles.proofs.Ways.{way-exact, way-histogram}
 use Rattle.percentiles.proofs.Values.{shows-sample, shows-histogram}
-use Rattle.percentiles.proofs.Blocks.{spoilt-block}
+use Rattle.percentiles.proofs.Lies.{spoilt-block}
 use Rattle.quantile_meaning.specs.Words.{Words}
 use Rattle.quantile_meaning.specs.Grown.{fresh, recordAll}
 use Rattle.quantile_meaning.specs.Walk.{walkedValue, walked}

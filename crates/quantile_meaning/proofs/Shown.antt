@@ -18,8 +18,10 @@ use Rattle.buckets.specs.Signed.{magnitude, order, gap, indexOf, valueOf}
 use Rattle.histogram.specs.Histogram.{bucketAt}
 use Rattle.quantiles.specs.declared.Quantiles.{Quantiles}
 use Rattle.quantiles.specs.Record.{Outcome, taken, grown, recorded}
-use Rattle.percentiles.specs.Percentiles.{clamped, histogramValue, valueAt, percentile}
-use Rattle.percentiles.proofs.Values.{shows-histogram, shows-min, shows-max, shows-bucket}
+use Rattle.histogram_ranks.specs.Ranks.{clamped, histogramValue}
+use Rattle.percentiles.specs.Percentiles.{valueAt, percentile}
+use Rattle.histogram_ranks.proofs.Values.{shows-min, shows-max, shows-bucket}
+use Rattle.percentiles.proofs.Values.{shows-histogram}
 use Rattle.quantile_meaning.specs.Words.{Words}
 use Rattle.quantile_meaning.specs.Grown.{Kept, fresh, recordAll}
 use Rattle.quantile_meaning.proofs.Meaning.{sampleOf, within-one-part-in-128}

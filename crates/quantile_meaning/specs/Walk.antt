@@ -11,7 +11,7 @@ use Rattle.buckets.specs.Signed.{order, valueOf}
 use Rattle.histogram.specs.Histogram.{bucketAt}
 use Rattle.quantiles.specs.declared.Quantiles.{Quantiles}
 use Rattle.quantile_room.specs.Room.{buckets}
-use Rattle.percentiles.specs.Percentiles.{clamped}
+use Rattle.histogram_ranks.specs.Ranks.{clamped}
 
 -- histogram: rank 0 is the minimum, the last the maximum, else the value of the first bucket with which all counts from bucket 0 on,
 -- added up, pass the rank, clamped to both

@@ -6,8 +6,9 @@ use denote.Ref.{now}
 use lib.ListN.{length, getD, drop}
 use lib.Ieee.{nan}
 use Rattle.rank.specs.Rank.{rank-below}
-use Rattle.percentiles.specs.Percentiles.{blockAt, lies, anyLies}
-use Rattle.percentiles.proofs.Blocks.{next-lies, next-true, none-left}
+use Rattle.histogram_ranks.specs.Ranks.{blockAt, lies}
+use Rattle.percentiles.specs.Percentiles.{anyLies}
+use Rattle.percentiles.proofs.Lies.{next-lies, next-true, none-left}
 use borrow.Author.Needs.{needs}
 use Rattle.percentiles.proofs.any_lies.Statement.{statement}
 use Rattle.percentiles.proofs.any_lies.Tie as tie

@@ -9,8 +9,9 @@ use native.Mathlib.Omega.{arith}
 use denote.Ref.{now}
 use lib.ListN.{length, getD, take, drop, set, length-set}
 use Rattle.rank.specs.Rank.{rank-below}
-use Rattle.percentiles.specs.Percentiles.{blockAt, lies, percentile}
-use Rattle.percentiles.proofs.Blocks.{unspoilt-sum, unspoilt-blocks, none-lies}
+use Rattle.histogram_ranks.specs.Ranks.{blockAt, lies}
+use Rattle.percentiles.specs.Percentiles.{percentile}
+use Rattle.percentiles.proofs.Lies.{unspoilt-sum, unspoilt-blocks, none-lies}
 use Rattle.percentiles.proofs.Values.{shows-histogram, shown-next, shown-all, percentile-is}
 use Rattle.percentiles.proofs.show_buckets.Statement.{statement}
 use Rattle.percentiles.proofs.show_buckets.Tie as tie

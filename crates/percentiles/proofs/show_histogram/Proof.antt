@@ -6,7 +6,7 @@ use borrow.Author.Tests.{eqb-true, not-true, not-false}
 use denote.Ref.{now}
 use Rattle.percentiles.specs.declared.Showing.the-variants.{Shown}
 use Rattle.percentiles.specs.Percentiles.{outcome}
-use Rattle.percentiles.proofs.Blocks.{spoilt-sum, spoilt-block}
+use Rattle.percentiles.proofs.Lies.{spoilt-sum, spoilt-block}
 use Rattle.percentiles.proofs.Ways.{way-spoilt, way-histogram}
 use borrow.Author.Needs.{needs}
 use Rattle.percentiles.proofs.show_histogram.Statement.{statement}

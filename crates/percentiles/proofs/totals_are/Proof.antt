@@ -6,7 +6,7 @@ use denote.Ref.{now}
 use lib.Dec.{eqb}
 use lib.ListN.{length}
 use Rattle.histogram.specs.Histogram.{total}
-use Rattle.percentiles.proofs.Blocks.{lent-totals, totals-length, few-blocks}
+use Rattle.histogram_ranks.proofs.Blocks.{lent-totals, totals-length, few-blocks}
 use borrow.Author.Needs.{needs}
 use Rattle.percentiles.proofs.totals_are.Statement.{statement}
 use Rattle.percentiles.proofs.totals_are.Tie as tie

@@ -1,4 +1,4 @@
--- `percentiles::block_lies` meets its contract. Assumes nothing.
+-- `histogram_ranks::block_lies` meets its contract. Assumes nothing.
 use mathlib.Core.Path.{sym, _∙_, ap₂, subst}
 use mathlib.Core.List.{List}
 use Prim.Native.Nat.{ℕ, _≤_}
@@ -7,10 +7,10 @@ use denote.Ref.{now}
 use lib.Dec.{eqb}
 use lib.ListN.{length}
 use Rattle.histogram.specs.Histogram.{total}
-use Rattle.percentiles.proofs.Blocks.{block-from, few-below, lent-block, block-length, block-word, last-in, lies-last, lies-other}
+use Rattle.histogram_ranks.proofs.Blocks.{block-from, few-below, lent-block, block-length, block-word, last-in, lies-last, lies-other}
 use borrow.Author.Needs.{needs}
-use Rattle.percentiles.proofs.block_lies.Statement.{statement}
-use Rattle.percentiles.proofs.block_lies.Tie as tie
+use Rattle.histogram_ranks.proofs.block_lies.Statement.{statement}
+use Rattle.histogram_ranks.proofs.block_lies.Tie as tie
 
 mul-from : tie.Need-mul-from
 mul-from c = record { fits = omega (arith, few-below (c .before .args .signed) (c .before .args .k) (c .before .pre .1)) }

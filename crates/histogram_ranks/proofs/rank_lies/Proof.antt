@@ -1,11 +1,11 @@
--- `percentiles::rank_lies` meets its contract. Assumes nothing.
+-- `histogram_ranks::rank_lies` meets its contract. Assumes nothing.
 use mathlib.Core.Path.{_∙_, ap}
 use denote.Ref.{now}
-use Rattle.percentiles.specs.Percentiles.{lies}
-use Rattle.percentiles.proofs.Blocks.{block-below}
+use Rattle.histogram_ranks.specs.Ranks.{lies}
+use Rattle.histogram_ranks.proofs.Blocks.{block-below}
 use borrow.Author.Needs.{needs}
-use Rattle.percentiles.proofs.rank_lies.Statement.{statement}
-use Rattle.percentiles.proofs.rank_lies.Tie as tie
+use Rattle.histogram_ranks.proofs.rank_lies.Statement.{statement}
+use Rattle.histogram_ranks.proofs.rank_lies.Tie as tie
 
 held-requires : tie.Need-held-requires
 held-requires c κs = search needs

@@ -1,13 +1,13 @@
--- `percentiles::histogram_value` meets its contract. Assumes nothing.
+-- `histogram_ranks::histogram_value` meets its contract. Assumes nothing.
 use mathlib.Core.Path.{_∙_, ap}
 use Prim.Native.Nat.{ℕ}
 use denote.Ref.{now}
 use Rattle.buckets.specs.Signed.{valueOf}
-use Rattle.percentiles.specs.Percentiles.{clamped}
-use Rattle.percentiles.proofs.Values.{shows-min, shows-max, shows-bucket}
+use Rattle.histogram_ranks.specs.Ranks.{clamped}
+use Rattle.histogram_ranks.proofs.Values.{shows-min, shows-max, shows-bucket}
 use borrow.Author.Needs.{needs}
-use Rattle.percentiles.proofs.histogram_value.Statement.{statement}
-use Rattle.percentiles.proofs.histogram_value.Tie as tie
+use Rattle.histogram_ranks.proofs.histogram_value.Statement.{statement}
+use Rattle.histogram_ranks.proofs.histogram_value.Tie as tie
 
 returns : tie.Need-returns
 returns c =

@@ -1,4 +1,4 @@
--- `percentiles::clamp` meets its contract. Assumes nothing.
+-- `histogram_ranks::clamp` meets its contract. Assumes nothing.
 use mathlib.Core.Path.{_≡_, sym, _∙_, ap, subst}
 use mathlib.Core.Bool.{Bool, true, false}
 use mathlib.Core.List.{List}
@@ -6,10 +6,10 @@ use Prim.Native.Nat.{ℕ, _+_, _-_, _^_, _≤_, _<_}
 use native.Mathlib.Omega.{arith}
 use denote.Ref.{now}
 use lib.ListN.{length, getD, take, drop, length-drop}
-use Rattle.percentiles.proofs.Values.{clamp-low, clamp-high, clamp-between}
+use Rattle.histogram_ranks.proofs.Values.{clamp-low, clamp-high, clamp-between}
 use borrow.Author.Needs.{needs}
-use Rattle.percentiles.proofs.clamp.Statement.{statement}
-use Rattle.percentiles.proofs.clamp.Tie as tie
+use Rattle.histogram_ranks.proofs.clamp.Statement.{statement}
+use Rattle.histogram_ranks.proofs.clamp.Tie as tie
 
 ordered-requires : tie.Need-ordered-requires
 ordered-requires c κs = search needs

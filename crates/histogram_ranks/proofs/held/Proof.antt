@@ -1,13 +1,13 @@
--- `percentiles::held` meets its contract. Assumes nothing.
+-- `histogram_ranks::held` meets its contract. Assumes nothing.
 use mathlib.Core.Path.{_∙_, ap}
 use mathlib.Core.List.{List}
 use Prim.Native.Nat.{ℕ}
 use denote.Ref.{now}
 use Rattle.histogram.specs.Histogram.{bucketAt, leftAt}
-use Rattle.percentiles.proofs.Blocks.{lent-totals}
+use Rattle.histogram_ranks.proofs.Blocks.{lent-totals}
 use borrow.Author.Needs.{needs}
-use Rattle.percentiles.proofs.held.Statement.{statement}
-use Rattle.percentiles.proofs.held.Tie as tie
+use Rattle.histogram_ranks.proofs.held.Statement.{statement}
+use Rattle.histogram_ranks.proofs.held.Tie as tie
 
 totals-start-requires : tie.Need-totals-start-requires
 totals-start-requires c κs = search needs

@@ -1,4 +1,4 @@
--- `percentiles::block_end` meets its contract. Assumes nothing.
+-- `histogram_ranks::block_end` meets its contract. Assumes nothing.
 use mathlib.Core.Path.{sym, _∙_, subst}
 use mathlib.Core.Bool.{Bool, true, false}
 use Prim.Native.Nat.{ℕ, _+_, _^_, _≤_, _<_}
@@ -6,8 +6,8 @@ use native.Mathlib.Omega.{arith}
 use Rattle.buckets.specs.Signed.{bucketCount}
 use Rattle.buckets.proofs.SignedFacts.{pick-below, pick-above}
 use borrow.Author.Needs.{needs}
-use Rattle.percentiles.proofs.block_end.Statement.{statement}
-use Rattle.percentiles.proofs.block_end.Tie as tie
+use Rattle.histogram_ranks.proofs.block_end.Statement.{statement}
+use Rattle.histogram_ranks.proofs.block_end.Tie as tie
 
 small : (s : Bool) (from : ℕ) → from < 4096 + bucketCount s → from + 128 < 2 ^ 64
 small true from h = omega arith

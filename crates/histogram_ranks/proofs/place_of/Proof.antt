@@ -1,4 +1,4 @@
--- `percentiles::place_of` meets its contract. Assumes nothing.
+-- `histogram_ranks::place_of` meets its contract. Assumes nothing.
 use mathlib.Core.Path.{_∙_, ap}
 use mathlib.Core.Bool.{Bool, true, false}
 use mathlib.Core.List.{List}
@@ -7,10 +7,10 @@ use native.Mathlib.Omega.{arith}
 use denote.Ref.{now}
 use Rattle.buckets.specs.Signed.{bucketCount}
 use Rattle.histogram.specs.Histogram.{bucketAt}
-use Rattle.percentiles.proofs.Blocks.{block-from, block-below, few-below, lent-block, bucket-in, bucket-is, bucket-below}
+use Rattle.histogram_ranks.proofs.Blocks.{block-from, block-below, few-below, lent-block, bucket-in, bucket-is, bucket-below}
 use borrow.Author.Needs.{needs}
-use Rattle.percentiles.proofs.place_of.Statement.{statement}
-use Rattle.percentiles.proofs.place_of.Tie as tie
+use Rattle.histogram_ranks.proofs.place_of.Statement.{statement}
+use Rattle.histogram_ranks.proofs.place_of.Tie as tie
 
 small : (s : Bool) (n : ℕ) → n < bucketCount s → n < 2 ^ 64
 small true n h = omega arith
