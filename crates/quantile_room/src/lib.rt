@@ -1,10 +1,10 @@
 // The room that quantiles are lent, in place of `Storage` of src/stats/quantiles.rs: 4,096 samples, then the buckets, then a total for each block of
-// 128 buckets. Where its words lie, and one sample more in its counts. It stands apart from `quantiles`, which has the state: here are words alone.
+// 128 buckets. Where its words lie, a sample at its place, and one more in its counts. It stands apart from `quantiles`, which has the state: here are words alone.
 ghost use mathlib.Core.Path.{_≡_};
 ghost use mathlib.Core.Bool.{false};
 ghost use mathlib.Core.List.{_++_};
 ghost use Prim.Native.Nat.{_+_, _/_, _<_};
-ghost use lib.ListN.{length};
+ghost use lib.ListN.{length, set};
 ghost use Rattle.buckets.specs.Signed.{bucketCount};
 ghost use Rattle.histogram.specs.Histogram.{bumped};
 ghost use Rattle.quantile_room.specs.Room.{roomSize, samples, buckets as bucketsOf, totals, fullAt};
@@ -24,6 +24,14 @@ pub fn totals_start(signed: bool) -> usize
     ensures { λ r. ⌜ r ≡ 4096 + bucketCount signed ⌝ }
 {
     if signed { 18689 } else { 11520 }
+}
+
+// A sample at its place.
+pub fn put_sample(room: &mut [u64], place: usize, value: u64)
+    requires { ⌜ place < length (now room) ⌝ }
+    ensures { λ r. ⌜ now (room .exit) ≡ set (now (room .entry)) place value ⌝ }
+{
+    room[place] = value;
 }
 
 // Whether a bucket, or the total of its block, has no room for one more.

@@ -91,7 +91,7 @@ fn add_sample(q: Quantiles, room: &mut [u64], value: u64) -> Recording
     ensures { λ r. ⌜ outcome q r (now (room .exit)) ≡ recorded q (now (room .entry)) value ⌝ }
 {
     let next = q.count as usize;
-    room[next] = value;
+    quantile_room::put_sample(room, next, value);
     Recording::Counted(grow(q, value))
 }
 
@@ -131,7 +131,7 @@ fn try_sample(q: Quantiles, room: &mut [u64], value: u64) -> bool
         return false;
     }
     let behind = q.count as usize;
-    room[behind] = value;
+    quantile_room::put_sample(room, behind, value);
     true
 }
 
@@ -160,7 +160,7 @@ impl Quantiles {
         if room.len() != quantile_room::room_size(self.signed) {
             return Recording::Refused;
         }
-        room[0] = value;
+        quantile_room::put_sample(room, 0, value);
         Recording::Counted(Quantiles {
             signed: self.signed,
             count: 1,
