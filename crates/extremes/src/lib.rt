@@ -1,5 +1,5 @@
-// The least and the greatest of a series of samples, as plain words: what a sample more does to them, and whether they are in order. It stands apart
-// from `quantiles`, whose state holds them, so that an edit of these tests proves no room anew.
+// The least and the greatest of a series of samples, as plain words: what a sample more does to them, and whether they are in order. It stands
+// apart from `quantiles`, whose state holds them: nothing here needs the room.
 ghost use mathlib.Core.Path.{_≡_};
 ghost use mathlib.Core.Bool.{_&&_};
 ghost use lib.Dec.{ltb, leb};

@@ -1,5 +1,5 @@
-// What the histogram of `Quantiles` in src/stats/quantiles.rs shows for one rank: the block that holds it, by the totals, then the bucket in that block.
-// It stands apart from `percentiles`, which asks it for each rank.
+// What the histogram of `Quantiles` in src/stats/quantiles.rs shows for one rank: the block that holds it, by the totals, then the bucket in
+// that block. It stands apart from `percentiles`, which asks it for each rank.
 ghost use mathlib.Core.Path.{_≡_};
 ghost use mathlib.Core.Bool.{false};
 ghost use Prim.Native.Nat.{_+_, _<_, _≤_};

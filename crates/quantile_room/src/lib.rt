@@ -1,5 +1,6 @@
-// The room that quantiles are lent, in place of `Storage` of src/stats/quantiles.rs: 4,096 samples, then the buckets, then a total for each block of
-// 128 buckets. Where its words lie, a sample at its place, and one more in its counts. It stands apart from `quantiles`, which has the state: here are words alone.
+// The room that quantiles are lent, in place of `Storage` of src/stats/quantiles.rs: 4,096 samples, then the buckets, then a total for each
+// block of 128 buckets. Where its words lie, a sample at its place, and one more in its counts. It stands apart from `quantiles`, which has the
+// state: here are words alone.
 ghost use mathlib.Core.Path.{_≡_};
 ghost use mathlib.Core.Bool.{false};
 ghost use mathlib.Core.List.{_++_};

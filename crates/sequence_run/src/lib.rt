@@ -1,5 +1,6 @@
-// The run of ascending sequences at the end of a queue, as plain numbers: how many are queued, and how many of the last of them are known to ascend.
-// While the run covers the queue, no sequence is queued twice. It stands apart from `monitor`, which keeps the two numbers, and whose walks it needs none of.
+// The run of ascending sequences at the end of a queue, as plain numbers: how many are queued, and how many of the last of them are known to
+// ascend. While the run covers the queue, no sequence is queued twice. It stands apart from `monitor`, which keeps these numbers: nothing here
+// needs the queue itself.
 ghost use mathlib.Core.Path.{_≡_};
 ghost use Prim.Native.Nat.{_+_, _<_};
 ghost use lib.Dec.{ltb, leb, eqb};
