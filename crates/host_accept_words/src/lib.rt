@@ -1,8 +1,8 @@
 // The ledger's `accept` on the words and the rooms that a host lends: what a single call and a list of them have in common, with a monitor and
 // without. It is no call of its own, since a crate that exports one cannot be what another call's object is made of. The refusals are tested in the
 // words, the key and the probe are looked for once, and what is counted is stepped in its words (a unique reply: crate host_unique_reply): a whole
-// ledger would stay in registers and on the stack over all of that, which was a fifth of a unique reply's time. Crate ledger_accept has the same call on a ledger by value; its
-// contract and this one cite one definition, `acceptTo`.
+// ledger would stay in registers and on the stack over all of that, which was a fifth of a unique reply's time. Crate ledger_accept has what becomes
+// of the probe of a unique reply.
 ghost use mathlib.Core.Path.{_≡_};
 ghost use mathlib.Core.Bool.{true, _&&_};
 ghost use Prim.Native.Nat.{_≤_, _<_};

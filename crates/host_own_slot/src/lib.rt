@@ -1,6 +1,6 @@
 // The ranges of refusal 1 and the own correlation slot of an observation, straight from the words that a host lends. Taken out of its words
 // an observation has its estimates decoded, and its slot has them encoded again: that was a fifth of the instructions of a round trip's observe.
-// Crate ranges has the ranges of an observation by value, to the same definition.
+// Crate ranges has the range of each field.
 ghost use mathlib.Core.Path.{_≡_};
 ghost use Prim.Native.Nat.{_+_, _*_, _^_, _≤_, _<_};
 ghost use lib.ListN.{length};

@@ -1,5 +1,5 @@
 // The counts of a unique reply in the words of a ledger. Of fifteen an ordinary reply raises three or four, and what does not change is not stored.
-// Crate replies has the same rule by value, `Replies::unique`; both cite one definition.
+// What they become is `afterUnique` of crate replies.
 ghost use mathlib.Core.Path.{_≡_};
 ghost use Prim.Native.Nat.{_+_, _%_, _^_, _<_};
 ghost use lib.Dec.{leb};
