@@ -751,7 +751,7 @@ uint8_t ambrulicciu_log_trim(const uint8_t *log, size_t log_length, uint16_t cop
 
 /* The report of a log, played from fresh in the rooms, which may hold anything. Refuses 5: a room, the queue or the buffer of another
  * size; then 9, 7, 8: the log itself. Which record is bad of one that is refused with 8, ambrulicciu_log_first_bad says.
- * Stack: 6 KB. */
+ * Stack: 4 KB. */
 uint8_t ambrulicciu_report_log(const uint8_t *log, size_t log_length, const uint32_t secret[8], ambrulicciu_key *keys,
                                size_t keys_length, ambrulicciu_slot *slots, size_t slots_length, ambrulicciu_probe *probes,
                                size_t probes_length, uint32_t *offsets, size_t offsets_length, ambrulicciu_chain *links,
