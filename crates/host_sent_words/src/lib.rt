@@ -1,6 +1,6 @@
-// The ledger's `sent` on the words and the rooms that a host lends: what the calls with a monitor and without have in common. It is no call of its own,
-// since a crate that exports one cannot be what another call's object is made of. Each call tests its refusals in the words before: of the ledger that
-// is then taken out it needs a few words alone, and the others are not read.
+// The ledger's `sent` on the words and the rooms that a host lends: what the calls with a monitor and without, and the player of a log, have in common.
+// It is no call of its own, since a crate that exports one cannot be what another call's object is made of. Refusals are tested in the words before a
+// probe is served: of the ledger that is then taken out it needs a few words alone, and the others are not read.
 ghost use mathlib.Core.Path.{_≡_};
 ghost use lib.ListN.{length};
 ghost use Rattle.ledger_steps.specs.Calls.{sentTo};

@@ -1,7 +1,7 @@
-// The ledger's `accept` with a monitor, on the words and the rooms that a host lends: what a single call and a list of them have in common. It is no
-// call of its own, since a crate that exports one cannot be what another call's object is made of. The ledger stays in its words (crate
-// host_accept_words); the monitor is a small part, and is taken out, stepped by value and put back. What both do is `acceptTo`
-// of crate ledger_watched, which has the definitions of the calls with a monitor.
+// The ledger's `accept` with a monitor, on the words and the rooms that a host lends: what a single call and a list of them have in common, and the
+// ledger's part alone, which the player of a log makes too. It is no call of its own, since a crate that exports one cannot be what another call's
+// object is made of. The ledger stays in its words (crate host_accept_words); the monitor is a small part, and is taken out, stepped by value and put
+// back. What both do is `acceptTo` of crate ledger_watched, which has the definitions of the calls with a monitor.
 // What is lent the queue is a straight line of calls, so that the walk of it is short; what depends on a test is in the functions before it.
 ghost use mathlib.Core.Path.{_≡_};
 ghost use Rattle.monitor.specs.Refusals.{refusalOf};
