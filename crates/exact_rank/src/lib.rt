@@ -226,7 +226,7 @@ fn picked(samples: &[u64], count: usize, bias: u64, four: Four) -> Four
 {
     let node = four.first;
     let mut keys = [0u64; 256];
-    sample_passes::gather(samples, count, bias, node.low, node.high, &mut keys);
+    sample_gather::gather(samples, count, bias, node.low, node.high, &mut keys);
     let held = (node.through - node.before) as usize;
     let value = within(
         sample_guess::chosen(&keys, held, node.rank - node.before),

@@ -4,4 +4,3 @@ pub mod Ends
 pub mod DigitCounts
 pub mod Blocks
 pub mod Tallies
-pub mod Gathering

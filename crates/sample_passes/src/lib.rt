@@ -7,7 +7,7 @@ ghost use Prim.Native.Nat.{ℕ, _+_, _-_, _*_, _/_, _%_, _^_, _<_, _≤_};
 ghost use lib.ListN.{length, getD, take};
 ghost use Rattle.sample_passes.specs.Keys.{shifted, InOrder, InReverse};
 ghost use Rattle.sample_passes.specs.Counting.{oneIf, below};
-ghost use Rattle.sample_passes.specs.Passes.{Least, Most, Nearer, Shorter, Counted, Gathered};
+ghost use Rattle.sample_passes.specs.Passes.{Least, Most, Nearer, Shorter, Counted};
 
 // The number by which samples are ordered.
 pub fn key(sample: u64, bias: u64) -> u64
@@ -17,7 +17,7 @@ pub fn key(sample: u64, bias: u64) -> u64
 }
 
 // How far the sample's key lies past `low`, going round: so no more than `high - low` only where it lies from low to high.
-fn past(sample: u64, bias: u64, low: u64) -> u64
+pub fn past(sample: u64, bias: u64, low: u64) -> u64
     ensures { λ r. ⌜ (r + low) % 2 ^ 64 ≡ shifted bias sample ⌝ }
 {
     std::num::wrapping_sub_u64(key(sample, bias), low)
@@ -187,25 +187,6 @@ pub fn around(samples: &[u64], count: usize, bias: u64, value: u64) -> Tally
         i += 1;
     }
     Tally { under, reach }
-}
-
-// The keys from low to high, where no more than 256 samples have one: as many as there are such samples, in the samples' order. They are
-// put where the caller has room, so that they are not copied.
-pub fn gather(samples: &[u64], count: usize, bias: u64, low: u64, high: u64, keys: &mut [u64; 256])
-    requires { ⌜ (count ≤ length (now samples)) × (low ≤ high) × (length (now keys) ≡ 256) ⌝ }
-    ensures { λ r. ⌜ Gathered (shifted bias) (take count (now (samples .entry))) low high (now (keys .exit)) × (length (now (keys .exit)) ≡ 256) ⌝ }
-{
-    let span = high - low;
-    let mut n: usize = 0;
-    let mut i = 0;
-    while i < count {
-        let d = past(samples[i], bias, low);
-        if d <= span {
-            keys[n % 256] = low + d;
-            n += 1;
-        }
-        i += 1;
-    }
 }
 
 // 0 where no key falls below the one before it, in the 16 steps from `base`.

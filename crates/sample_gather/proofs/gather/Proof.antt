@@ -1,4 +1,4 @@
--- `sample_passes::gather` meets its contract: the loop's invariant: what is kept are the keys of the samples passed.
+-- `sample_gather::gather` meets its contract: the loop's invariant: what is kept are the keys of the samples passed.
 -- Assumes nothing.
 use Prim.Native.Nat.{_≤_, _-_, _%_}
 use mathlib.Core.Path.{_≡_}
@@ -6,11 +6,11 @@ use mathlib.Core.Logic.{⊎-elim}
 use native.Mathlib.Omega.{arith}
 use lib.ListN.{length, take, length-set}
 use borrow.Author.Needs.{needs}
 use Rattle.sample_passes.specs.Keys.{shifted}
 use Rattle.sample_passes.specs.Passes.{Gathering}
-use Rattle.sample_passes.proofs.Gathering.{gathering-none, one-kept, one-passed, gathered-all}
-use Rattle.sample_passes.proofs.gather.Statement.{statement}
-use Rattle.sample_passes.proofs.gather.Tie as tie
+use Rattle.sample_gather.proofs.Gathering.{gathering-none, one-kept, one-passed, gathered-all}
+use Rattle.sample_gather.proofs.gather.Statement.{statement}
+use Rattle.sample_gather.proofs.gather.Tie as tie
 
 abbrev Inv-loop : tie.InvT-loop
 Inv-loop samples count bias low high keys₀ span n₀ i₀ keys n i =
