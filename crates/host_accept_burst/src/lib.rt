@@ -16,12 +16,8 @@ use host_burst::refusal_of_list;
 use host_burst::reply_at;
 use host_burst::served_of_list;
 use host_ledger::LEDGER_WORDS;
+use host_ledger::counted;
 use limits::CAPACITY;
-
-// How many words a ledger has, for the proof: the code of it is nothing.
-fn counted(_words: [u64; LEDGER_WORDS])
-    ensures { λ _. ⌜ length «_words» ≡ 80 ⌝ }
-{}
 
 // Entry i; `sure` is whether it is known that the ledger refuses no entry that is left.
 fn serve_entry(

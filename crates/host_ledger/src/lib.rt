@@ -1,6 +1,7 @@
 // The ledger in the words that a host lends (specs/Words.antt has their order): what any words say, and what each call stores.
 // A call stores only the words that it changes: a store of all of them would cost more than a duplicate reply.
 ghost use mathlib.Core.Path.{_≡_};
+ghost use lib.ListN.{length};
 ghost use lib.Seq.{sets};
 ghost use Rattle.host_quality.specs.Words.{qualityAt};
 ghost use Rattle.host_ledger.specs.Parts.{secretAt, secretWords, SecretKept, repliesAt, windowAt, directAt, followAt};
@@ -35,6 +36,11 @@ use replies::Totals;
 
 // How many words there are. The last are not used yet: a count that comes needs no longer state.
 pub const LEDGER_WORDS: usize = 80;
+
+// That many are lent, said for the proof of a caller: the code of it is nothing.
+pub fn counted(_words: [u64; LEDGER_WORDS])
+    ensures { λ _. ⌜ length «_words» ≡ 80 ⌝ }
+{}
 
 // ---- the ledger out of its words
 

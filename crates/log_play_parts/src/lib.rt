@@ -3,7 +3,6 @@
 // that either part refuses changes neither (link_steps).
 ghost use mathlib.Core.Path.{_≡_};
 ghost use lib.Dec.{eqb};
-ghost use lib.ListN.{length};
 ghost use Rattle.ledger_steps.specs.Calls.{observeTo};
 ghost use Rattle.link_steps.specs.Steps.{watchRefuses, watchRefusesSent};
 ghost use Rattle.record_parts.specs.Fits.{ObservationFits};
@@ -16,6 +15,7 @@ use call_types::Call;
 use call_types::ReplyObservation;
 use call_types::SentProbe;
 use host_ledger::LEDGER_WORDS;
+use host_ledger::counted;
 use host_watched_accept_words::ReplyAnswer;
 use link_steps::Watch;
 use log_whole::PlayedCall as Read;
@@ -120,11 +120,6 @@ fn observe(
     let words = host_call_words::observation_words(told);
     host_observe_words::observe(ledger, keys, slots, offsets, links, &words)
 }
-
-// How many words a ledger has, for the proof: the code of it is nothing.
-fn counted(_words: [u64; LEDGER_WORDS])
-    ensures { λ _. ⌜ length «_words» ≡ 80 ⌝ }
-{}
 
 // The ledger's part of a call, with the monitor's refusal.
 fn call_part(
