@@ -15,6 +15,7 @@ use Rattle.host_calls.specs.Calls as host_calls
 use Rattle.host_ledger.specs.Words.{ledgerAt, tablesWords}
 use Rattle.host_ledger.specs.Left.{countedWords}
 use Rattle.host_accept_words.specs.Served.{servedWords}
+use Rattle.host_ledger.specs.Places as place
 
 -- the number returned, the words of the ledger, the four rooms and the answer's words
 pub record AcceptLeft : Type 0 where
@@ -56,7 +57,7 @@ servedLeaves w o = acceptLeft 0 (servedWords w (o .ledger) (o .accepted)) (o .ke
 
 -- one call more, both rings, and that the key of a unique reply awaits its observation
 unfoldable pub ringsStored : List ℕ → Ring → Ring → List ℕ
-ringsStored w keys probes = sets (set w 5 (getD w 5 0 + 1)) 6 (tablesWords (record { keys = keys; probes = probes; awaits = true }))
+ringsStored w keys probes = sets (set w place.calls (getD w place.calls 0 + 1)) place.keysHead (tablesWords (record { keys = keys; probes = probes; awaits = true }))
 
 -- the words after a duplicate: those that the library's ledger after it is stored as
 unfoldable pub duplicateWords : List ℕ → List ℕ

@@ -17,9 +17,11 @@ ghost use Rattle.ledger_steps.specs.Accept.{readied, uniqueIn, acceptOn};
 ghost use Rattle.ledger_checks.specs.Sound.{SoundAccept};
 ghost use Rattle.host_ledger.specs.Words.{ledgerAt};
 ghost use Rattle.host_accept_words.specs.Accept.{acceptLeft, ringsStored, duplicateWords, unknownWords, servedLeaves};
+ghost use Rattle.host_ledger.specs.Places as place;
 use call_types::Reply;
 use chains::Ring;
 use host_ledger::LEDGER_WORDS;
+use host_ledger::places;
 use ledger_state::Tables;
 use limits::CAPACITY;
 use probe_ring::Remembered;
@@ -28,37 +30,37 @@ use probe_ring::Remembered;
 
 // One call and one duplicate more.
 fn count_duplicate(ledger: &mut [u64; LEDGER_WORDS])
-    requires { ⌜ (getD (now ledger) 5 0 < mostCalls) × (getD (now ledger) 13 0 < countBound) ⌝ }
+    requires { ⌜ (getD (now ledger) place.calls 0 < mostCalls) × (getD (now ledger) place.duplicate 0 < countBound) ⌝ }
     ensures { λ _. ⌜ now (ledger .exit) ≡ duplicateWords (now (ledger .entry)) ⌝ }
 {
-    let calls = ledger[5];
-    let duplicate = ledger[13];
-    let unknown = ledger[14];
-    ledger[5] = calls + 1;
-    ledger[13] = duplicate + 1;
-    ledger[14] = unknown;
+    let calls = ledger[places::CALLS];
+    let duplicate = ledger[places::DUPLICATE];
+    let unknown = ledger[places::UNKNOWN];
+    ledger[places::CALLS] = calls + 1;
+    ledger[places::DUPLICATE] = duplicate + 1;
+    ledger[places::UNKNOWN] = unknown;
 }
 
 // One call and one unknown reply more.
 fn count_unknown(ledger: &mut [u64; LEDGER_WORDS])
-    requires { ⌜ (getD (now ledger) 5 0 < mostCalls) × (getD (now ledger) 14 0 < countBound) ⌝ }
+    requires { ⌜ (getD (now ledger) place.calls 0 < mostCalls) × (getD (now ledger) place.unknown 0 < countBound) ⌝ }
     ensures { λ _. ⌜ now (ledger .exit) ≡ unknownWords (now (ledger .entry)) ⌝ }
 {
-    let calls = ledger[5];
-    let duplicate = ledger[13];
-    let unknown = ledger[14];
-    ledger[5] = calls + 1;
-    ledger[13] = duplicate;
-    ledger[14] = unknown + 1;
+    let calls = ledger[places::CALLS];
+    let duplicate = ledger[places::DUPLICATE];
+    let unknown = ledger[places::UNKNOWN];
+    ledger[places::CALLS] = calls + 1;
+    ledger[places::DUPLICATE] = duplicate;
+    ledger[places::UNKNOWN] = unknown + 1;
 }
 
 // One call more; both rings, and that the key of a unique reply awaits one observe.
 fn store_rings(ledger: &mut [u64; LEDGER_WORDS], keys: Ring, probes: Ring)
-    requires { ⌜ getD (now ledger) 5 0 < mostCalls ⌝ }
+    requires { ⌜ getD (now ledger) place.calls 0 < mostCalls ⌝ }
     ensures { λ _. ⌜ now (ledger .exit) ≡ ringsStored (now (ledger .entry)) keys probes ⌝ }
 {
-    let calls = ledger[5];
-    ledger[5] = calls + 1;
+    let calls = ledger[places::CALLS];
+    ledger[places::CALLS] = calls + 1;
     host_ledger::store_tables(
         ledger,
         Tables {

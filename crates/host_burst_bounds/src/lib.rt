@@ -6,6 +6,7 @@ ghost use lib.Dec.{leb, ltb};
 ghost use lib.ListN.{getD};
 ghost use Rattle.host_burst_bounds.specs.Lasts.{far, lowTotals, lowAnswers, lowOthers, lasts as lastsFor};
 use host_ledger::LEDGER_WORDS;
+use host_ledger::places;
 
 // Most replies of a list.
 const MOST: usize = 256;
@@ -19,23 +20,29 @@ const LAST_CALLS: u64 = 4294967039;
 fn low_totals(state: &[u64; LEDGER_WORDS]) -> bool
     ensures { λ r. ⌜ r ≡ lowTotals (now (state .entry)) ⌝ }
 {
-    (state[11] < FAR) & (state[12] < FAR) & (state[13] < FAR) & (state[14] < FAR)
+    (state[places::REQUESTED] < FAR)
+        & (state[places::UNIQUE] < FAR)
+        & (state[places::DUPLICATE] < FAR)
+        & (state[places::UNKNOWN] < FAR)
 }
 
 fn low_answers(state: &[u64; LEDGER_WORDS]) -> bool
     ensures { λ r. ⌜ r ≡ lowAnswers (now (state .entry)) ⌝ }
 {
-    (state[15] < FAR) & (state[16] < FAR) & (state[17] < FAR) & (state[18] < FAR)
+    (state[places::ANSWERED] < FAR)
+        & (state[places::ADDITIONAL] < FAR)
+        & (state[places::LATE] < FAR)
+        & (state[places::SATISFIED] < FAR)
 }
 
 fn low_others(state: &[u64; LEDGER_WORDS]) -> bool
     ensures { λ r. ⌜ r ≡ lowOthers (now (state .entry)) ⌝ }
 {
-    (state[21] < FAR)
-        & (state[22] < FAR)
-        & (state[23] < FAR)
-        & (state[24] < FAR)
-        & (state[72] < FAR)
+    (state[places::REORDERED] < FAR)
+        & (state[places::INDEPENDENT] < FAR)
+        & (state[places::PROBES_EVICTED] < FAR)
+        & (state[places::REPLIES_EVICTED] < FAR)
+        & (state[places::EVICTED_UNANSWERED] < FAR)
 }
 
 // Of `count` replies; `sized` is whether the rooms have their size.
@@ -46,6 +53,6 @@ pub fn lasts(state: &[u64; LEDGER_WORDS], sized: bool, count: usize) -> bool
     let totals = low_totals(state);
     let answers = low_answers(state);
     let others = low_others(state);
-    let low = totals & answers & others & (state[5] <= LAST_CALLS);
+    let low = totals & answers & others & (state[places::CALLS] <= LAST_CALLS);
     (refused == 0) & (count <= MOST) & low
 }

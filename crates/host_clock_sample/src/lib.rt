@@ -13,11 +13,13 @@ ghost use Rattle.correlation.specs.declared.Wires.the-variants as wires;
 ghost use Rattle.follow_ups.specs.Followed.{estimatesOf};
 ghost use Rattle.host_numbers.specs.Numbers.{flagWord};
 ghost use Rattle.host_quality.specs.Words.{qualityAt, qualityWords};
+ghost use Rattle.host_ledger.specs.Places as place;
 use clock_quality::LargestError;
 use correlation::Wires;
 use estimate::ErrorEstimate;
 use estimate::Reading;
 use host_ledger::LEDGER_WORDS;
+use host_ledger::places;
 use host_numbers::bits_of;
 use host_numbers::flag;
 
@@ -49,8 +51,8 @@ fn known_word(estimate: ErrorEstimate) -> u64
 
 // A sample of any kind.
 fn count_any(ledger: &mut [u64; LEDGER_WORDS], wires: Wires)
-    requires { ⌜ Bounded (qualityAt 58 (now ledger)) ⌝ }
-    ensures { λ _. ⌜ now (ledger .exit) ≡ sets (now (ledger .entry)) 58 (qualityWords (recordedOf (qualityAt 58 (now (ledger .entry))) (estimatesOf wires))) ⌝ }
+    requires { ⌜ Bounded (qualityAt place.quality (now ledger)) ⌝ }
+    ensures { λ _. ⌜ now (ledger .exit) ≡ sets (now (ledger .entry)) place.quality (qualityWords (recordedOf (qualityAt place.quality (now (ledger .entry))) (estimatesOf wires))) ⌝ }
 {
     let before = host_ledger_parts::quality_without_last(ledger);
     let after = before.recorded(follow_ups::estimates_of(wires));
@@ -59,31 +61,31 @@ fn count_any(ledger: &mut [u64; LEDGER_WORDS], wires: Wires)
 
 // Both errors are known: x and y, in ms.
 fn count_known(ledger: &mut [u64; LEDGER_WORDS], sender: u16, reflector: u16, x: f64, y: f64)
-    requires { ⌜ Bounded (qualityAt 58 (now ledger)) × (readingOf (estimateOf sender) ≡ Known x) × (readingOf (estimateOf reflector) ≡ Known y) ⌝ }
-    ensures { λ _. ⌜ now (ledger .exit) ≡ sets (now (ledger .entry)) 58 (qualityWords (recordedOf (qualityAt 58 (now (ledger .entry))) (estimatesOf (wires.Pair sender reflector)))) ⌝ }
+    requires { ⌜ Bounded (qualityAt place.quality (now ledger)) × (readingOf (estimateOf sender) ≡ Known x) × (readingOf (estimateOf reflector) ≡ Known y) ⌝ }
+    ensures { λ _. ⌜ now (ledger .exit) ≡ sets (now (ledger .entry)) place.quality (qualityWords (recordedOf (qualityAt place.quality (now (ledger .entry))) (estimatesOf (wires.Pair sender reflector)))) ⌝ }
 {
     let first = ErrorEstimate::from_wire(sender);
     let second = ErrorEstimate::from_wire(reflector);
     let synchronized = flag(first.synchronized & second.synchronized);
-    let samples = ledger[58];
-    let both = ledger[59];
-    let unsynchronized = ledger[60];
-    let before = host_quality::largest_of(ledger[66], ledger[67]);
+    let samples = ledger[places::QUALITY];
+    let both = ledger[places::BOTH_SYNCHRONIZED];
+    let unsynchronized = ledger[places::UNSYNCHRONIZED];
+    let before = host_quality::largest_of(ledger[places::LARGEST_KNOWN], ledger[places::LARGEST]);
     let largest = larger(before, x + y);
-    ledger[58] = samples + 1;
-    ledger[59] = both + synchronized;
-    ledger[60] = unsynchronized + (1 - synchronized);
-    ledger[66] = 1;
-    ledger[67] = host_quality::largest_bits(largest);
-    ledger[68] = known_word(first);
-    ledger[69] = bits_of(x);
-    ledger[70] = known_word(second);
-    ledger[71] = bits_of(y);
+    ledger[places::QUALITY] = samples + 1;
+    ledger[places::BOTH_SYNCHRONIZED] = both + synchronized;
+    ledger[places::UNSYNCHRONIZED] = unsynchronized + (1 - synchronized);
+    ledger[places::LARGEST_KNOWN] = 1;
+    ledger[places::LARGEST] = host_quality::largest_bits(largest);
+    ledger[places::SENDER] = known_word(first);
+    ledger[places::SENDER_ERROR] = bits_of(x);
+    ledger[places::REFLECTOR] = known_word(second);
+    ledger[places::REFLECTOR_ERROR] = bits_of(y);
 }
 
 fn count_pair(ledger: &mut [u64; LEDGER_WORDS], sender: u16, reflector: u16)
-    requires { ⌜ Bounded (qualityAt 58 (now ledger)) ⌝ }
-    ensures { λ _. ⌜ now (ledger .exit) ≡ sets (now (ledger .entry)) 58 (qualityWords (recordedOf (qualityAt 58 (now (ledger .entry))) (estimatesOf (wires.Pair sender reflector)))) ⌝ }
+    requires { ⌜ Bounded (qualityAt place.quality (now ledger)) ⌝ }
+    ensures { λ _. ⌜ now (ledger .exit) ≡ sets (now (ledger .entry)) place.quality (qualityWords (recordedOf (qualityAt place.quality (now (ledger .entry))) (estimatesOf (wires.Pair sender reflector)))) ⌝ }
 {
     let first = ErrorEstimate::from_wire(sender).reading();
     let second = ErrorEstimate::from_wire(reflector).reading();
@@ -100,8 +102,8 @@ fn count_pair(ledger: &mut [u64; LEDGER_WORDS], sender: u16, reflector: u16)
 
 // One sample more, for a caller that has tested the counts.
 pub fn count(ledger: &mut [u64; LEDGER_WORDS], wires: Wires)
-    requires { ⌜ Bounded (qualityAt 58 (now ledger)) ⌝ }
-    ensures { λ _. ⌜ now (ledger .exit) ≡ sets (now (ledger .entry)) 58 (qualityWords (recordedOf (qualityAt 58 (now (ledger .entry))) (estimatesOf wires))) ⌝ }
+    requires { ⌜ Bounded (qualityAt place.quality (now ledger)) ⌝ }
+    ensures { λ _. ⌜ now (ledger .exit) ≡ sets (now (ledger .entry)) place.quality (qualityWords (recordedOf (qualityAt place.quality (now (ledger .entry))) (estimatesOf wires))) ⌝ }
 {
     match wires {
         Wires::Absent => count_any(ledger, Wires::Absent),

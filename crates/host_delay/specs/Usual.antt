@@ -6,6 +6,7 @@ use Prim.Native.Nat.{ℕ}
 use lib.Dec.{eqb, leb}
 use lib.ListN.{getD}
 use Rattle.delays.specs.declared.Nanoseconds.{Nanoseconds}
+use Rattle.host_ledger.specs.Places as place
 
 -- a delay of this kind (1 not negative, 2 negative, as of extremes) and magnitude is beyond neither extreme: the far one, which is the largest or
 -- for a negative delay the smallest, is of its kind and no nearer to zero; the near one is of the other kind, or of its kind and no farther
@@ -17,5 +18,5 @@ within kind other magnitude farKind far nearKind near =
 abbrev pub usual : List ℕ → Nanoseconds → Bool
 usual w ns =
     cond (ns .negative)
-    (eqb (getD w 51 0) 1 && within 2 1 (ns .magnitude) (getD w 54 0) (getD w 55 0) (getD w 56 0) (getD w 57 0))
-    (eqb (getD w 51 0) 0 && within 1 2 (ns .magnitude) (getD w 56 0) (getD w 57 0) (getD w 54 0) (getD w 55 0))
+    (eqb (getD w place.delaySign 0) 1 && within 2 1 (ns .magnitude) (getD w place.delayMinKind 0) (getD w place.delayMin 0) (getD w place.delayMaxKind 0) (getD w place.delayMax 0))
+    (eqb (getD w place.delaySign 0) 0 && within 1 2 (ns .magnitude) (getD w place.delayMaxKind 0) (getD w place.delayMax 0) (getD w place.delayMinKind 0) (getD w place.delayMin 0))

@@ -12,8 +12,10 @@ ghost use Rattle.delays.specs.Delays.{recordedOf};
 ghost use Rattle.delays.specs.Sums.{nanosecondsOf, sumOf};
 ghost use Rattle.host_ledger.specs.Parts.{delaysAt, delaysWords};
 ghost use Rattle.host_delay.specs.Usual.{within, usual};
+ghost use Rattle.host_ledger.specs.Places as place;
 use delays::Nanoseconds;
 use host_ledger::LEDGER_WORDS;
+use host_ledger::places;
 
 fn lies_within(
     kind: u64,
@@ -42,52 +44,52 @@ fn is_usual(ledger: &[u64; LEDGER_WORDS], ns: Nanoseconds) -> bool
     ensures { λ r. ⌜ r ≡ usual (now (ledger .entry)) ns ⌝ }
 {
     if ns.negative {
-        if ledger[51] != 1 {
+        if ledger[places::DELAY_SIGN] != 1 {
             return false;
         }
         return lies_within(
             2,
             1,
             ns.magnitude,
-            ledger[54],
-            ledger[55],
-            ledger[56],
-            ledger[57],
+            ledger[places::DELAY_MIN_KIND],
+            ledger[places::DELAY_MIN],
+            ledger[places::DELAY_MAX_KIND],
+            ledger[places::DELAY_MAX],
         );
     }
-    if ledger[51] != 0 {
+    if ledger[places::DELAY_SIGN] != 0 {
         return false;
     }
     lies_within(
         1,
         2,
         ns.magnitude,
-        ledger[56],
-        ledger[57],
-        ledger[54],
-        ledger[55],
+        ledger[places::DELAY_MAX_KIND],
+        ledger[places::DELAY_MAX],
+        ledger[places::DELAY_MIN_KIND],
+        ledger[places::DELAY_MIN],
     )
 }
 
 // One delay more, and the sum farther from zero.
 fn add(ledger: &mut [u64; LEDGER_WORDS], more: u64)
-    requires { ⌜ Bounded (delaysAt 50 (now ledger)) ⌝ }
+    requires { ⌜ Bounded (delaysAt place.delay (now ledger)) ⌝ }
     ensures { λ _. ⌜ (
         let words = now (ledger .entry) in
         let sum = sumOf (pos (magnitude (getD words 52 0) (getD words 53 0) + more)) in
         now (ledger .exit) ≡ set (set (set words 50 (getD words 50 0 + 1)) 52 (sum .high)) 53 (sum .low)) ⌝ }
 {
-    let count = ledger[50];
-    let sum = host_round_trip::farther(ledger[52], ledger[53], more);
-    ledger[50] = count + 1;
-    ledger[52] = sum.high;
-    ledger[53] = sum.low;
+    let count = ledger[places::DELAY];
+    let sum = host_round_trip::farther(ledger[places::DELAY_HIGH], ledger[places::DELAY_LOW], more);
+    ledger[places::DELAY] = count + 1;
+    ledger[places::DELAY_HIGH] = sum.high;
+    ledger[places::DELAY_LOW] = sum.low;
 }
 
 // For a caller that has tested the count and the sum.
 pub fn count(ledger: &mut [u64; LEDGER_WORDS], ns: i64)
-    requires { ⌜ Bounded (delaysAt 50 (now ledger)) ⌝ }
-    ensures { λ _. ⌜ now (ledger .exit) ≡ sets (now (ledger .entry)) 50 (delaysWords (recordedOf (delaysAt 50 (now (ledger .entry))) (nanosecondsOf ns))) ⌝ }
+    requires { ⌜ Bounded (delaysAt place.delay (now ledger)) ⌝ }
+    ensures { λ _. ⌜ now (ledger .exit) ≡ sets (now (ledger .entry)) place.delay (delaysWords (recordedOf (delaysAt place.delay (now (ledger .entry))) (nanosecondsOf ns))) ⌝ }
 {
     let sample = delays::from_i64(ns);
     if is_usual(ledger, sample) {

@@ -6,6 +6,7 @@ use Rattle.call_types.specs.declared.Counters.{Counters}
 use Rattle.ledger_steps.specs.Observe.{DirectOutcome}
 use Rattle.host_ledger.specs.Parts.{directWords}
 use Rattle.host_ledger.specs.Left.{directStored}
+use Rattle.host_ledger.specs.Places as place
 
 -- the words of the ledger, the seen offsets and the links
 pub record DirectLeft : Type 0 where
@@ -23,4 +24,4 @@ directLeaves told before out = directLeft (directStored told before (out .direct
 
 -- counters that were told
 abbrev pub toldLeaves : List ℕ → DirectOutcome → DirectLeft
-toldLeaves before out = directLeft (sets before 33 (directWords (out .direct))) (out .offsets) (out .links)
+toldLeaves before out = directLeft (sets before place.direct (directWords (out .direct))) (out .offsets) (out .links)

@@ -13,14 +13,15 @@ use Rattle.direct.specs.declared.Epoch.{Epoch}
 use Rattle.direct.specs.Offsets.{senderOffset, receivedOffset, transmitOffset}
 use Rattle.direct.specs.Outcomes.{highest}
 use Rattle.host_ledger.specs.Parts.{epochOf}
+use Rattle.host_ledger.specs.Places as place
 
 -- there is an anchor, and both flags are written as a call writes them
 abbrev pub opened : List ℕ → Bool
-opened w = ltb (getD w 37 0) 2 && eqb (getD w 38 0) 1
+opened w = ltb (getD w place.exceeded 0) 2 && eqb (getD w place.anchored 0) 1
 
 -- what is known since the anchor
 abbrev pub epochIn : List ℕ → Epoch
-epochIn w = epochOf (getD w 39 0) (getD w 40 0) (getD w 41 0) (getD w 42 0) (getD w 43 0)
+epochIn w = epochOf (getD w place.anchor 0) (getD w place.transmitted 0) (getD w place.latest 0) (getD w place.maxima 0) (getD w place.seen 0)
 
 -- the sender count is the ordinal, no offset is a step back, one offset more can be seen, and the transmit offset is not below the highest
 abbrev pub goesOn : Epoch → CounterPoint → Ordinal → Bool

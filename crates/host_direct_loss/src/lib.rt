@@ -13,6 +13,7 @@ ghost use Rattle.ledger_steps.specs.Observe.{directIn};
 ghost use Rattle.host_ledger.specs.Parts.{directAt, epochWords};
 ghost use Rattle.host_direct_loss.specs.Left.{directLeft, directLeaves, toldLeaves};
 ghost use Rattle.host_direct_loss.specs.Order.{opened, epochIn, goesOn};
+ghost use Rattle.host_ledger.specs.Places as place;
 use call_types::CounterPoint;
 use call_types::Counters;
 use call_types::Ordinal;
@@ -21,18 +22,25 @@ use direct::Epoch;
 use host_ledger::LEDGER_WORDS;
 use host_ledger::parts::epoch_of;
 use host_ledger::parts::epoch_words;
+use host_ledger::places;
 use limits::CAPACITY;
 
 fn is_open(ledger: &[u64; LEDGER_WORDS]) -> bool
     ensures { λ r. ⌜ r ≡ opened (now (ledger .entry)) ⌝ }
 {
-    (ledger[37] < 2) & (ledger[38] == 1)
+    (ledger[places::EXCEEDED] < 2) & (ledger[places::ANCHORED] == 1)
 }
 
 fn epoch_in(ledger: &[u64; LEDGER_WORDS]) -> Epoch
     ensures { λ r. ⌜ r ≡ epochIn (now (ledger .entry)) ⌝ }
 {
-    epoch_of(ledger[39], ledger[40], ledger[41], ledger[42], ledger[43])
+    epoch_of(
+        ledger[places::ANCHOR],
+        ledger[places::TRANSMITTED],
+        ledger[places::LATEST],
+        ledger[places::MAXIMA],
+        ledger[places::SEEN],
+    )
 }
 
 fn goes_on(epoch: Epoch, point: CounterPoint, ordinal: Ordinal) -> bool
@@ -94,17 +102,17 @@ fn moved(epoch: Epoch, point: CounterPoint) -> Epoch
 
 // One observation more, and what is then known since the anchor.
 fn store(ledger: &mut [u64; LEDGER_WORDS], epoch: Epoch)
-    requires { ⌜ getD (now ledger) 33 0 < 2 ^ 63 ⌝ }
-    ensures { λ _. ⌜ now (ledger .exit) ≡ sets (set (now (ledger .entry)) 33 (getD (now (ledger .entry)) 33 0 + 1)) 39 (epochWords epoch) ⌝ }
+    requires { ⌜ getD (now ledger) place.direct 0 < 2 ^ 63 ⌝ }
+    ensures { λ _. ⌜ now (ledger .exit) ≡ sets (set (now (ledger .entry)) place.direct (getD (now (ledger .entry)) place.direct 0 + 1)) 39 (epochWords epoch) ⌝ }
 {
     let words = epoch_words(epoch);
-    let observations = ledger[33];
-    ledger[33] = observations + 1;
-    ledger[39] = words.anchor;
-    ledger[40] = words.transmitted;
-    ledger[41] = words.latest;
-    ledger[42] = words.maxima;
-    ledger[43] = words.seen;
+    let observations = ledger[places::DIRECT];
+    ledger[places::DIRECT] = observations + 1;
+    ledger[places::ANCHOR] = words.anchor;
+    ledger[places::TRANSMITTED] = words.transmitted;
+    ledger[places::LATEST] = words.latest;
+    ledger[places::MAXIMA] = words.maxima;
+    ledger[places::SEEN] = words.seen;
 }
 
 // Counters of any kind.
@@ -115,8 +123,8 @@ fn count_any(
     secret: [u32; 8],
     told: ReplyObservation,
 )
-    requires { ⌜ (length (now offsets) ≡ capacity) × (length (now links) ≡ capacity) × InBounds (directAt 33 (now ledger) .counts) × (seenIn (directAt 33 (now ledger) .window) ≤ 4096) ⌝ }
-    ensures { λ _. ⌜ directLeft (now (ledger .exit)) (now (offsets .exit)) (now (links .exit)) ≡ toldLeaves (now (ledger .entry)) (directIn capacity (numberHash secret) (directAt 33 (now (ledger .entry))) (now (offsets .entry)) (now (links .entry)) told) ⌝ }
+    requires { ⌜ (length (now offsets) ≡ capacity) × (length (now links) ≡ capacity) × InBounds (directAt place.direct (now ledger) .counts) × (seenIn (directAt place.direct (now ledger) .window) ≤ 4096) ⌝ }
+    ensures { λ _. ⌜ directLeft (now (ledger .exit)) (now (offsets .exit)) (now (links .exit)) ≡ toldLeaves (now (ledger .entry)) (directIn capacity (numberHash secret) (directAt place.direct (now (ledger .entry))) (now (offsets .entry)) (now (links .entry)) told) ⌝ }
 {
     let before = host_ledger::direct_of(ledger);
     let after = ledger_direct::count_direct(before, offsets, links, secret, told);
@@ -132,8 +140,8 @@ fn count_point(
     told: ReplyObservation,
     point: CounterPoint,
 )
-    requires { ⌜ (length (now offsets) ≡ capacity) × (length (now links) ≡ capacity) × InBounds (directAt 33 (now ledger) .counts) × (seenIn (directAt 33 (now ledger) .window) ≤ 4096) × (told .counters ≡ counters.Point point) ⌝ }
-    ensures { λ _. ⌜ directLeft (now (ledger .exit)) (now (offsets .exit)) (now (links .exit)) ≡ toldLeaves (now (ledger .entry)) (directIn capacity (numberHash secret) (directAt 33 (now (ledger .entry))) (now (offsets .entry)) (now (links .entry)) told) ⌝ }
+    requires { ⌜ (length (now offsets) ≡ capacity) × (length (now links) ≡ capacity) × InBounds (directAt place.direct (now ledger) .counts) × (seenIn (directAt place.direct (now ledger) .window) ≤ 4096) × (told .counters ≡ counters.Point point) ⌝ }
+    ensures { λ _. ⌜ directLeft (now (ledger .exit)) (now (offsets .exit)) (now (links .exit)) ≡ toldLeaves (now (ledger .entry)) (directIn capacity (numberHash secret) (directAt place.direct (now (ledger .entry))) (now (offsets .entry)) (now (links .entry)) told) ⌝ }
 {
     let epoch = epoch_in(ledger);
     let ordinal = told.ordinal;
@@ -158,8 +166,8 @@ pub fn count(
     secret: [u32; 8],
     told: ReplyObservation,
 )
-    requires { ⌜ (length (now offsets) ≡ capacity) × (length (now links) ≡ capacity) × InBounds (directAt 33 (now ledger) .counts) × (seenIn (directAt 33 (now ledger) .window) ≤ 4096) ⌝ }
-    ensures { λ _. ⌜ directLeft (now (ledger .exit)) (now (offsets .exit)) (now (links .exit)) ≡ directLeaves (told .counters) (now (ledger .entry)) (directIn capacity (numberHash secret) (directAt 33 (now (ledger .entry))) (now (offsets .entry)) (now (links .entry)) told) ⌝ }
+    requires { ⌜ (length (now offsets) ≡ capacity) × (length (now links) ≡ capacity) × InBounds (directAt place.direct (now ledger) .counts) × (seenIn (directAt place.direct (now ledger) .window) ≤ 4096) ⌝ }
+    ensures { λ _. ⌜ directLeft (now (ledger .exit)) (now (offsets .exit)) (now (links .exit)) ≡ directLeaves (told .counters) (now (ledger .entry)) (directIn capacity (numberHash secret) (directAt place.direct (now (ledger .entry))) (now (offsets .entry)) (now (links .entry)) told) ⌝ }
 {
     let counters = told.counters;
     match counters {

@@ -1,3 +1,4 @@
+pub mod Places
 pub mod Parts
 pub mod Words
 pub mod Left

@@ -10,6 +10,7 @@ use Rattle.ledger_state.specs.declared.Tables.{Tables}
 use Rattle.ledger_state.specs.declared.Ledger.{Ledger}
 use Rattle.host_numbers.specs.Numbers.{flagWord, isSet}
 use Rattle.host_ledger.specs.Parts.{secretAt, repliesAt, delaysAt, directAt, followAt}
+use Rattle.host_ledger.specs.Places as place
 
 -- in five words from `at` on: head and length of the ring of keys, those of probes, whether a key awaits
 unfoldable pub tablesAt : ℕ → List ℕ → Tables
@@ -22,11 +23,11 @@ tablesAt at w = record {
 -- the ledger that words say, each part at its place above; of copies the low 16 bits, a missing word is 0
 unfoldable pub ledgerAt : List ℕ → Ledger
 ledgerAt w = record {
-  copies = getD w 0 0 % 2 ^ 16;
-  secret = secretAt 1 w;
-  calls = getD w 5 0;
-  tables = tablesAt 6 w;
-  counts = record { replies = repliesAt 11 72 w; rtt = delaysAt 25 w; direct = directAt 33 w; follow = followAt 44 w };
+  copies = getD w place.copies 0 % 2 ^ 16;
+  secret = secretAt place.secret1 w;
+  calls = getD w place.calls 0;
+  tables = tablesAt place.keysHead w;
+  counts = record { replies = repliesAt place.requested place.evictedUnanswered w; rtt = delaysAt place.trips w; direct = directAt place.direct w; follow = followAt place.followUps w };
 }
 
 -- the words of both rings and of what awaits

@@ -7,8 +7,10 @@ ghost use Rattle.host_quality.specs.Words.{qualityAt};
 ghost use Rattle.host_ledger.specs.Parts.{secretAt, secretWords, SecretKept, repliesAt, windowAt, directAt, followAt};
 ghost use Rattle.host_ledger.specs.Words.{tablesAt, tablesWords, ledgerAt};
 ghost use Rattle.host_ledger.specs.Left.{freshWords, sentWords};
+ghost use Rattle.host_ledger.specs.Places as place;
 
 pub mod parts;
+pub mod places;
 
 use chains::Ring;
 use clock_quality::ClockQuality;
@@ -45,109 +47,115 @@ pub fn counted(_words: [u64; LEDGER_WORDS])
 // ---- the ledger out of its words
 
 fn secret_of(state: &[u64; LEDGER_WORDS]) -> Secret
-    ensures { λ r. ⌜ r ≡ secretAt 1 (now (state .entry)) ⌝ }
+    ensures { λ r. ⌜ r ≡ secretAt place.secret1 (now (state .entry)) ⌝ }
 {
     Secret {
-        first: low(state[1]),
-        second: high(state[1]),
-        third: low(state[2]),
-        fourth: high(state[2]),
-        fifth: low(state[3]),
-        sixth: high(state[3]),
-        seventh: low(state[4]),
-        eighth: high(state[4]),
+        first: low(state[places::SECRET_1]),
+        second: high(state[places::SECRET_1]),
+        third: low(state[places::SECRET_2]),
+        fourth: high(state[places::SECRET_2]),
+        fifth: low(state[places::SECRET_3]),
+        sixth: high(state[places::SECRET_3]),
+        seventh: low(state[places::SECRET_4]),
+        eighth: high(state[places::SECRET_4]),
     }
 }
 
 fn tables_of(state: &[u64; LEDGER_WORDS]) -> Tables
-    ensures { λ r. ⌜ r ≡ tablesAt 6 (now (state .entry)) ⌝ }
+    ensures { λ r. ⌜ r ≡ tablesAt place.keysHead (now (state .entry)) ⌝ }
 {
-    let awaits = is_set(state[10]);
+    let awaits = is_set(state[places::AWAITS]);
     Tables {
         keys: Ring {
-            head: state[6] as usize,
-            len: state[7] as usize,
+            head: state[places::KEYS_HEAD] as usize,
+            len: state[places::KEYS_LEN] as usize,
         },
         probes: Ring {
-            head: state[8] as usize,
-            len: state[9] as usize,
+            head: state[places::PROBES_HEAD] as usize,
+            len: state[places::PROBES_LEN] as usize,
         },
         awaits,
     }
 }
 
 pub fn replies_of(state: &[u64; LEDGER_WORDS]) -> Replies
-    ensures { λ r. ⌜ r ≡ repliesAt 11 72 (now (state .entry)) ⌝ }
+    ensures { λ r. ⌜ r ≡ repliesAt place.requested place.evictedUnanswered (now (state .entry)) ⌝ }
 {
-    let last = reflector_of(state[19]);
-    let highest = reflector_of(state[20]);
+    let last = reflector_of(state[places::LAST]);
+    let highest = reflector_of(state[places::HIGHEST]);
     Replies {
         totals: Totals {
-            requested: state[11],
-            unique: state[12],
-            duplicate: state[13],
-            unknown: state[14],
+            requested: state[places::REQUESTED],
+            unique: state[places::UNIQUE],
+            duplicate: state[places::DUPLICATE],
+            unknown: state[places::UNKNOWN],
         },
         answers: Answers {
-            answered: state[15],
-            additional: state[16],
-            late: state[17],
-            satisfied: state[18],
+            answered: state[places::ANSWERED],
+            additional: state[places::ADDITIONAL],
+            late: state[places::LATE],
+            satisfied: state[places::SATISFIED],
         },
         numbers: Numbers {
             last,
             highest,
-            reordered: state[21],
-            independent: state[22],
+            reordered: state[places::REORDERED],
+            independent: state[places::INDEPENDENT],
         },
         evicted: Evicted {
-            probes: state[23],
-            replies: state[24],
-            unanswered: state[72],
+            probes: state[places::PROBES_EVICTED],
+            replies: state[places::REPLIES_EVICTED],
+            unanswered: state[places::EVICTED_UNANSWERED],
         },
     }
 }
 
 fn window_of(state: &[u64; LEDGER_WORDS]) -> Window
-    ensures { λ r. ⌜ r ≡ windowAt 38 (now (state .entry)) ⌝ }
+    ensures { λ r. ⌜ r ≡ windowAt place.anchored (now (state .entry)) ⌝ }
 {
-    if is_set(state[38]) {
-        return Window::Open(epoch_of(state[39], state[40], state[41], state[42], state[43]));
+    if is_set(state[places::ANCHORED]) {
+        return Window::Open(epoch_of(
+            state[places::ANCHOR],
+            state[places::TRANSMITTED],
+            state[places::LATEST],
+            state[places::MAXIMA],
+            state[places::SEEN],
+        ));
     }
     Window::Closed
 }
 
 pub fn direct_of(state: &[u64; LEDGER_WORDS]) -> Direct
-    ensures { λ r. ⌜ r ≡ directAt 33 (now (state .entry)) ⌝ }
+    ensures { λ r. ⌜ r ≡ directAt place.direct (now (state .entry)) ⌝ }
 {
     let window = window_of(state);
     Direct {
         counts: direct::Counts {
-            observations: state[33],
-            unavailable: state[34],
-            discontinuities: state[35],
-            reordered: state[36],
-            exceeded: is_set(state[37]),
+            observations: state[places::DIRECT],
+            unavailable: state[places::DIRECT_UNAVAILABLE],
+            discontinuities: state[places::DISCONTINUITIES],
+            reordered: state[places::DIRECT_REORDERED],
+            exceeded: is_set(state[places::EXCEEDED]),
         },
         window,
     }
 }
 
 pub fn quality_of(state: &[u64; LEDGER_WORDS]) -> ClockQuality
-    ensures { λ r. ⌜ r ≡ qualityAt 58 (now (state .entry)) ⌝ }
+    ensures { λ r. ⌜ r ≡ qualityAt place.quality (now (state .entry)) ⌝ }
 {
-    let largest = host_quality::largest_of(state[66], state[67]);
-    let sender = host_quality::last_of(state[68], state[69]);
-    let reflector = host_quality::last_of(state[70], state[71]);
+    let largest = host_quality::largest_of(state[places::LARGEST_KNOWN], state[places::LARGEST]);
+    let sender = host_quality::last_of(state[places::SENDER], state[places::SENDER_ERROR]);
+    let reflector = host_quality::last_of(state[places::REFLECTOR], state[places::REFLECTOR_ERROR]);
     ClockQuality {
-        samples: state[58],
-        both: state[59],
-        unsynchronized: state[60],
-        invalid: state[61],
-        unknown: state[62],
-        invalid_sender: state[63],
-        invalid_reflector: state[64],
-        invalid_both: state[65],
+        samples: state[places::QUALITY],
+        both: state[places::BOTH_SYNCHRONIZED],
+        unsynchronized: state[places::UNSYNCHRONIZED],
+        invalid: state[places::INVALID],
+        unknown: state[places::UNKNOWN_ESTIMATES],
+        invalid_sender: state[places::INVALID_SENDER],
+        invalid_reflector: state[places::INVALID_REFLECTOR],
+        invalid_both: state[places::INVALID_BOTH],
         sender,
         reflector,
         largest,
@@ -155,27 +163,27 @@ pub fn quality_of(state: &[u64; LEDGER_WORDS]) -> ClockQuality
 }
 
 fn follow_of(state: &[u64; LEDGER_WORDS]) -> FollowUps
-    ensures { λ r. ⌜ r ≡ followAt 44 (now (state .entry)) ⌝ }
+    ensures { λ r. ⌜ r ≡ followAt place.followUps (now (state .entry)) ⌝ }
 {
     let delay = delays_of(
-        state[50],
-        state[51],
-        state[52],
-        state[53],
-        state[54],
-        state[55],
-        state[56],
-        state[57],
+        state[places::DELAY],
+        state[places::DELAY_SIGN],
+        state[places::DELAY_HIGH],
+        state[places::DELAY_LOW],
+        state[places::DELAY_MIN_KIND],
+        state[places::DELAY_MIN],
+        state[places::DELAY_MAX_KIND],
+        state[places::DELAY_MAX],
     );
     let quality = quality_of(state);
     FollowUps {
         counts: FollowCounts {
-            observations: state[44],
-            matched: state[45],
-            repeated: state[46],
-            unmatched: state[47],
-            ambiguous: state[48],
-            unavailable: state[49],
+            observations: state[places::FOLLOW_UPS],
+            matched: state[places::MATCHED],
+            repeated: state[places::REPEATED],
+            unmatched: state[places::UNMATCHED],
+            ambiguous: state[places::AMBIGUOUS],
+            unavailable: state[places::UNAVAILABLE],
         },
         delay,
         quality,
@@ -189,21 +197,21 @@ pub fn load(state: &[u64; LEDGER_WORDS]) -> Ledger
     let tables = tables_of(state);
     let replies = replies_of(state);
     let rtt = delays_of(
-        state[25],
-        state[26],
-        state[27],
-        state[28],
-        state[29],
-        state[30],
-        state[31],
-        state[32],
+        state[places::TRIPS],
+        state[places::TRIPS_SIGN],
+        state[places::TRIPS_HIGH],
+        state[places::TRIPS_LOW],
+        state[places::TRIPS_MIN_KIND],
+        state[places::TRIPS_MIN],
+        state[places::TRIPS_MAX_KIND],
+        state[places::TRIPS_MAX],
     );
     let direct = direct_of(state);
     let follow = follow_of(state);
     Ledger {
-        copies: (state[0] % 65536) as u16,
+        copies: (state[places::COPIES] % 65536) as u16,
         secret,
-        calls: state[5],
+        calls: state[places::CALLS],
         tables,
         counts: Counts {
             replies,
@@ -217,24 +225,24 @@ pub fn load(state: &[u64; LEDGER_WORDS]) -> Ledger
 // ---- and back
 
 fn store_secret(state: &mut [u64; LEDGER_WORDS], secret: Secret)
-    ensures { λ _. ⌜ (now (state .exit) ≡ sets (now (state .entry)) 1 (secretWords secret)) × SecretKept secret ⌝ }
+    ensures { λ _. ⌜ (now (state .exit) ≡ sets (now (state .entry)) place.secret1 (secretWords secret)) × SecretKept secret ⌝ }
 {
-    state[1] = both(secret.first, secret.second);
-    state[2] = both(secret.third, secret.fourth);
-    state[3] = both(secret.fifth, secret.sixth);
-    state[4] = both(secret.seventh, secret.eighth);
+    state[places::SECRET_1] = both(secret.first, secret.second);
+    state[places::SECRET_2] = both(secret.third, secret.fourth);
+    state[places::SECRET_3] = both(secret.fifth, secret.sixth);
+    state[places::SECRET_4] = both(secret.seventh, secret.eighth);
 }
 
 pub fn store_tables(state: &mut [u64; LEDGER_WORDS], tables: Tables)
-    ensures { λ _. ⌜ now (state .exit) ≡ sets (now (state .entry)) 6 (tablesWords tables) ⌝ }
+    ensures { λ _. ⌜ now (state .exit) ≡ sets (now (state .entry)) place.keysHead (tablesWords tables) ⌝ }
 {
     let keys = tables.keys;
     let probes = tables.probes;
-    state[6] = keys.head as u64;
-    state[7] = keys.len as u64;
-    state[8] = probes.head as u64;
-    state[9] = probes.len as u64;
-    state[10] = flag(tables.awaits);
+    state[places::KEYS_HEAD] = keys.head as u64;
+    state[places::KEYS_LEN] = keys.len as u64;
+    state[places::PROBES_HEAD] = probes.head as u64;
+    state[places::PROBES_LEN] = probes.len as u64;
+    state[places::AWAITS] = flag(tables.awaits);
 }
 
 // ---- what each call stores
@@ -248,12 +256,12 @@ pub fn store_sent(state: &mut [u64; LEDGER_WORDS], next: Ledger)
     let totals = replies.totals;
     let evicted = replies.evicted;
     let probes = tables.probes;
-    state[5] = next.calls;
-    state[8] = probes.head as u64;
-    state[9] = probes.len as u64;
-    state[11] = totals.requested;
-    state[23] = evicted.probes;
-    state[72] = evicted.unanswered;
+    state[places::CALLS] = next.calls;
+    state[places::PROBES_HEAD] = probes.head as u64;
+    state[places::PROBES_LEN] = probes.len as u64;
+    state[places::REQUESTED] = totals.requested;
+    state[places::PROBES_EVICTED] = evicted.probes;
+    state[places::EVICTED_UNANSWERED] = evicted.unanswered;
 }
 
 // Of a fresh ledger: every word, whatever stood there.
@@ -261,6 +269,6 @@ pub fn store_fresh(state: &mut [u64; LEDGER_WORDS], copies: u16, secret: Secret)
     ensures { λ _. ⌜ (now (state .exit) ≡ freshWords copies secret) × SecretKept secret ⌝ }
 {
     *state = [0; LEDGER_WORDS];
-    state[0] = copies as u64;
+    state[places::COPIES] = copies as u64;
     store_secret(state, secret);
 }

@@ -15,8 +15,10 @@ ghost use Rattle.ledger_state.specs.Refusal.{firstRefusal, ringsFit, roomForCal
 ghost use Rattle.host_quality.specs.Words.{qualityAt};
 ghost use Rattle.host_ledger.specs.Parts.{repliesAt, delaysAt, windowAt, directAt, followAt};
 ghost use Rattle.host_ledger.specs.Words.{ledgerAt};
+ghost use Rattle.host_ledger.specs.Places as place;
 use chains::Ring;
 use host_ledger::LEDGER_WORDS;
+use host_ledger::places;
 use host_numbers::high;
 use host_numbers::is_set;
 use host_numbers::low;
@@ -25,66 +27,69 @@ use limits::COUNT_BOUND;
 // ---- refusal 4
 
 fn replies_fit(state: &[u64; LEDGER_WORDS]) -> bool
-    ensures { λ r. ⌜ r ≡ repliesFit (repliesAt 11 72 (now (state .entry))) ⌝ }
+    ensures { λ r. ⌜ r ≡ repliesFit (repliesAt place.requested place.evictedUnanswered (now (state .entry))) ⌝ }
 {
-    let totals = (state[11] < COUNT_BOUND)
-        & (state[12] < COUNT_BOUND)
-        & (state[13] < COUNT_BOUND)
-        & (state[14] < COUNT_BOUND);
-    let answers = (state[15] < COUNT_BOUND)
-        & (state[16] < COUNT_BOUND)
-        & (state[17] < COUNT_BOUND)
-        & (state[18] < COUNT_BOUND);
-    let numbers = (state[21] < COUNT_BOUND) & (state[22] < COUNT_BOUND);
-    let evicted = (state[23] < COUNT_BOUND) & (state[24] < COUNT_BOUND) & (state[72] < COUNT_BOUND);
+    let totals = (state[places::REQUESTED] < COUNT_BOUND)
+        & (state[places::UNIQUE] < COUNT_BOUND)
+        & (state[places::DUPLICATE] < COUNT_BOUND)
+        & (state[places::UNKNOWN] < COUNT_BOUND);
+    let answers = (state[places::ANSWERED] < COUNT_BOUND)
+        & (state[places::ADDITIONAL] < COUNT_BOUND)
+        & (state[places::LATE] < COUNT_BOUND)
+        & (state[places::SATISFIED] < COUNT_BOUND);
+    let numbers = (state[places::REORDERED] < COUNT_BOUND)
+        & (state[places::INDEPENDENT] < COUNT_BOUND);
+    let evicted = (state[places::PROBES_EVICTED] < COUNT_BOUND)
+        & (state[places::REPLIES_EVICTED] < COUNT_BOUND)
+        & (state[places::EVICTED_UNANSWERED] < COUNT_BOUND);
     totals & answers & numbers & evicted
 }
 
 fn round_trips_fit(state: &[u64; LEDGER_WORDS]) -> bool
-    ensures { λ r. ⌜ r ≡ delays.countsFit (delaysAt 25 (now (state .entry))) ⌝ }
+    ensures { λ r. ⌜ r ≡ delays.countsFit (delaysAt place.trips (now (state .entry))) ⌝ }
 {
     let delays = host_ledger_parts::rtt_of(state);
     delays.counts_fit()
 }
 
 fn direct_fits(state: &[u64; LEDGER_WORDS]) -> bool
-    ensures { λ r. ⌜ r ≡ countsInBounds (directAt 33 (now (state .entry)) .counts) ⌝ }
+    ensures { λ r. ⌜ r ≡ countsInBounds (directAt place.direct (now (state .entry)) .counts) ⌝ }
 {
-    (state[33] < COUNT_BOUND)
-        & (state[34] < COUNT_BOUND)
-        & (state[35] < COUNT_BOUND)
-        & (state[36] < COUNT_BOUND)
+    (state[places::DIRECT] < COUNT_BOUND)
+        & (state[places::DIRECT_UNAVAILABLE] < COUNT_BOUND)
+        & (state[places::DISCONTINUITIES] < COUNT_BOUND)
+        & (state[places::DIRECT_REORDERED] < COUNT_BOUND)
 }
 
 fn delay_fits(state: &[u64; LEDGER_WORDS]) -> bool
-    ensures { λ r. ⌜ r ≡ delays.countsFit (delaysAt 50 (now (state .entry))) ⌝ }
+    ensures { λ r. ⌜ r ≡ delays.countsFit (delaysAt place.delay (now (state .entry))) ⌝ }
 {
     let delays = host_ledger_parts::delay_of(state);
     delays.counts_fit()
 }
 
 fn quality_fits(state: &[u64; LEDGER_WORDS]) -> bool
-    ensures { λ r. ⌜ r ≡ clock_quality.countsFit (qualityAt 58 (now (state .entry))) ⌝ }
+    ensures { λ r. ⌜ r ≡ clock_quality.countsFit (qualityAt place.quality (now (state .entry))) ⌝ }
 {
-    (state[58] < COUNT_BOUND)
-        & (state[59] < COUNT_BOUND)
-        & (state[60] < COUNT_BOUND)
-        & (state[61] < COUNT_BOUND)
-        & (state[62] < COUNT_BOUND)
-        & (state[63] < COUNT_BOUND)
-        & (state[64] < COUNT_BOUND)
-        & (state[65] < COUNT_BOUND)
+    (state[places::QUALITY] < COUNT_BOUND)
+        & (state[places::BOTH_SYNCHRONIZED] < COUNT_BOUND)
+        & (state[places::UNSYNCHRONIZED] < COUNT_BOUND)
+        & (state[places::INVALID] < COUNT_BOUND)
+        & (state[places::UNKNOWN_ESTIMATES] < COUNT_BOUND)
+        & (state[places::INVALID_SENDER] < COUNT_BOUND)
+        & (state[places::INVALID_REFLECTOR] < COUNT_BOUND)
+        & (state[places::INVALID_BOTH] < COUNT_BOUND)
 }
 
 fn follow_counts_fit(state: &[u64; LEDGER_WORDS]) -> bool
-    ensures { λ r. ⌜ r ≡ follow_ups.countsFit (followAt 44 (now (state .entry)) .counts) ⌝ }
+    ensures { λ r. ⌜ r ≡ follow_ups.countsFit (followAt place.followUps (now (state .entry)) .counts) ⌝ }
 {
-    (state[44] < COUNT_BOUND)
-        & (state[45] < COUNT_BOUND)
-        & (state[46] < COUNT_BOUND)
-        & (state[47] < COUNT_BOUND)
-        & (state[48] < COUNT_BOUND)
-        & (state[49] < COUNT_BOUND)
+    (state[places::FOLLOW_UPS] < COUNT_BOUND)
+        & (state[places::MATCHED] < COUNT_BOUND)
+        & (state[places::REPEATED] < COUNT_BOUND)
+        & (state[places::UNMATCHED] < COUNT_BOUND)
+        & (state[places::AMBIGUOUS] < COUNT_BOUND)
+        & (state[places::UNAVAILABLE] < COUNT_BOUND)
 }
 
 // Of all counts one after the other the compiler makes one comparison; the two sums, which have another bound, would part them in two.
@@ -96,7 +101,7 @@ pub fn room_for_call(state: &[u64; LEDGER_WORDS]) -> bool
         & follow_counts_fit(state)
         & quality_fits(state);
     let delays = round_trips_fit(state) & delay_fits(state);
-    counts & delays & (state[5] < limits::MOST_CALLS)
+    counts & delays & (state[places::CALLS] < limits::MOST_CALLS)
 }
 
 // ---- refusal 5
@@ -105,8 +110,8 @@ pub fn keys_ring(state: &[u64; LEDGER_WORDS]) -> Ring
     ensures { λ r. ⌜ r ≡ ledgerAt (now (state .entry)) .tables .keys ⌝ }
 {
     Ring {
-        head: state[6] as usize,
-        len: state[7] as usize,
+        head: state[places::KEYS_HEAD] as usize,
+        len: state[places::KEYS_LEN] as usize,
     }
 }
 
@@ -114,16 +119,16 @@ pub fn probes_ring(state: &[u64; LEDGER_WORDS]) -> Ring
     ensures { λ r. ⌜ r ≡ ledgerAt (now (state .entry)) .tables .probes ⌝ }
 {
     Ring {
-        head: state[8] as usize,
-        len: state[9] as usize,
+        head: state[places::PROBES_HEAD] as usize,
+        len: state[places::PROBES_LEN] as usize,
     }
 }
 
 fn seen_fits(state: &[u64; LEDGER_WORDS]) -> bool
-    ensures { λ r. ⌜ r ≡ leb (seenIn (windowAt 38 (now (state .entry)))) capacity ⌝ }
+    ensures { λ r. ⌜ r ≡ leb (seenIn (windowAt place.anchored (now (state .entry)))) capacity ⌝ }
 {
-    if is_set(state[38]) {
-        return state[43] <= 4096;
+    if is_set(state[places::ANCHORED]) {
+        return state[places::SEEN] <= 4096;
     }
     true
 }
@@ -132,16 +137,16 @@ fn seen_fits(state: &[u64; LEDGER_WORDS]) -> bool
 pub fn rings_fit(state: &[u64; LEDGER_WORDS]) -> bool
     ensures { λ r. ⌜ r ≡ ringsFit (ledgerAt (now (state .entry))) ⌝ }
 {
-    if !(state[6] < 4096) {
+    if !(state[places::KEYS_HEAD] < 4096) {
         return false;
     }
-    if !(state[7] <= 4096) {
+    if !(state[places::KEYS_LEN] <= 4096) {
         return false;
     }
-    if !(state[8] < 4096) {
+    if !(state[places::PROBES_HEAD] < 4096) {
         return false;
     }
-    if !(state[9] <= 4096) {
+    if !(state[places::PROBES_LEN] <= 4096) {
         return false;
     }
     seen_fits(state)
@@ -166,13 +171,13 @@ pub fn secret_words(state: &[u64; LEDGER_WORDS]) -> [u32; 8]
     ensures { λ r. ⌜ r ≡ hashWords (ledgerAt (now (state .entry))) ⌝ }
 {
     [
-        low(state[1]),
-        high(state[1]),
-        low(state[2]),
-        high(state[2]),
-        low(state[3]),
-        high(state[3]),
-        low(state[4]),
-        high(state[4]),
+        low(state[places::SECRET_1]),
+        high(state[places::SECRET_1]),
+        low(state[places::SECRET_2]),
+        high(state[places::SECRET_2]),
+        low(state[places::SECRET_3]),
+        high(state[places::SECRET_3]),
+        low(state[places::SECRET_4]),
+        high(state[places::SECRET_4]),
     ]
 }

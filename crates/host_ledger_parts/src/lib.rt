@@ -5,6 +5,7 @@ ghost use lib.Seq.{sets};
 ghost use Rattle.host_quality.specs.Words.{qualityAt, qualityWords, QualityKept};
 ghost use Rattle.host_ledger.specs.Parts.{delaysAt, delaysWords, windowWords, WindowKept, directWords, DirectKept, followAt, followCountsWords};
 ghost use Rattle.host_ledger_parts.specs.Last.{qualityWithoutLast};
+ghost use Rattle.host_ledger.specs.Places as place;
 use clock_quality::ClockQuality;
 use clock_quality::LastEstimate;
 use delays::Delays;
@@ -16,67 +17,68 @@ use host_ledger::parts::delays_of;
 use host_ledger::parts::epoch_words;
 use host_ledger::parts::extreme_kind;
 use host_ledger::parts::extreme_magnitude;
+use host_ledger::places;
 use host_numbers::flag;
 
 // ---- out of the words
 
 pub fn rtt_of(state: &[u64; LEDGER_WORDS]) -> Delays
-    ensures { λ r. ⌜ r ≡ delaysAt 25 (now (state .entry)) ⌝ }
+    ensures { λ r. ⌜ r ≡ delaysAt place.trips (now (state .entry)) ⌝ }
 {
     delays_of(
-        state[25],
-        state[26],
-        state[27],
-        state[28],
-        state[29],
-        state[30],
-        state[31],
-        state[32],
+        state[places::TRIPS],
+        state[places::TRIPS_SIGN],
+        state[places::TRIPS_HIGH],
+        state[places::TRIPS_LOW],
+        state[places::TRIPS_MIN_KIND],
+        state[places::TRIPS_MIN],
+        state[places::TRIPS_MAX_KIND],
+        state[places::TRIPS_MAX],
     )
 }
 
 pub fn follow_counts_of(state: &[u64; LEDGER_WORDS]) -> FollowCounts
-    ensures { λ r. ⌜ r ≡ followAt 44 (now (state .entry)) .counts ⌝ }
+    ensures { λ r. ⌜ r ≡ followAt place.followUps (now (state .entry)) .counts ⌝ }
 {
     FollowCounts {
-        observations: state[44],
-        matched: state[45],
-        repeated: state[46],
-        unmatched: state[47],
-        ambiguous: state[48],
-        unavailable: state[49],
+        observations: state[places::FOLLOW_UPS],
+        matched: state[places::MATCHED],
+        repeated: state[places::REPEATED],
+        unmatched: state[places::UNMATCHED],
+        ambiguous: state[places::AMBIGUOUS],
+        unavailable: state[places::UNAVAILABLE],
     }
 }
 
 pub fn delay_of(state: &[u64; LEDGER_WORDS]) -> Delays
-    ensures { λ r. ⌜ r ≡ delaysAt 50 (now (state .entry)) ⌝ }
+    ensures { λ r. ⌜ r ≡ delaysAt place.delay (now (state .entry)) ⌝ }
 {
     delays_of(
-        state[50],
-        state[51],
-        state[52],
-        state[53],
-        state[54],
-        state[55],
-        state[56],
-        state[57],
+        state[places::DELAY],
+        state[places::DELAY_SIGN],
+        state[places::DELAY_HIGH],
+        state[places::DELAY_LOW],
+        state[places::DELAY_MIN_KIND],
+        state[places::DELAY_MIN],
+        state[places::DELAY_MAX_KIND],
+        state[places::DELAY_MAX],
     )
 }
 
 // A sample replaces the last estimates, whatever they were, so they are not read for it.
 pub fn quality_without_last(state: &[u64; LEDGER_WORDS]) -> ClockQuality
-    ensures { λ r. ⌜ r ≡ qualityWithoutLast (qualityAt 58 (now (state .entry))) ⌝ }
+    ensures { λ r. ⌜ r ≡ qualityWithoutLast (qualityAt place.quality (now (state .entry))) ⌝ }
 {
-    let largest = host_quality::largest_of(state[66], state[67]);
+    let largest = host_quality::largest_of(state[places::LARGEST_KNOWN], state[places::LARGEST]);
     ClockQuality {
-        samples: state[58],
-        both: state[59],
-        unsynchronized: state[60],
-        invalid: state[61],
-        unknown: state[62],
-        invalid_sender: state[63],
-        invalid_reflector: state[64],
-        invalid_both: state[65],
+        samples: state[places::QUALITY],
+        both: state[places::BOTH_SYNCHRONIZED],
+        unsynchronized: state[places::UNSYNCHRONIZED],
+        invalid: state[places::INVALID],
+        unknown: state[places::UNKNOWN_ESTIMATES],
+        invalid_sender: state[places::INVALID_SENDER],
+        invalid_reflector: state[places::INVALID_REFLECTOR],
+        invalid_both: state[places::INVALID_BOTH],
         sender: LastEstimate::Absent,
         reflector: LastEstimate::Absent,
         largest,
@@ -86,105 +88,105 @@ pub fn quality_without_last(state: &[u64; LEDGER_WORDS]) -> ClockQuality
 // ---- and back
 
 pub fn store_rtt(state: &mut [u64; LEDGER_WORDS], delays: Delays)
-    ensures { λ _. ⌜ now (state .exit) ≡ sets (now (state .entry)) 25 (delaysWords delays) ⌝ }
+    ensures { λ _. ⌜ now (state .exit) ≡ sets (now (state .entry)) place.trips (delaysWords delays) ⌝ }
 {
     let sum = delays.sum;
     let min = delays.min;
     let max = delays.max;
-    state[25] = delays.count;
-    state[26] = flag(sum.negative);
-    state[27] = sum.high;
-    state[28] = sum.low;
-    state[29] = extreme_kind(min);
-    state[30] = extreme_magnitude(min);
-    state[31] = extreme_kind(max);
-    state[32] = extreme_magnitude(max);
+    state[places::TRIPS] = delays.count;
+    state[places::TRIPS_SIGN] = flag(sum.negative);
+    state[places::TRIPS_HIGH] = sum.high;
+    state[places::TRIPS_LOW] = sum.low;
+    state[places::TRIPS_MIN_KIND] = extreme_kind(min);
+    state[places::TRIPS_MIN] = extreme_magnitude(min);
+    state[places::TRIPS_MAX_KIND] = extreme_kind(max);
+    state[places::TRIPS_MAX] = extreme_magnitude(max);
 }
 
 pub fn store_delay(state: &mut [u64; LEDGER_WORDS], delays: Delays)
-    ensures { λ _. ⌜ now (state .exit) ≡ sets (now (state .entry)) 50 (delaysWords delays) ⌝ }
+    ensures { λ _. ⌜ now (state .exit) ≡ sets (now (state .entry)) place.delay (delaysWords delays) ⌝ }
 {
     let sum = delays.sum;
     let min = delays.min;
     let max = delays.max;
-    state[50] = delays.count;
-    state[51] = flag(sum.negative);
-    state[52] = sum.high;
-    state[53] = sum.low;
-    state[54] = extreme_kind(min);
-    state[55] = extreme_magnitude(min);
-    state[56] = extreme_kind(max);
-    state[57] = extreme_magnitude(max);
+    state[places::DELAY] = delays.count;
+    state[places::DELAY_SIGN] = flag(sum.negative);
+    state[places::DELAY_HIGH] = sum.high;
+    state[places::DELAY_LOW] = sum.low;
+    state[places::DELAY_MIN_KIND] = extreme_kind(min);
+    state[places::DELAY_MIN] = extreme_magnitude(min);
+    state[places::DELAY_MAX_KIND] = extreme_kind(max);
+    state[places::DELAY_MAX] = extreme_magnitude(max);
 }
 
 fn store_window(state: &mut [u64; LEDGER_WORDS], window: Window)
-    ensures { λ _. ⌜ (now (state .exit) ≡ sets (now (state .entry)) 38 (windowWords window)) × WindowKept window ⌝ }
+    ensures { λ _. ⌜ (now (state .exit) ≡ sets (now (state .entry)) place.anchored (windowWords window)) × WindowKept window ⌝ }
 {
     match window {
         Window::Closed => {
-            state[38] = 0;
-            state[39] = 0;
-            state[40] = 0;
-            state[41] = 0;
-            state[42] = 0;
-            state[43] = 0;
+            state[places::ANCHORED] = 0;
+            state[places::ANCHOR] = 0;
+            state[places::TRANSMITTED] = 0;
+            state[places::LATEST] = 0;
+            state[places::MAXIMA] = 0;
+            state[places::SEEN] = 0;
         }
         Window::Open(epoch) => {
             let words = epoch_words(epoch);
-            state[38] = 1;
-            state[39] = words.anchor;
-            state[40] = words.transmitted;
-            state[41] = words.latest;
-            state[42] = words.maxima;
-            state[43] = words.seen;
+            state[places::ANCHORED] = 1;
+            state[places::ANCHOR] = words.anchor;
+            state[places::TRANSMITTED] = words.transmitted;
+            state[places::LATEST] = words.latest;
+            state[places::MAXIMA] = words.maxima;
+            state[places::SEEN] = words.seen;
         }
     }
 }
 
 pub fn store_direct(state: &mut [u64; LEDGER_WORDS], direct: Direct)
-    ensures { λ _. ⌜ (now (state .exit) ≡ sets (now (state .entry)) 33 (directWords direct)) × DirectKept direct ⌝ }
+    ensures { λ _. ⌜ (now (state .exit) ≡ sets (now (state .entry)) place.direct (directWords direct)) × DirectKept direct ⌝ }
 {
     let counts = direct.counts;
     let window = direct.window;
-    state[33] = counts.observations;
-    state[34] = counts.unavailable;
-    state[35] = counts.discontinuities;
-    state[36] = counts.reordered;
-    state[37] = flag(counts.exceeded);
+    state[places::DIRECT] = counts.observations;
+    state[places::DIRECT_UNAVAILABLE] = counts.unavailable;
+    state[places::DISCONTINUITIES] = counts.discontinuities;
+    state[places::DIRECT_REORDERED] = counts.reordered;
+    state[places::EXCEEDED] = flag(counts.exceeded);
     store_window(state, window);
 }
 
 pub fn store_quality(state: &mut [u64; LEDGER_WORDS], quality: ClockQuality)
-    ensures { λ _. ⌜ (now (state .exit) ≡ sets (now (state .entry)) 58 (qualityWords quality)) × QualityKept quality ⌝ }
+    ensures { λ _. ⌜ (now (state .exit) ≡ sets (now (state .entry)) place.quality (qualityWords quality)) × QualityKept quality ⌝ }
 {
     let largest = quality.largest;
     let sender = quality.sender;
     let reflector = quality.reflector;
     let first = host_quality::last_words(sender);
     let second = host_quality::last_words(reflector);
-    state[58] = quality.samples;
-    state[59] = quality.both;
-    state[60] = quality.unsynchronized;
-    state[61] = quality.invalid;
-    state[62] = quality.unknown;
-    state[63] = quality.invalid_sender;
-    state[64] = quality.invalid_reflector;
-    state[65] = quality.invalid_both;
-    state[66] = host_quality::largest_word(largest);
-    state[67] = host_quality::largest_bits(largest);
-    state[68] = first.word;
-    state[69] = first.bits;
-    state[70] = second.word;
-    state[71] = second.bits;
+    state[places::QUALITY] = quality.samples;
+    state[places::BOTH_SYNCHRONIZED] = quality.both;
+    state[places::UNSYNCHRONIZED] = quality.unsynchronized;
+    state[places::INVALID] = quality.invalid;
+    state[places::UNKNOWN_ESTIMATES] = quality.unknown;
+    state[places::INVALID_SENDER] = quality.invalid_sender;
+    state[places::INVALID_REFLECTOR] = quality.invalid_reflector;
+    state[places::INVALID_BOTH] = quality.invalid_both;
+    state[places::LARGEST_KNOWN] = host_quality::largest_word(largest);
+    state[places::LARGEST] = host_quality::largest_bits(largest);
+    state[places::SENDER] = first.word;
+    state[places::SENDER_ERROR] = first.bits;
+    state[places::REFLECTOR] = second.word;
+    state[places::REFLECTOR_ERROR] = second.bits;
 }
 
 pub fn store_follow_counts(state: &mut [u64; LEDGER_WORDS], counts: FollowCounts)
-    ensures { λ _. ⌜ now (state .exit) ≡ sets (now (state .entry)) 44 (followCountsWords counts) ⌝ }
+    ensures { λ _. ⌜ now (state .exit) ≡ sets (now (state .entry)) place.followUps (followCountsWords counts) ⌝ }
 {
-    state[44] = counts.observations;
-    state[45] = counts.matched;
-    state[46] = counts.repeated;
-    state[47] = counts.unmatched;
-    state[48] = counts.ambiguous;
-    state[49] = counts.unavailable;
+    state[places::FOLLOW_UPS] = counts.observations;
+    state[places::MATCHED] = counts.matched;
+    state[places::REPEATED] = counts.repeated;
+    state[places::UNMATCHED] = counts.unmatched;
+    state[places::AMBIGUOUS] = counts.ambiguous;
+    state[places::UNAVAILABLE] = counts.unavailable;
 }

@@ -23,12 +23,14 @@ ghost use Rattle.host_ledger.specs.Parts.{delaysAt, delaysWords, followAt, foll
 ghost use Rattle.host_ledger.specs.Words.{ledgerAt};
 ghost use Rattle.host_ledger.specs.Left.{followStored};
 ghost use Rattle.host_observe_words.specs.Observe.{followLeft, followLeaves, left, servedLeaves, observeLeaves};
+ghost use Rattle.host_ledger.specs.Places as place;
 use call_types::FollowUp;
 use call_types::ReplyObservation;
 use chains::Ring;
 use correlation::follow::Class;
 use correlation::follow::Match;
 use host_ledger::LEDGER_WORDS;
+use host_ledger::places;
 use host_numbers::is_set;
 use limits::CAPACITY;
 
@@ -55,7 +57,7 @@ fn refusal(
     }
     let ring = host_ledger_checks::keys_ring(ledger);
     let key = told.key;
-    let awaiting = is_set(ledger[10]) & key_ring::is_newest(keys, ring, key);
+    let awaiting = is_set(ledger[places::AWAITS]) & key_ring::is_newest(keys, ring, key);
     let ranged = host_own_slot::in_range(words);
     let counted = host_ledger_checks::room_for_call(ledger);
     ledger_state::first_refusal(true, ranged, true, counted, awaiting, true)
@@ -63,8 +65,8 @@ fn refusal(
 
 // The delay of a matched follow-up.
 fn count_delay(ledger: &mut [u64; LEDGER_WORDS], times: Match, offset: i32)
-    requires { ⌜ delays.Bounded (delaysAt 50 (now ledger)) × MatchedInRange (classes.Matched times) × offsetInRange offset ⌝ }
-    ensures { λ _. ⌜ now (ledger .exit) ≡ sets (now (ledger .entry)) 50 (delaysWords (recordedOf (delaysAt 50 (now (ledger .entry))) (nanosecondsOf (delayOf (times .t4) (times .t3) offset)))) ⌝ }
+    requires { ⌜ delays.Bounded (delaysAt place.delay (now ledger)) × MatchedInRange (classes.Matched times) × offsetInRange offset ⌝ }
+    ensures { λ _. ⌜ now (ledger .exit) ≡ sets (now (ledger .entry)) place.delay (delaysWords (recordedOf (delaysAt place.delay (now (ledger .entry))) (nanosecondsOf (delayOf (times .t4) (times .t3) offset)))) ⌝ }
 {
     let ns = correlation::follow::delay(times.t4, times.t3, offset);
     host_delay::count(ledger, ns);
@@ -72,13 +74,13 @@ fn count_delay(ledger: &mut [u64; LEDGER_WORDS], times: Match, offset: i32)
 
 // A matched follow-up changes all that there is of follow-ups: two counts, the delay and the clock quality.
 fn count_matched(ledger: &mut [u64; LEDGER_WORDS], times: Match, offset: i32)
-    requires { ⌜ follow_ups.InBounds (followAt 44 (now ledger)) × MatchedInRange (classes.Matched times) × offsetInRange offset ⌝ }
-    ensures { λ _. ⌜ now (ledger .exit) ≡ sets (now (ledger .entry)) 44 (followWords (followed (followAt 44 (now (ledger .entry))) (classes.Matched times) offset)) ⌝ }
+    requires { ⌜ follow_ups.InBounds (followAt place.followUps (now ledger)) × MatchedInRange (classes.Matched times) × offsetInRange offset ⌝ }
+    ensures { λ _. ⌜ now (ledger .exit) ≡ sets (now (ledger .entry)) place.followUps (followWords (followed (followAt place.followUps (now (ledger .entry))) (classes.Matched times) offset)) ⌝ }
 {
-    let observations = ledger[44];
-    let matched = ledger[45];
-    ledger[44] = observations + 1;
-    ledger[45] = matched + 1;
+    let observations = ledger[places::FOLLOW_UPS];
+    let matched = ledger[places::MATCHED];
+    ledger[places::FOLLOW_UPS] = observations + 1;
+    ledger[places::MATCHED] = matched + 1;
     count_delay(ledger, times, offset);
     let wires = times.quality;
     host_clock_sample::count(ledger, wires);
@@ -86,8 +88,8 @@ fn count_matched(ledger: &mut [u64; LEDGER_WORDS], times: Match, offset: i32)
 
 // Any other follow-up is only counted.
 fn count_other(ledger: &mut [u64; LEDGER_WORDS], class: Class)
-    requires { ⌜ follow_ups.CountsIn (followAt 44 (now ledger) .counts) ⌝ }
-    ensures { λ _. ⌜ now (ledger .exit) ≡ sets (now (ledger .entry)) 44 (followCountsWords (counted class (followAt 44 (now (ledger .entry)) .counts))) ⌝ }
+    requires { ⌜ follow_ups.CountsIn (followAt place.followUps (now ledger) .counts) ⌝ }
+    ensures { λ _. ⌜ now (ledger .exit) ≡ sets (now (ledger .entry)) place.followUps (followCountsWords (counted class (followAt place.followUps (now (ledger .entry)) .counts))) ⌝ }
 {
     let before = host_ledger_parts::follow_counts_of(ledger);
     host_ledger_parts::store_follow_counts(ledger, follow_ups::count(class, before));
@@ -95,8 +97,8 @@ fn count_other(ledger: &mut [u64; LEDGER_WORDS], class: Class)
 
 // A follow-up whose class is known.
 fn count_class(ledger: &mut [u64; LEDGER_WORDS], class: Class, offset: i32)
-    requires { ⌜ follow_ups.InBounds (followAt 44 (now ledger)) × MatchedInRange class × offsetInRange offset ⌝ }
-    ensures { λ _. ⌜ now (ledger .exit) ≡ followStored (now (ledger .entry)) (followed (followAt 44 (now (ledger .entry))) class offset) ⌝ }
+    requires { ⌜ follow_ups.InBounds (followAt place.followUps (now ledger)) × MatchedInRange class × offsetInRange offset ⌝ }
+    ensures { λ _. ⌜ now (ledger .exit) ≡ followStored (now (ledger .entry)) (followed (followAt place.followUps (now (ledger .entry))) class offset) ⌝ }
 {
     match class {
         Class::Unavailable => count_other(ledger, class),
@@ -117,8 +119,8 @@ fn count_follow_up(
     secret: [u32; 8],
     told: ReplyObservation,
 )
-    requires { ⌜ (length (now keys) ≡ capacity) × (length (now slots) ≡ capacity) × (length (now links) ≡ capacity) × RingFits capacity ring × follow_ups.InBounds (followAt 44 (now ledger)) × offsetInRange (told .offset) ⌝ }
-    ensures { λ _. ⌜ followLeft (now (ledger .exit)) (now (slots .exit)) ≡ followLeaves (now (ledger .entry)) (followIn capacity (hashOf secret) (numberHash secret) (followAt 44 (now (ledger .entry))) ring (now (keys .entry)) (now (slots .entry)) (now (links .entry)) told) ⌝ }
+    requires { ⌜ (length (now keys) ≡ capacity) × (length (now slots) ≡ capacity) × (length (now links) ≡ capacity) × RingFits capacity ring × follow_ups.InBounds (followAt place.followUps (now ledger)) × offsetInRange (told .offset) ⌝ }
+    ensures { λ _. ⌜ followLeft (now (ledger .exit)) (now (slots .exit)) ≡ followLeaves (now (ledger .entry)) (followIn capacity (hashOf secret) (numberHash secret) (followAt place.followUps (now (ledger .entry))) ring (now (keys .entry)) (now (slots .entry)) (now (links .entry)) told) ⌝ }
 {
     let follow_up = told.follow;
     let key = told.key;
@@ -156,10 +158,10 @@ fn observed(
 {
     let secret = host_ledger_checks::secret_words(ledger);
     let ring = host_ledger_checks::keys_ring(ledger);
-    let copies = (ledger[0] % 65536) as u16;
-    let calls = ledger[5];
-    ledger[5] = calls + 1;
-    ledger[10] = 0;
+    let copies = (ledger[places::COPIES] % 65536) as u16;
+    let calls = ledger[places::CALLS];
+    ledger[places::CALLS] = calls + 1;
+    ledger[places::AWAITS] = 0;
     host_round_trip::count(ledger, told.rtt);
     host_direct_loss::count(ledger, offsets, links, secret, told);
     count_follow_up(ledger, keys, slots, links, ring, secret, told);

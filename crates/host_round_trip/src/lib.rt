@@ -12,8 +12,10 @@ ghost use Rattle.delays.specs.Bounds.{Bounded};
 ghost use Rattle.delays.specs.Delays.{recordedOf};
 ghost use Rattle.delays.specs.Sums.{nanosecondsOf, sumOf};
 ghost use Rattle.host_ledger.specs.Parts.{delaysAt, delaysWords};
+ghost use Rattle.host_ledger.specs.Places as place;
 use delays::Sum;
 use host_ledger::LEDGER_WORDS;
+use host_ledger::places;
 
 const MOST: u64 = 18446744073709551615;
 
@@ -51,30 +53,32 @@ fn larger(most: u64, ns: u64) -> u64
 
 // The sum is not negative, and there are a smallest and a largest that are not.
 fn is_ordinary(ledger: &[u64; LEDGER_WORDS]) -> bool
-    ensures { λ r. ⌜ r ≡ (eqb (getD (now (ledger .entry)) 26 0) 0 && eqb (getD (now (ledger .entry)) 29 0) 1 && eqb (getD (now (ledger .entry)) 31 0) 1) ⌝ }
+    ensures { λ r. ⌜ r ≡ (eqb (getD (now (ledger .entry)) place.tripsSign 0) 0 && eqb (getD (now (ledger .entry)) place.tripsMinKind 0) 1 && eqb (getD (now (ledger .entry)) place.tripsMaxKind 0) 1) ⌝ }
 {
-    (ledger[26] == 0) & (ledger[29] == 1) & (ledger[31] == 1)
+    (ledger[places::TRIPS_SIGN] == 0)
+        & (ledger[places::TRIPS_MIN_KIND] == 1)
+        & (ledger[places::TRIPS_MAX_KIND] == 1)
 }
 
 fn add(ledger: &mut [u64; LEDGER_WORDS], ns: u64)
-    requires { ⌜ Bounded (delaysAt 25 (now ledger)) × (getD (now ledger) 26 0 ≡ 0) × (getD (now ledger) 29 0 ≡ 1) × (getD (now ledger) 31 0 ≡ 1) ⌝ }
-    ensures { λ _. ⌜ now (ledger .exit) ≡ sets (now (ledger .entry)) 25 (delaysWords (recordedOf (delaysAt 25 (now (ledger .entry))) (nanosecondsOf (pos ns)))) ⌝ }
+    requires { ⌜ Bounded (delaysAt place.trips (now ledger)) × (getD (now ledger) place.tripsSign 0 ≡ 0) × (getD (now ledger) place.tripsMinKind 0 ≡ 1) × (getD (now ledger) place.tripsMaxKind 0 ≡ 1) ⌝ }
+    ensures { λ _. ⌜ now (ledger .exit) ≡ sets (now (ledger .entry)) place.trips (delaysWords (recordedOf (delaysAt place.trips (now (ledger .entry))) (nanosecondsOf (pos ns)))) ⌝ }
 {
-    let count = ledger[25];
-    let sum = farther(ledger[27], ledger[28], ns);
-    let least = smaller(ledger[30], ns);
-    let most = larger(ledger[32], ns);
-    ledger[25] = count + 1;
-    ledger[27] = sum.high;
-    ledger[28] = sum.low;
-    ledger[30] = least;
-    ledger[32] = most;
+    let count = ledger[places::TRIPS];
+    let sum = farther(ledger[places::TRIPS_HIGH], ledger[places::TRIPS_LOW], ns);
+    let least = smaller(ledger[places::TRIPS_MIN], ns);
+    let most = larger(ledger[places::TRIPS_MAX], ns);
+    ledger[places::TRIPS] = count + 1;
+    ledger[places::TRIPS_HIGH] = sum.high;
+    ledger[places::TRIPS_LOW] = sum.low;
+    ledger[places::TRIPS_MIN] = least;
+    ledger[places::TRIPS_MAX] = most;
 }
 
 // For a caller that has tested the count and the sum.
 pub fn count(ledger: &mut [u64; LEDGER_WORDS], ns: u64)
-    requires { ⌜ Bounded (delaysAt 25 (now ledger)) ⌝ }
-    ensures { λ _. ⌜ now (ledger .exit) ≡ sets (now (ledger .entry)) 25 (delaysWords (recordedOf (delaysAt 25 (now (ledger .entry))) (nanosecondsOf (pos ns)))) ⌝ }
+    requires { ⌜ Bounded (delaysAt place.trips (now ledger)) ⌝ }
+    ensures { λ _. ⌜ now (ledger .exit) ≡ sets (now (ledger .entry)) place.trips (delaysWords (recordedOf (delaysAt place.trips (now (ledger .entry))) (nanosecondsOf (pos ns)))) ⌝ }
 {
     if is_ordinary(ledger) {
         add(ledger, ns);

@@ -12,11 +12,12 @@ ghost use Rattle.host_ledger.specs.Parts.{repliesAt, delaysAt, directAt, follow
 ghost use Rattle.host_ledger.specs.Words.{ledgerAt};
 ghost use Rattle.host_snapshot_words.specs.Words.{repliesWords, evictedWords, lossWords, delayWords, directWords, followCountWords, qualityWords};
 ghost use Rattle.host_snapshot.specs.Snapshot.{left, snapshotLeaves};
+ghost use Rattle.host_ledger.specs.Places as place;
 use host_ledger::LEDGER_WORDS;
 use host_snapshot_words::SHOWN_WORDS;
 
 fn show_replies(ledger: &[u64; LEDGER_WORDS], shown: &mut [u64; SHOWN_WORDS])
-    ensures { λ _. ⌜ (now (shown .exit) ≡ sets (now (shown .entry)) 0 (repliesWords (repliesAt 11 72 (now (ledger .entry))))) × (length (now (shown .entry)) ≡ 91) ⌝ }
+    ensures { λ _. ⌜ (now (shown .exit) ≡ sets (now (shown .entry)) 0 (repliesWords (repliesAt place.requested place.evictedUnanswered (now (ledger .entry))))) × (length (now (shown .entry)) ≡ 91) ⌝ }
 {
     let replies = host_ledger::replies_of(ledger);
     host_snapshot_words::place_replies(shown, replies);
@@ -33,42 +34,42 @@ fn show_loss(ledger: &[u64; LEDGER_WORDS], shown: &mut [u64; SHOWN_WORDS])
 }
 
 fn show_round_trips(ledger: &[u64; LEDGER_WORDS], shown: &mut [u64; SHOWN_WORDS])
-    ensures { λ _. ⌜ now (shown .exit) ≡ sets (now (shown .entry)) 19 (delayWords (delays.summaryOf (delaysAt 25 (now (ledger .entry))))) ⌝ }
+    ensures { λ _. ⌜ now (shown .exit) ≡ sets (now (shown .entry)) 19 (delayWords (delays.summaryOf (delaysAt place.trips (now (ledger .entry))))) ⌝ }
 {
     let rtt = host_ledger_parts::rtt_of(ledger);
     host_snapshot_words::place_delay(shown, 19, rtt.summary());
 }
 
 fn show_direct(ledger: &[u64; LEDGER_WORDS], shown: &mut [u64; SHOWN_WORDS])
-    ensures { λ _. ⌜ now (shown .exit) ≡ sets (now (shown .entry)) 26 (directWords (direct.summaryOf (directAt 33 (now (ledger .entry))))) ⌝ }
+    ensures { λ _. ⌜ now (shown .exit) ≡ sets (now (shown .entry)) 26 (directWords (direct.summaryOf (directAt place.direct (now (ledger .entry))))) ⌝ }
 {
     let direct = host_ledger::direct_of(ledger);
     host_snapshot_words::place_direct(shown, direct::summary::summary_of(direct));
 }
 
 fn show_follow_counts(ledger: &[u64; LEDGER_WORDS], shown: &mut [u64; SHOWN_WORDS])
-    ensures { λ _. ⌜ now (shown .exit) ≡ sets (now (shown .entry)) 51 (followCountWords (followAt 44 (now (ledger .entry)) .counts)) ⌝ }
+    ensures { λ _. ⌜ now (shown .exit) ≡ sets (now (shown .entry)) 51 (followCountWords (followAt place.followUps (now (ledger .entry)) .counts)) ⌝ }
 {
     let counts = host_ledger_parts::follow_counts_of(ledger);
     host_snapshot_words::place_follow_counts(shown, 51, counts);
 }
 
 fn show_delay(ledger: &[u64; LEDGER_WORDS], shown: &mut [u64; SHOWN_WORDS])
-    ensures { λ _. ⌜ now (shown .exit) ≡ sets (now (shown .entry)) 57 (delayWords (delays.summaryOf (delaysAt 50 (now (ledger .entry))))) ⌝ }
+    ensures { λ _. ⌜ now (shown .exit) ≡ sets (now (shown .entry)) 57 (delayWords (delays.summaryOf (delaysAt place.delay (now (ledger .entry))))) ⌝ }
 {
     let delay = host_ledger_parts::delay_of(ledger);
     host_snapshot_words::place_delay(shown, 57, delay.summary());
 }
 
 fn show_quality(ledger: &[u64; LEDGER_WORDS], shown: &mut [u64; SHOWN_WORDS])
-    ensures { λ _. ⌜ now (shown .exit) ≡ sets (now (shown .entry)) 64 (qualityWords (qualityAt 58 (now (ledger .entry)))) ⌝ }
+    ensures { λ _. ⌜ now (shown .exit) ≡ sets (now (shown .entry)) 64 (qualityWords (qualityAt place.quality (now (ledger .entry)))) ⌝ }
 {
     let quality = host_ledger::quality_of(ledger);
     host_snapshot_words::place_quality(shown, 64, quality);
 }
 
 fn show_evicted(ledger: &[u64; LEDGER_WORDS], shown: &mut [u64; SHOWN_WORDS])
-    ensures { λ _. ⌜ now (shown .exit) ≡ sets (now (shown .entry)) 90 (evictedWords (repliesAt 11 72 (now (ledger .entry)))) ⌝ }
+    ensures { λ _. ⌜ now (shown .exit) ≡ sets (now (shown .entry)) 90 (evictedWords (repliesAt place.requested place.evictedUnanswered (now (ledger .entry)))) ⌝ }
 {
     let replies = host_ledger::replies_of(ledger);
     host_snapshot_words::place_evicted(shown, replies);

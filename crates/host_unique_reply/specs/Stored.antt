@@ -12,6 +12,7 @@ use Rattle.replies.specs.declared.Evicted.{Evicted}
 use Rattle.replies.specs.declared.Replies.{Replies}
 use Rattle.replies.specs.Served.{tally, highestAfter, isReordered}
 use Rattle.host_ledger.specs.Parts.{reflectorOf, reflectorWord, repliesWords}
+use Rattle.host_ledger.specs.Places as place
 
 -- one more in the word at a place where the test holds
 unfoldable pub raised : List ℕ → ℕ → Bool → List ℕ
@@ -24,8 +25,8 @@ answersWords a = a .answered ∷ a .additional ∷ a .late ∷ a .satisfied ∷ 
 -- after a reply with this reflector number: the last number, the highest, how many were reordered
 abbrev pub orderWords : List ℕ → ℕ → List ℕ
 orderWords w n =
-    reflectorWord (Number n) ∷ reflectorWord (highestAfter (reflectorOf (getD w 20 0)) n)
-    ∷ tally (isReordered (reflectorOf (getD w 20 0)) n) (getD w 21 0) ∷ []
+    reflectorWord (Number n) ∷ reflectorWord (highestAfter (reflectorOf (getD w place.highest 0)) n)
+    ∷ tally (isReordered (reflectorOf (getD w place.highest 0)) n) (getD w place.reordered 0) ∷ []
 
 -- last, highest, reordered, independent
 abbrev pub numbersWords : Numbers → List ℕ
@@ -33,8 +34,8 @@ numbersWords n = reflectorWord (n .last) ∷ reflectorWord (n .highest) ∷ n .r
 
 -- the evicted probes and keys, and the probes evicted unanswered, stored
 abbrev pub evictedStored : List ℕ → Evicted → List ℕ
-evictedStored w e = set (sets w 23 (e .probes ∷ e .replies ∷ [])) 72 (e .unanswered)
+evictedStored w e = set (sets w place.probesEvicted (e .probes ∷ e .replies ∷ [])) place.evictedUnanswered (e .unanswered)
 
 -- all counts of replies, stored
 unfoldable pub repliesStored : List ℕ → Replies → List ℕ
-repliesStored w r = set (sets w 11 (repliesWords r)) 72 (r .evicted .unanswered)
+repliesStored w r = set (sets w place.requested (repliesWords r)) place.evictedUnanswered (r .evicted .unanswered)

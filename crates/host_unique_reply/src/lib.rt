@@ -10,7 +10,9 @@ ghost use Rattle.replies.specs.Bounds.{AnswersIn, NumbersIn, EvictedIn, InBound
 ghost use Rattle.replies.specs.Served.{answeredBy, isReordered, numberedBy, evictedBy, afterUnique};
 ghost use Rattle.host_ledger.specs.Parts.{reflectorOf, repliesAt};
 ghost use Rattle.host_unique_reply.specs.Stored.{raised, answersWords, orderWords, numbersWords, evictedStored, repliesStored};
+ghost use Rattle.host_ledger.specs.Places as place;
 use host_ledger::LEDGER_WORDS;
+use host_ledger::places;
 use host_numbers::is_set;
 use host_numbers::low;
 
@@ -29,8 +31,8 @@ fn raise_if(ledger: &mut [u64; LEDGER_WORDS], at: usize, test: bool)
 // ---- the counts of answers
 
 fn answer(ledger: &mut [u64; LEDGER_WORDS], before: u16, copies: u16, pending: bool)
-    requires { ⌜ AnswersIn (repliesAt 11 72 (now ledger) .answers) ⌝ }
-    ensures { λ _. ⌜ now (ledger .exit) ≡ sets (now (ledger .entry)) 15 (answersWords (answeredBy before copies pending (repliesAt 11 72 (now (ledger .entry)) .answers))) ⌝ }
+    requires { ⌜ AnswersIn (repliesAt place.requested place.evictedUnanswered (now ledger) .answers) ⌝ }
+    ensures { λ _. ⌜ now (ledger .exit) ≡ sets (now (ledger .entry)) place.answered (answersWords (answeredBy before copies pending (repliesAt place.requested place.evictedUnanswered (now (ledger .entry)) .answers))) ⌝ }
 {
     raise_if(ledger, 15, before == 0);
     raise_if(ledger, 16, 0 < before);
@@ -56,23 +58,23 @@ fn is_behind(highest: u64, reflector: u32) -> bool
 
 // The last number, the highest, and how many were behind it. A number that is not behind the highest is the highest.
 fn order(ledger: &mut [u64; LEDGER_WORDS], reflector: u32)
-    requires { ⌜ getD (now ledger) 21 0 < countBound ⌝ }
-    ensures { λ _. ⌜ now (ledger .exit) ≡ sets (now (ledger .entry)) 19 (orderWords (now (ledger .entry)) reflector) ⌝ }
+    requires { ⌜ getD (now ledger) place.reordered 0 < countBound ⌝ }
+    ensures { λ _. ⌜ now (ledger .exit) ≡ sets (now (ledger .entry)) place.last (orderWords (now (ledger .entry)) reflector) ⌝ }
 {
-    let highest = ledger[20];
-    let reordered = ledger[21];
-    ledger[19] = number_word(reflector);
+    let highest = ledger[places::HIGHEST];
+    let reordered = ledger[places::REORDERED];
+    ledger[places::LAST] = number_word(reflector);
     if is_behind(highest, reflector) {
-        ledger[20] = number_word(low(highest));
-        ledger[21] = reordered + 1;
+        ledger[places::HIGHEST] = number_word(low(highest));
+        ledger[places::REORDERED] = reordered + 1;
         return;
     }
-    ledger[20] = number_word(reflector);
+    ledger[places::HIGHEST] = number_word(reflector);
 }
 
 fn number(ledger: &mut [u64; LEDGER_WORDS], sender: u32, reflector: u32)
-    requires { ⌜ NumbersIn (repliesAt 11 72 (now ledger) .numbers) ⌝ }
-    ensures { λ _. ⌜ now (ledger .exit) ≡ sets (now (ledger .entry)) 19 (numbersWords (numberedBy sender reflector (repliesAt 11 72 (now (ledger .entry)) .numbers))) ⌝ }
+    requires { ⌜ NumbersIn (repliesAt place.requested place.evictedUnanswered (now ledger) .numbers) ⌝ }
+    ensures { λ _. ⌜ now (ledger .exit) ≡ sets (now (ledger .entry)) place.last (numbersWords (numberedBy sender reflector (repliesAt place.requested place.evictedUnanswered (now (ledger .entry)) .numbers))) ⌝ }
 {
     order(ledger, reflector);
     raise_if(ledger, 22, !(reflector == sender));
@@ -81,8 +83,8 @@ fn number(ledger: &mut [u64; LEDGER_WORDS], sender: u32, reflector: u32)
 // ---- what was evicted
 
 fn evict(ledger: &mut [u64; LEDGER_WORDS], probe: bool, lost: bool, key: bool)
-    requires { ⌜ EvictedIn (repliesAt 11 72 (now ledger) .evicted) ⌝ }
-    ensures { λ _. ⌜ now (ledger .exit) ≡ evictedStored (now (ledger .entry)) (evictedBy probe lost key (repliesAt 11 72 (now (ledger .entry)) .evicted)) ⌝ }
+    requires { ⌜ EvictedIn (repliesAt place.requested place.evictedUnanswered (now ledger) .evicted) ⌝ }
+    ensures { λ _. ⌜ now (ledger .exit) ≡ evictedStored (now (ledger .entry)) (evictedBy probe lost key (repliesAt place.requested place.evictedUnanswered (now (ledger .entry)) .evicted)) ⌝ }
 {
     raise_if(ledger, 23, probe);
     raise_if(ledger, 24, key);
@@ -102,13 +104,13 @@ pub fn count(
     probe: bool,
     lost: bool,
 )
-    requires { ⌜ InBounds (repliesAt 11 72 (now ledger)) ⌝ }
-    ensures { λ _. ⌜ now (ledger .exit) ≡ repliesStored (now (ledger .entry)) (afterUnique before (getD (now (ledger .entry)) 0 0 % 2 ^ 16) pending sender reflector probe lost (leb capacity (getD (now (ledger .entry)) 7 0)) (repliesAt 11 72 (now (ledger .entry)))) ⌝ }
+    requires { ⌜ InBounds (repliesAt place.requested place.evictedUnanswered (now ledger)) ⌝ }
+    ensures { λ _. ⌜ now (ledger .exit) ≡ repliesStored (now (ledger .entry)) (afterUnique before (getD (now (ledger .entry)) place.copies 0 % 2 ^ 16) pending sender reflector probe lost (leb capacity (getD (now (ledger .entry)) place.keysLen 0)) (repliesAt place.requested place.evictedUnanswered (now (ledger .entry)))) ⌝ }
 {
-    let copies = (ledger[0] % 65536) as u16;
-    let full = 4096 <= ledger[7];
-    let unique = ledger[12];
-    ledger[12] = unique + 1;
+    let copies = (ledger[places::COPIES] % 65536) as u16;
+    let full = 4096 <= ledger[places::KEYS_LEN];
+    let unique = ledger[places::UNIQUE];
+    ledger[places::UNIQUE] = unique + 1;
     answer(ledger, before, copies, pending);
     number(ledger, sender, reflector);
     evict(ledger, probe, lost, full);
