@@ -6,7 +6,7 @@ ghost use Rattle.area_fields.specs.Fields.{counters_at, follow_up_at, counters_o
 use call_types::{CounterPoint, ReflectorRx, ReflectorTx, SenderTx};
 
 // `FollowUpTelemetryTlv`: the reflector's sequence, its timestamp as it came, and the byte of its mode.
-#[derive(Drop)]
+#[derive(Clone, Copy)]
 pub struct FollowUpItem {
     pub sequence: u32,
     pub timestamp: u64,
@@ -14,14 +14,14 @@ pub struct FollowUpItem {
 }
 
 // Refusal 11, or the three counters.
-#[derive(Drop)]
+#[derive(Clone, Copy)]
 pub enum CountersRead {
     WrongLength,
     Read(CounterPoint),
 }
 
 // Refusal 11, or the follow-up.
-#[derive(Drop)]
+#[derive(Clone, Copy)]
 pub enum FollowUpRead {
     WrongLength,
     Read(FollowUpItem),

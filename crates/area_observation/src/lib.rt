@@ -8,7 +8,7 @@ ghost use Rattle.area_observation.specs.Walk.{chosen_of, noted_of, fresh, walked
 use call_types::Counters;
 
 // A follow-up as `observe` is told it: the reflector's sequence, the timestamp as it came, and whether its mode is unknown.
-#[derive(Drop)]
+#[derive(Clone, Copy)]
 pub struct Sighting {
     pub sequence: u32,
     pub timestamp: u64,
@@ -16,28 +16,28 @@ pub struct Sighting {
 }
 
 // The follow-up of a reply, or none.
-#[derive(Drop)]
+#[derive(Clone, Copy)]
 pub enum Sighted {
     Absent,
     FollowUp(Sighting),
 }
 
 // What is told: the counters and the follow-up.
-#[derive(Drop)]
+#[derive(Clone, Copy)]
 pub struct Told {
     pub counters: Counters,
     pub follow: Sighted,
 }
 
 // The refusal of the first bad item, or what is told.
-#[derive(Drop)]
+#[derive(Clone, Copy)]
 pub enum Telling {
     Refused(u8),
     Told(Told),
 }
 
 // What a walk has found: whether integrity failed, whether an item was malformed, and where the values begin, 0 for nowhere.
-#[derive(Drop)]
+#[derive(Clone, Copy)]
 pub struct Found {
     pub failed: bool,
     pub stopped: bool,
@@ -45,7 +45,7 @@ pub struct Found {
     pub follow: usize,
 }
 
-#[derive(Drop)]
+#[derive(Clone, Copy)]
 pub enum Walk {
     Refused(u8),
     Over(Found),

@@ -6,7 +6,7 @@ ghost use Rattle.area_items.specs.Items.{area};
 ghost use Rattle.area_read.specs.Read.{checked_of, items_of, words_of, outcome, read_into};
 
 // The answer of a reading: the refusal of the first bad item, or how many items there are.
-#[derive(Drop)]
+#[derive(Clone, Copy)]
 pub enum Checked {
     Refused(u8),
     Items(usize),

@@ -6,14 +6,14 @@ ghost use Rattle.area_items.specs.Rows.{item_bytes, as_written};
 ghost use Rattle.area_write.specs.Write.{flags_of, kind_of, length_of, place_of, item_in, verdict_in, first_bad, size_of, needed, sized, row_of, outcome, write_into};
 
 // The refusal of the first bad item, 12, or how many bytes were written.
-#[derive(Drop)]
+#[derive(Clone, Copy)]
 pub enum Written {
     Refused(u8),
     Bytes(usize),
 }
 
 // How many bytes are needed, or that they are more than there are.
-#[derive(Drop)]
+#[derive(Clone, Copy)]
 pub enum Size {
     Short,
     Needed(usize),

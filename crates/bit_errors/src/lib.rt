@@ -9,14 +9,14 @@ ghost use Rattle.bit_errors.specs.Parts.{differing, Repeats};
 
 use bit_runs::Tally;
 
-#[derive(Drop)]
+#[derive(Clone, Copy)]
 pub struct BitErrors {
     pub errors: u32,
     pub longest: u32,
 }
 
 // Refusal 14, or the counts.
-#[derive(Drop)]
+#[derive(Clone, Copy)]
 pub enum Comparison {
     Refused,
     Counted(BitErrors),

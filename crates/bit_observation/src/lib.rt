@@ -10,14 +10,14 @@ ghost use Rattle.bit_observation.specs.Reading.{is_absent, nothing, with_pattern
 use bit_errors::Comparison;
 
 // A field that was read, or none.
-#[derive(Drop)]
+#[derive(Clone, Copy)]
 pub enum Field {
     Absent,
     Known(u64),
 }
 
 // What was read so far: whether the pattern was there, the item of the padding, the count and the burst.
-#[derive(Drop)]
+#[derive(Clone, Copy)]
 pub struct Seen {
     pub pattern: bool,
     pub padding: Field,
@@ -26,7 +26,7 @@ pub struct Seen {
 }
 
 // Reading goes on, ended at a malformed item, or has its answer.
-#[derive(Drop)]
+#[derive(Clone, Copy)]
 pub enum Reading {
     On(Seen),
     Ended(Seen),
@@ -35,7 +35,7 @@ pub enum Reading {
 }
 
 // `Observation::Sample`. `forward` is what the reflector counted, `burst` its longest run; `reverse` and `longest` are counted here.
-#[derive(Drop)]
+#[derive(Clone, Copy)]
 pub struct Sample {
     pub bits: u64,
     pub forward: u64,
@@ -45,7 +45,7 @@ pub struct Sample {
 }
 
 // Refusal 14; `None`; or one of the two observations.
-#[derive(Drop)]
+#[derive(Clone, Copy)]
 pub enum Observed {
     Refused,
     Unusable,
@@ -54,7 +54,7 @@ pub enum Observed {
 }
 
 // Where a value lies in the bytes.
-#[derive(Drop)]
+#[derive(Clone, Copy)]
 pub struct Part {
     pub from: usize,
     pub end: usize,

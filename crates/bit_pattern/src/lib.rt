@@ -4,7 +4,7 @@ ghost use Rattle.std.specs.Prelude.{◌≡◌, true, ◌++◌, ◌+◌, ◌*◌,
 ghost use Rattle.bit_pattern.specs.Pattern.{digit_of, after_prefix, all_digits, bytes_of, outcome, decoded, parsed};
 
 // The answer of `parse_pattern`: refusal 13, refusal 12, or how many bytes were written.
-#[derive(Drop)]
+#[derive(Clone, Copy)]
 pub enum Parsing {
     BadPattern,
     ShortRoom,

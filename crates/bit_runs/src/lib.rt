@@ -6,7 +6,7 @@ ghost use Rattle.bit_runs.specs.Tally.{after, Room};
 mod runs;
 
 // What is carried from bit to bit: how many were wrong, the run of wrong bits that reaches up to here, and the longest run.
-#[derive(Drop)]
+#[derive(Clone, Copy)]
 pub struct Tally {
     pub errors: u32,
     pub run: u32,

@@ -6,14 +6,14 @@ ghost use Rattle.bit_summary.specs.Record.{Bounded, counts_fit, outcome, record_
 ghost use Rattle.bit_summary.specs.Shown.{ratio_of, per_million, shown_of};
 
 // The longest run of wrong bits, or none.
-#[derive(Drop)]
+#[derive(Clone, Copy)]
 pub enum Burst {
     Absent,
     Bits(u32),
 }
 
 // One packet's padding: how many bits it has, how many were wrong, and the longest run of wrong ones where it is known.
-#[derive(Drop)]
+#[derive(Clone, Copy)]
 pub struct Sample {
     pub bits: u64,
     pub errors: u32,
@@ -21,7 +21,7 @@ pub struct Sample {
 }
 
 // The Rust's packets_received, packets_with_errors, padding_bits, bit_errors, burst_samples, burst_sum and max_burst_bits.
-#[derive(Drop)]
+#[derive(Clone, Copy)]
 pub struct DirectionSummary {
     pub received: u64,
     pub faulty: u64,
@@ -33,7 +33,7 @@ pub struct DirectionSummary {
 }
 
 // What recording a sample answers: refusal 14, refusal 4, or the summary as it then stands.
-#[derive(Drop)]
+#[derive(Clone, Copy)]
 pub enum Recording {
     TooManyBits,
     Full,
@@ -41,7 +41,7 @@ pub enum Recording {
 }
 
 // A ratio, or none.
-#[derive(Drop)]
+#[derive(Clone, Copy)]
 pub enum Ratio {
     Absent,
     Known(f64),
@@ -49,7 +49,7 @@ pub enum Ratio {
 
 // What a summary shows beside its counts: the Rust's bit_error_ratio, bit_errors_per_million, packets_with_errors_per_million and
 // average_max_burst_bits.
-#[derive(Drop)]
+#[derive(Clone, Copy)]
 pub struct Ratios {
     pub ratio: Ratio,
     pub errors: Ratio,

@@ -2,21 +2,21 @@
 use estimate::{ClockFormat, Estimates};
 
 // `PendingPacket` of src/sender.rs: the send time in ns, and a tag that is handed back untouched.
-#[derive(Drop)]
+#[derive(Clone, Copy)]
 pub struct PendingPacket {
     pub time: u64,
     pub tag: u64,
 }
 
 // The packet that the host still holds for a reply, or none.
-#[derive(Drop)]
+#[derive(Clone, Copy)]
 pub enum Pending {
     Absent,
     Held(PendingPacket),
 }
 
 // `ReplyKey`: what tells two replies apart.
-#[derive(Drop)]
+#[derive(Clone, Copy)]
 pub struct ReplyKey {
     pub sender: u32,
     pub reflector: u32,
@@ -24,26 +24,26 @@ pub struct ReplyKey {
 }
 
 // The ordinal of a probe, or none.
-#[derive(Drop)]
+#[derive(Clone, Copy)]
 pub enum Ordinal {
     Absent,
     Number(u32),
 }
 
 // S_TxC: how many packets the sender has transmitted.
-#[derive(Drop)]
+#[derive(Clone, Copy)]
 pub struct SenderTx(pub u32);
 
 // R_RxC: how many packets the reflector has received.
-#[derive(Drop)]
+#[derive(Clone, Copy)]
 pub struct ReflectorRx(pub u32);
 
 // R_TxC: how many packets the reflector has transmitted.
-#[derive(Drop)]
+#[derive(Clone, Copy)]
 pub struct ReflectorTx(pub u32);
 
 // `DirectMeasurementTlv` and `CounterPoint`: the three counters of RFC 8972, section 4.5.
-#[derive(Drop)]
+#[derive(Clone, Copy)]
 pub struct CounterPoint {
     pub sender: SenderTx,
     pub received: ReflectorRx,
@@ -51,21 +51,21 @@ pub struct CounterPoint {
 }
 
 // The counters of a reply, or none.
-#[derive(Drop)]
+#[derive(Clone, Copy)]
 pub enum Counters {
     Absent,
     Point(CounterPoint),
 }
 
 // A time in ns since 1970, or none.
-#[derive(Drop)]
+#[derive(Clone, Copy)]
 pub enum Time {
     Absent,
     Nanoseconds(i64),
 }
 
 // `FollowUpTelemetryTlv`, its timestamp as it came.
-#[derive(Drop)]
+#[derive(Clone, Copy)]
 pub struct FollowUpTelemetry {
     pub sequence: u32,
     pub timestamp: u64,
@@ -73,14 +73,14 @@ pub struct FollowUpTelemetry {
 }
 
 // The follow-up of a reply, or none.
-#[derive(Drop)]
+#[derive(Clone, Copy)]
 pub enum FollowUp {
     Absent,
     Telemetry(FollowUpTelemetry),
 }
 
 // `ReplyObservation`: timing and telemetry of one accepted reply.
-#[derive(Drop)]
+#[derive(Clone, Copy)]
 pub struct ReplyObservation {
     pub key: ReplyKey,
     pub rtt: u64,
@@ -95,7 +95,7 @@ pub struct ReplyObservation {
 }
 
 // What `sent` is told. Train 0 is none.
-#[derive(Drop)]
+#[derive(Clone, Copy)]
 pub struct SentProbe {
     pub sequence: u32,
     pub ordinal: u32,
@@ -104,14 +104,14 @@ pub struct SentProbe {
 }
 
 // What `accept` is told.
-#[derive(Drop)]
+#[derive(Clone, Copy)]
 pub struct Reply {
     pub key: ReplyKey,
     pub pending: Pending,
 }
 
 // One call of the host that can change a count.
-#[derive(Drop)]
+#[derive(Clone, Copy)]
 pub enum Call {
     Sent(SentProbe),
     Accept(Reply),

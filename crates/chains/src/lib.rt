@@ -14,7 +14,7 @@ ghost use Rattle.chains.specs.Hash.{products_of, key_hash, number_hash};
 use limits::CAPACITY;
 
 // The slot of the oldest entry, and how many entries there are.
-#[derive(Drop)]
+#[derive(Clone, Copy)]
 pub struct Ring {
     pub head: usize,
     pub len: usize,

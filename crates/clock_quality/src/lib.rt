@@ -9,7 +9,7 @@ ghost use Rattle.clock_quality.specs.Bounds.{Bounded, counts_fit, refusal_of, an
 use estimate::{ClockFormat, ErrorEstimate, Estimates, Reading};
 
 // An estimate with all its fields, and its reading.
-#[derive(Drop)]
+#[derive(Clone, Copy)]
 pub struct ClockEstimate {
     pub synchronized: bool,
     pub format: ClockFormat,
@@ -19,14 +19,14 @@ pub struct ClockEstimate {
 }
 
 // The estimate of the last sample, or none.
-#[derive(Drop)]
+#[derive(Clone, Copy)]
 pub enum LastEstimate {
     Absent,
     Seen(ClockEstimate),
 }
 
 // The largest sum of two usable errors in ms, or none.
-#[derive(Drop)]
+#[derive(Clone, Copy)]
 pub enum LargestError {
     Absent,
     Ms(f64),
@@ -34,7 +34,7 @@ pub enum LargestError {
 
 // How many samples there are, how many of each class, at whose end the invalid ones are invalid, the last two estimates and the largest
 // combined error.
-#[derive(Drop)]
+#[derive(Clone, Copy)]
 pub struct ClockQuality {
     pub samples: u64,
     pub both: u64,
@@ -50,7 +50,7 @@ pub struct ClockQuality {
 }
 
 // What recording a sample answers: the quality as it then stands, or the number of the refusal.
-#[derive(Drop)]
+#[derive(Clone, Copy)]
 pub enum Recorded {
     Quality(ClockQuality),
     Refused(u8),

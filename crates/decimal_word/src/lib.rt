@@ -3,14 +3,14 @@ ghost use Rattle.std.specs.Prelude.{◌≡◌, true};
 ghost use Rattle.decimal_word.specs.Words.{all_digits, within, word_of, small_of};
 
 // What a word says.
-#[derive(Drop)]
+#[derive(Clone, Copy)]
 pub enum Word {
     Number(u64),
     Wrong,
 }
 
 // The same of 16 bits.
-#[derive(Drop)]
+#[derive(Clone, Copy)]
 pub enum Small {
     Number(u16),
     Wrong,

@@ -9,14 +9,14 @@ ghost use Rattle.delays.specs.Bounds.{Bounded, counts_fit, refusal_of, answer};
 ghost use Rattle.delays.specs.Summary.{in_ms, extreme_ms, average_ms, summary_of};
 
 // A time span in ns. Zero is not negative.
-#[derive(Drop)]
+#[derive(Clone, Copy)]
 pub struct Nanoseconds {
     pub negative: bool,
     pub magnitude: u64,
 }
 
 // A sum of time spans in ns, high * 2^64 + low with its sign. Zero is not negative.
-#[derive(Drop)]
+#[derive(Clone, Copy)]
 pub struct Sum {
     pub negative: bool,
     pub high: u64,
@@ -24,13 +24,13 @@ pub struct Sum {
 }
 
 // The smallest or largest sample, or none.
-#[derive(Drop)]
+#[derive(Clone, Copy)]
 pub enum Extreme {
     Absent,
     At(Nanoseconds),
 }
 
-#[derive(Drop)]
+#[derive(Clone, Copy)]
 pub struct Delays {
     pub count: u64,
     pub sum: Sum,
@@ -39,20 +39,20 @@ pub struct Delays {
 }
 
 // What recording a sample answers: the delays as they then stand, or the number of the refusal.
-#[derive(Drop)]
+#[derive(Clone, Copy)]
 pub enum Recorded {
     Delays(Delays),
     Refused(u8),
 }
 
 // A time span in ms, or none.
-#[derive(Drop)]
+#[derive(Clone, Copy)]
 pub enum Milliseconds {
     Absent,
     Known(f64),
 }
 
-#[derive(Drop)]
+#[derive(Clone, Copy)]
 pub struct DelaySummary {
     pub samples: u64,
     pub min: Milliseconds,

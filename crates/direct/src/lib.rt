@@ -14,7 +14,7 @@ pub mod summary;
 use call_types::{CounterPoint, Ordinal, ReflectorRx, ReflectorTx, SenderTx};
 
 // The counts of `DirectSummary`. `exceeded` is its `history_exceeded`.
-#[derive(Drop)]
+#[derive(Clone, Copy)]
 pub struct Counts {
     pub observations: u64,
     pub unavailable: u64,
@@ -25,7 +25,7 @@ pub struct Counts {
 
 // What is known since the anchor: the anchor, the latest transmit point (`high_tx` is its count), `max_sender`, `max_rx`, and how many
 // transmit offsets were seen.
-#[derive(Drop)]
+#[derive(Clone, Copy)]
 pub struct Epoch {
     pub anchor: CounterPoint,
     pub latest: CounterPoint,
@@ -35,20 +35,20 @@ pub struct Epoch {
 }
 
 // `anchor: Option<..>` of `Direct`, with what goes when it goes.
-#[derive(Drop)]
+#[derive(Clone, Copy)]
 pub enum Window {
     Closed,
     Open(Epoch),
 }
 
-#[derive(Drop)]
+#[derive(Clone, Copy)]
 pub struct Direct {
     pub counts: Counts,
     pub window: Window,
 }
 
 // What becomes of the set of seen offsets.
-#[derive(Drop)]
+#[derive(Clone, Copy)]
 pub enum Offsets {
     Kept,
     // It begins with offset 0.
@@ -57,7 +57,7 @@ pub enum Offsets {
     Cleared,
 }
 
-#[derive(Drop)]
+#[derive(Clone, Copy)]
 pub struct Step {
     pub direct: Direct,
     pub offsets: Offsets,

@@ -6,14 +6,14 @@ use crate::{Counts, Direct, Epoch, Window};
 use call_types::Counters;
 
 // A number of packets, or none.
-#[derive(Drop)]
+#[derive(Clone, Copy)]
 pub enum Packets {
     Absent,
     Number(u64),
 }
 
 // `sender_packets`, `reflector_received`, `forward_missing`, `reflector_transmitted`, `replies_received`, `reverse_missing`.
-#[derive(Drop)]
+#[derive(Clone, Copy)]
 pub struct Spans {
     pub sent: Packets,
     pub received: Packets,
@@ -24,7 +24,7 @@ pub struct Spans {
 }
 
 // `DirectSummary`; `latest` is its `latest_transmit`.
-#[derive(Drop)]
+#[derive(Clone, Copy)]
 pub struct DirectSummary {
     pub counts: Counts,
     pub anchor: Counters,

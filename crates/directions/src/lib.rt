@@ -10,14 +10,14 @@ use delays::Sum;
 use quantiles::Quantiles;
 use series::Sampling;
 
-#[derive(Drop)]
+#[derive(Clone, Copy)]
 pub struct OwdDirection {
     pub quantiles: Quantiles,
     pub sum: Sum,
 }
 
 // What recording a sample answers: refusal 5; refusal 4; Rust's false; or true, with the direction as it then stands.
-#[derive(Drop)]
+#[derive(Clone, Copy)]
 pub enum Recording {
     Refused,
     SumsFull,
@@ -128,14 +128,14 @@ pub fn try_own(own: OwdDirection, slice: &mut [u64], reverse: bool, value: u64) 
 }
 
 // The forward direction is T2 - T1, from sender to reflector; the reverse T4 - T3.
-#[derive(Drop)]
+#[derive(Clone, Copy)]
 pub struct Directions {
     pub forward: OwdDirection,
     pub reverse: OwdDirection,
 }
 
 // What a sample of one direction answers: refusal 5; refusal 4; Rust's false; or true, with both as they then stand.
-#[derive(Drop)]
+#[derive(Clone, Copy)]
 pub enum Measuring {
     Refused,
     SumsFull,

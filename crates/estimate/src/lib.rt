@@ -6,14 +6,14 @@ ghost use Rattle.estimate.specs.Make.{is_ptp, format_of, made_of, smallest};
 ghost use Rattle.estimate.specs.Error.{InSeconds, InMs};
 
 // Which format a 64-bit timestamp has.
-#[derive(Drop)]
+#[derive(Clone, Copy)]
 pub enum ClockFormat {
     NTP,
     PTP,
 }
 
 // S, Z, scale and multiplier of RFC 8762, section 4.2.1.
-#[derive(Drop)]
+#[derive(Clone, Copy)]
 pub struct ErrorEstimate {
     pub synchronized: bool,
     pub ptp: bool,
@@ -22,14 +22,14 @@ pub struct ErrorEstimate {
 }
 
 // The sender's and the reflector's estimate of one reply, or none.
-#[derive(Drop)]
+#[derive(Clone, Copy)]
 pub enum Estimates {
     Absent,
     Pair(ErrorEstimate, ErrorEstimate),
 }
 
 // What making an estimate answers: the estimate, or the number of the refusal.
-#[derive(Drop)]
+#[derive(Clone, Copy)]
 pub enum Made {
     Estimate(ErrorEstimate),
     Refused(u8),
@@ -37,7 +37,7 @@ pub enum Made {
 
 // The reading of one estimate: known with its error in ms, or invalid with its 16 bits, so that what came can be seen.
 // RFC 4656, section 4.1.2: the multiplier 0 is invalid, not an error of zero.
-#[derive(Drop)]
+#[derive(Clone, Copy)]
 pub enum Reading {
     Known(f64),
     Invalid(u16),

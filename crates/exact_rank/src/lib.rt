@@ -35,7 +35,7 @@ const SIGNED: u64 = 9223372036854775808;
 const FEW: u64 = 256;
 
 // Four searches at once.
-#[derive(Drop)]
+#[derive(Clone, Copy)]
 struct Four {
     first: Search,
     second: Search,

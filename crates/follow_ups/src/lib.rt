@@ -13,7 +13,7 @@ use delays::Delays;
 use estimate::{ErrorEstimate, Estimates};
 
 // The counts of `FollowUpSummary`.
-#[derive(Drop)]
+#[derive(Clone, Copy)]
 pub struct FollowCounts {
     pub observations: u64,
     pub matched: u64,
@@ -24,7 +24,7 @@ pub struct FollowCounts {
 }
 
 // The counts, `follow_delay`, and `clock_quality`.
-#[derive(Drop)]
+#[derive(Clone, Copy)]
 pub struct FollowUps {
     pub counts: FollowCounts,
     pub delay: Delays,

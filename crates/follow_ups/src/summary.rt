@@ -3,7 +3,7 @@ use crate::FollowCounts;
 use clock_quality::ClockQuality;
 use delays::DelaySummary;
 
-#[derive(Drop)]
+#[derive(Clone, Copy)]
 pub struct FollowUpSummary {
     pub counts: FollowCounts,
     pub delay: DelaySummary,

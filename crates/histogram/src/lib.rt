@@ -33,7 +33,7 @@ pub fn total_is(buckets: &[u64], count: u64) -> bool
 }
 
 // The bucket of a rank, and what is left of the rank in it.
-#[derive(Drop)]
+#[derive(Clone, Copy)]
 pub struct Found {
     pub place: usize,
     pub left: u64,

@@ -102,7 +102,7 @@ pub fn extreme_magnitude(extreme: Extreme) -> u64
 }
 
 // The words of an open window, after the first.
-#[derive(Drop)]
+#[derive(Clone, Copy)]
 pub struct EpochWords {
     pub anchor: u64,
     pub transmitted: u64,

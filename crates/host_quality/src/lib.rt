@@ -94,7 +94,7 @@ fn estimate_word(estimate: ClockEstimate) -> u64
 }
 
 // The two words of a last estimate.
-#[derive(Drop)]
+#[derive(Clone, Copy)]
 pub struct LastWords {
     pub word: u64,
     pub bits: u64,

@@ -23,7 +23,7 @@ use monitor::Monitor;
 use probe_queue::QueuedProbe;
 
 // What is told of a reply: the call's number, and the words of its answer, zeros where it was refused.
-#[derive(Drop)]
+#[derive(Clone, Copy)]
 pub struct ReplyAnswer {
     pub number: u8,
     pub words: [u64; 6],

@@ -9,7 +9,7 @@ ghost use Rattle.host_welford.specs.Steps.{step_words};
 use spread::Welford;
 
 // The f64 patterns of the mean and of the sum of squares.
-#[derive(Drop)]
+#[derive(Clone, Copy)]
 pub struct FloatWords {
     pub mean: u64,
     pub m2: u64,

@@ -61,7 +61,7 @@ pub fn ready_probe(
 }
 
 // What a reply was to its probe: how many came before it, and the answer.
-#[derive(Drop)]
+#[derive(Clone, Copy)]
 pub struct Replied {
     pub before: u16,
     pub context: Accepted,

@@ -6,7 +6,7 @@ use replies::Replies;
 use thousandths::Thousandths;
 
 // `MeasurementSummary`, with document 01's thousandths, which are absent when nothing was requested (document 02, Q-5).
-#[derive(Drop)]
+#[derive(Clone, Copy)]
 pub struct Snapshot {
     pub replies: Replies,
     pub unobserved: u64,

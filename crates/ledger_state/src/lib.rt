@@ -12,7 +12,7 @@ use follow_ups::FollowUps;
 use replies::Replies;
 
 // The rings of the accepted keys and of the held probes, and whether the newest key awaits its observation.
-#[derive(Drop)]
+#[derive(Clone, Copy)]
 pub struct Tables {
     pub keys: Ring,
     pub probes: Ring,
@@ -20,7 +20,7 @@ pub struct Tables {
 }
 
 // Every count of `MeasurementSummary`, with `rtt`, `follow_delay` and `direct`.
-#[derive(Drop)]
+#[derive(Clone, Copy)]
 pub struct Counts {
     pub replies: Replies,
     pub rtt: Delays,
@@ -29,7 +29,7 @@ pub struct Counts {
 }
 
 // The words of the hash. They are no array, since an answer that is an enum cannot hold one.
-#[derive(Drop)]
+#[derive(Clone, Copy)]
 pub struct Secret {
     pub first: u32,
     pub second: u32,
@@ -74,7 +74,7 @@ impl Secret {
 }
 
 // `copies`, the words of the hash, and how many sent, accept and observe calls were served.
-#[derive(Drop)]
+#[derive(Clone, Copy)]
 pub struct Ledger {
     pub copies: u16,
     pub secret: Secret,

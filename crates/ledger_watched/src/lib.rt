@@ -9,14 +9,14 @@ use ledger_steps::Accepted;
 use monitor::Monitor;
 
 // Of `sent`: the next ledger and the next monitor, or document 01's number of the refusal.
-#[derive(Drop)]
+#[derive(Clone, Copy)]
 pub enum WatchedAnswer {
     Served(Ledger, Monitor),
     Refused(u8),
 }
 
 // Of `accept`.
-#[derive(Drop)]
+#[derive(Clone, Copy)]
 pub enum WatchedAccept {
     Served(Ledger, Monitor, Accepted),
     Refused(u8),

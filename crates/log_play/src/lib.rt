@@ -16,14 +16,14 @@ use monitor::Monitor;
 use probe_queue::QueuedProbe;
 
 // The monitor after a record, if the link has one, and the number of the refusal or 0.
-#[derive(Drop)]
+#[derive(Clone, Copy)]
 pub struct Step {
     pub watch: Watch,
     pub refused: u8,
 }
 
 // The monitor, and how many records were turned away so far.
-#[derive(Drop)]
+#[derive(Clone, Copy)]
 pub struct Tally {
     pub watch: Watch,
     pub turned: u64,

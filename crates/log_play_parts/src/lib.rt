@@ -19,7 +19,7 @@ use log_whole::PlayedCall as Read;
 use monitor::Monitor;
 
 // The number of the refusal or 0, and whether the monitor's call goes on.
-#[derive(Drop)]
+#[derive(Clone, Copy)]
 pub struct Part {
     pub refused: u8,
     pub go: bool,

@@ -11,7 +11,7 @@ use record_parts::Entry;
 pub const BAD_RECORD: u8 = 8;
 
 // What reading a record answers: what it says, or the number of the refusal.
-#[derive(Drop)]
+#[derive(Clone, Copy)]
 pub enum Record {
     Good(Entry),
     Refused(u8),

@@ -20,7 +20,7 @@ const BAD_TRAILER: u8 = 7;
 const BAD_RECORD: u8 = 8;
 
 // Why nothing is played, or what the log's link is made of.
-#[derive(Drop)]
+#[derive(Clone, Copy)]
 pub enum Checked {
     Refused(u8),
     Good(Settings),

@@ -11,7 +11,7 @@ use log_whole::Log;
 
 // What was kept of a log: how many records, the byte behind the last of them, and how many bytes were dropped from there on. The log that is written has
 // `stop` + 24 bytes.
-#[derive(Drop)]
+#[derive(Clone, Copy)]
 pub struct Cut {
     pub kept: u32,
     pub stop: usize,
@@ -19,7 +19,7 @@ pub struct Cut {
 }
 
 // What trimming answers: what was kept, or the number of the refusal.
-#[derive(Drop)]
+#[derive(Clone, Copy)]
 pub enum Trimmed {
     Kept(Cut),
     Refused(u8),

@@ -13,7 +13,7 @@ use log_record::Record;
 pub const MOST_BYTES: usize = 65536;
 
 // What a log says besides its records, which start at byte `start`. A threshold of 0 means no monitor.
-#[derive(Drop)]
+#[derive(Clone, Copy)]
 pub struct Settings {
     pub copies: u16,
     pub threshold: u16,
@@ -23,7 +23,7 @@ pub struct Settings {
 }
 
 // What checking a log answers: 9, 7 and 8 of document 01, or the settings. A bad record is counted from 0.
-#[derive(Drop)]
+#[derive(Clone, Copy)]
 pub enum Log {
     Good(Settings),
     TooLong,
@@ -32,7 +32,7 @@ pub enum Log {
 }
 
 // What record i of a log makes: a call, or nothing.
-#[derive(Drop)]
+#[derive(Clone, Copy)]
 pub enum PlayedCall {
     Call(Call),
     Nothing,

@@ -11,14 +11,14 @@ mod steps;
 
 use probe_queue::{QueueRing, QueuedProbe, Rule};
 
-#[derive(Drop)]
+#[derive(Clone, Copy)]
 pub enum State {
     Idle,
     Active,
     Failed,
 }
 
-#[derive(Drop)]
+#[derive(Clone, Copy)]
 pub struct Summary {
     pub state: State,
     pub loss_threshold: u16,
@@ -30,7 +30,7 @@ pub struct Summary {
 
 // `run`: how many of the last queued sequences are known to ascend. `latest`: the last queued sequence.
 // While the run covers the queue, no sequence is queued twice, and a pop has no second copy to unmark.
-#[derive(Drop)]
+#[derive(Clone, Copy)]
 pub struct Monitor {
     pub summary: Summary,
     pub timeout: u64,
@@ -41,14 +41,14 @@ pub struct Monitor {
 }
 
 // The next monitor, or document 01's number of the refusal.
-#[derive(Drop)]
+#[derive(Clone, Copy)]
 pub enum MonitorAnswer {
     Served(Monitor),
     Refused(u8),
 }
 
 // `Option<Instant>`, or a refusal's number.
-#[derive(Drop)]
+#[derive(Clone, Copy)]
 pub enum Deadline {
     Absent,
     At(u64),

@@ -11,7 +11,7 @@ ghost use Rattle.percentiles.specs.Fours.{or_last, rank_at, four_ranks, put_four
 use quantiles::Quantiles;
 
 // The answer of `percentiles`: refusal 5; no samples, so no values; or the values, in the lent answer.
-#[derive(Drop)]
+#[derive(Clone, Copy)]
 pub enum Showing {
     Refused,
     Empty,

@@ -4,13 +4,13 @@ use delays::{Delays, Extreme, Milliseconds, Nanoseconds, Recorded, Sum};
 use play_script::{Call, Next};
 
 // What a call leaves, and its refusal or 0.
-#[derive(Drop)]
+#[derive(Clone, Copy)]
 struct Outcome {
     refusal: u64,
     state: Delays,
 }
 
-#[derive(Drop)]
+#[derive(Clone, Copy)]
 enum After {
     Stop,
     Went(Delays),
@@ -72,7 +72,7 @@ fn play(state: Delays, call: Call) -> Outcome {
 }
 
 // A word that says whether there is a value, and the value.
-#[derive(Drop)]
+#[derive(Clone, Copy)]
 struct Words {
     known: u64,
     value: u64,
@@ -89,7 +89,7 @@ fn ms_words(ms: Milliseconds) -> Words {
 }
 
 // Whether there is an extreme, its sign and its magnitude.
-#[derive(Drop)]
+#[derive(Clone, Copy)]
 struct ExtremeWords {
     known: u64,
     negative: u64,

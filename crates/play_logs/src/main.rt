@@ -3,7 +3,7 @@
 ghost use Rattle.std.specs.Prelude.{◌≤◌};
 
 // A length, or the end of the logs.
-#[derive(Drop)]
+#[derive(Clone, Copy)]
 enum Next {
     End,
     Length(u64),

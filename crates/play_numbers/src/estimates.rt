@@ -48,7 +48,7 @@ fn refused(number: u8) -> Answer {
 }
 
 // Of a reading: whether the error is known, the error's bits, and the 16 bits of an invalid one. What is not there is 0.
-#[derive(Drop)]
+#[derive(Clone, Copy)]
 pub struct ErrorWords {
     pub known: u64,
     pub bits: u64,

@@ -7,26 +7,26 @@ use clock_quality::ClockQuality;
 use play_script::{Call, Next};
 
 // Eight words, and eight more.
-#[derive(Drop)]
+#[derive(Clone, Copy)]
 pub struct Answer {
     pub first: [u64; 8],
     pub second: [u64; 8],
 }
 
 // What the calls leave.
-#[derive(Drop)]
+#[derive(Clone, Copy)]
 pub struct State {
     pub quality: ClockQuality,
 }
 
 // A call's answer, and what it leaves.
-#[derive(Drop)]
+#[derive(Clone, Copy)]
 pub struct Outcome {
     pub answer: Answer,
     pub state: State,
 }
 
-#[derive(Drop)]
+#[derive(Clone, Copy)]
 enum After {
     Stop,
     Went(State),

@@ -65,7 +65,7 @@ fn with_ends(q: ClockQuality, call: Call) -> ClockQuality {
 }
 
 // An estimate's fields in one word, its error in ms, and the 16 bits of an invalid one.
-#[derive(Drop)]
+#[derive(Clone, Copy)]
 struct LastWords {
     fields: u64,
     bits: u64,

@@ -9,7 +9,7 @@ use play_script::{Call, Digest, Next};
 use quantiles::{Quantiles, Recording};
 
 // What a call answers: its refusal or 0, whether it recorded or shows a value, the value, and the state that it leaves.
-#[derive(Drop)]
+#[derive(Clone, Copy)]
 struct Outcome {
     refusal: u64,
     flag: u64,
@@ -179,7 +179,7 @@ fn write(outcome: Outcome, digest: Digest) {
     ]);
 }
 
-#[derive(Drop)]
+#[derive(Clone, Copy)]
 enum After {
     Stop,
     Went(Quantiles),

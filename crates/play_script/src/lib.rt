@@ -4,7 +4,7 @@
 ghost use Rattle.std.specs.Prelude.{◌≡◌, length};
 
 // One call: its operation, and what it is told.
-#[derive(Drop)]
+#[derive(Clone, Copy)]
 pub struct Call {
     pub operation: u64,
     pub a: u64,
@@ -17,7 +17,7 @@ pub struct Call {
 }
 
 // The next call, or the end of the script.
-#[derive(Drop)]
+#[derive(Clone, Copy)]
 pub enum Next {
     End,
     Told(Call),
@@ -123,7 +123,7 @@ pub fn write(words: [u64; 8]) -> bool {
 }
 
 // Two digests of a long list, as compare/src/digest.rs has them.
-#[derive(Drop)]
+#[derive(Clone, Copy)]
 pub struct Digest {
     pub first: u64,
     pub second: u64,

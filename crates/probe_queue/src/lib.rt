@@ -7,7 +7,7 @@ ghost use Rattle.limits.specs.Limits.{capacity};
 
 // `Probe`, with its sequence's mark: 0 is no mark, anything else is one, so that whatever a host's memory holds is a record.
 #[repr(C)]
-#[derive(Drop)]
+#[derive(Clone, Copy)]
 pub struct QueuedProbe {
     pub sequence: u32,
     pub deadline: u64,
@@ -15,14 +15,14 @@ pub struct QueuedProbe {
 }
 
 // Which records of a room are queued: `len` of them, from `head` on, past the end from 0 on.
-#[derive(Drop)]
+#[derive(Clone, Copy)]
 pub struct QueueRing {
     pub head: usize,
     pub len: usize,
 }
 
 // Which records a look from the front passes.
-#[derive(Drop)]
+#[derive(Clone, Copy)]
 pub enum Rule {
     Due(u64),
     Below(u32),

@@ -16,7 +16,7 @@ use limits::CAPACITY;
 pub const LANE: usize = 4;
 
 // `Probe` of the original, with its sequence and its train (document 02, Q-3). It is answered where it has replies.
-#[derive(Drop)]
+#[derive(Clone, Copy)]
 pub struct HeldProbe {
     pub sequence: u32,
     pub replies: u16,
@@ -26,7 +26,7 @@ pub struct HeldProbe {
 }
 
 // What `remember` answers: the ring then, the slot of the probe, whether the oldest went for it, and whether that had no reply.
-#[derive(Drop)]
+#[derive(Clone, Copy)]
 pub struct Remembered {
     pub ring: Ring,
     pub slot: usize,

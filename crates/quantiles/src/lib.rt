@@ -10,7 +10,7 @@ ghost use Rattle.quantiles.specs.Between.{between, Tried};
 const MOST: u64 = 18446744073709551615;
 
 // How many samples were recorded, and the least and the greatest of them. At count 0 there is none, whatever `min` and `max` hold.
-#[derive(Drop)]
+#[derive(Clone, Copy)]
 pub struct Quantiles {
     pub signed: bool,
     pub count: u64,
@@ -19,7 +19,7 @@ pub struct Quantiles {
 }
 
 // The answer of `record`: refusal 5; false, at a count of 2^64-1; or true, with the state after it.
-#[derive(Drop)]
+#[derive(Clone, Copy)]
 pub enum Recording {
     Refused,
     Full,

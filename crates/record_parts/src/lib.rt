@@ -16,7 +16,7 @@ use estimate::{ClockFormat, ErrorEstimate, Estimates};
 
 // What a record of a log says: a call, and with an observe the time of its flag 16, to which an earlier host converted the follow-up's
 // timestamp. No call is told that time (document 02, Q-9), so that a record and the call that it makes are two types.
-#[derive(Drop)]
+#[derive(Clone, Copy)]
 pub enum Entry {
     Sent(SentProbe),
     Accept(Reply),

@@ -91,7 +91,7 @@ fn figures_by(copies: u16, log: &[u8], marks: &[u8], n: u32, session: Session) -
 // ---- the check
 
 // Why nothing is counted, or what the log says besides its records.
-#[derive(Drop)]
+#[derive(Clone, Copy)]
 pub enum Checked {
     Refused(u8),
     Good(Settings),

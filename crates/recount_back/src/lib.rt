@@ -180,7 +180,7 @@ pub fn step(from: u32, to: u32) -> u32
 }
 
 // The highest reflector number, or none before the first unique reply.
-#[derive(Drop)]
+#[derive(Clone, Copy)]
 pub enum Highest {
     Absent,
     Number(u32),

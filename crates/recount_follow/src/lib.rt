@@ -11,7 +11,7 @@ use recount_observed::Observation;
 
 // What an observed reply leaves to its follow-up: nothing, a record without T4, or one with T4, whose format and reference say how a
 // timestamp is to be read.
-#[derive(Drop)]
+#[derive(Clone, Copy)]
 pub enum Left {
     Nothing,
     Untimed,
@@ -20,7 +20,7 @@ pub enum Left {
 
 // What is asked of the observed replies that carry a number: is there any, how many, what the first left, and whether a follow-up was
 // matched to it.
-#[derive(Drop)]
+#[derive(Clone, Copy)]
 pub struct Brief {
     pub there: bool,
     pub count: u32,

@@ -5,7 +5,7 @@ ghost use Rattle.recount_observed.specs.Observed.{observation_of, observation_at
 use call_types::ReplyObservation;
 use recount_seen::Seen;
 
-#[derive(Drop)]
+#[derive(Clone, Copy)]
 pub enum Observation {
     Absent,
     Made(ReplyObservation),

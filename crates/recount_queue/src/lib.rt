@@ -8,7 +8,7 @@ use call_types::{Call, Reply, SentProbe};
 use log_whole::PlayedCall;
 
 // What a served record is to the monitor: a probe, a unique reply to a sequence, an advance to a time, an idle, or nothing.
-#[derive(Drop)]
+#[derive(Clone, Copy)]
 pub enum Move {
     Sends(SentProbe),
     Hears(u32),
@@ -18,7 +18,7 @@ pub enum Move {
 }
 
 // The probe that a record queues, if it does.
-#[derive(Drop)]
+#[derive(Clone, Copy)]
 pub enum Queued {
     Nothing,
     Probe(SentProbe),

@@ -20,7 +20,7 @@ pub const KNOWN: u8 = 4;
 pub const FIRST: u8 = 5;
 
 // What a marked record says. A unique reply is `Known` where its probe was held, and otherwise `First`.
-#[derive(Drop)]
+#[derive(Clone, Copy)]
 pub enum Seen {
     Nothing,
     Probe(SentProbe),

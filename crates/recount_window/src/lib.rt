@@ -111,7 +111,7 @@ pub fn was_seen(
 // ---- how far a run reaches from its anchor
 
 // How many counters, how many of them above transmit offset 0, the highest transmit offset, the sender maximum and the received maximum.
-#[derive(Drop)]
+#[derive(Clone, Copy)]
 pub struct Reach {
     pub points: u32,
     pub above: u32,

@@ -5,14 +5,14 @@ ghost use Rattle.replies.specs.Served.{tally, evicted_by, requested_by, after_se
 ghost use Rattle.replies.specs.Bounds.{TotalsIn, EvictedIn, InBounds};
 
 // A reflector's sequence number, or none.
-#[derive(Drop)]
+#[derive(Clone, Copy)]
 pub enum Reflector {
     Absent,
     Number(u32),
 }
 
 // `answered_probes`, `additional_replies`, `late_replies`, `satisfied`.
-#[derive(Drop)]
+#[derive(Clone, Copy)]
 pub struct Answers {
     pub answered: u64,
     pub additional: u64,
@@ -21,7 +21,7 @@ pub struct Answers {
 }
 
 // `last_reflector_sequence`, `highest_reflector`, `reordered_replies`, `independent_sequence_observations`.
-#[derive(Drop)]
+#[derive(Clone, Copy)]
 pub struct Numbers {
     pub last: Reflector,
     pub highest: Reflector,
@@ -30,7 +30,7 @@ pub struct Numbers {
 }
 
 // `requested_replies`, `unique_replies`, `duplicate_replies`, `unknown_replies`.
-#[derive(Drop)]
+#[derive(Clone, Copy)]
 pub struct Totals {
     pub requested: u64,
     pub unique: u64,
@@ -39,14 +39,14 @@ pub struct Totals {
 }
 
 // `probes_evicted`, `replies_evicted`, and how many of the probes had no reply (document 02, Q-3).
-#[derive(Drop)]
+#[derive(Clone, Copy)]
 pub struct Evicted {
     pub probes: u64,
     pub replies: u64,
     pub unanswered: u64,
 }
 
-#[derive(Drop)]
+#[derive(Clone, Copy)]
 pub struct Replies {
     pub totals: Totals,
     pub answers: Answers,
@@ -55,7 +55,7 @@ pub struct Replies {
 }
 
 // What an accepted reply is.
-#[derive(Drop)]
+#[derive(Clone, Copy)]
 pub enum ReplyClass {
     Duplicate,
     Unknown,

@@ -1,14 +1,14 @@
 // The figures of the report, a struct for each line, in the report's order. Counts are u64, as the ledger's are.
 
 // `records`, `turned away`.
-#[derive(Drop)]
+#[derive(Clone, Copy)]
 pub struct PlayedRecords {
     pub records: u64,
     pub turned_away: u64,
 }
 
 // `requested`, `unobserved`, `thousandths`.
-#[derive(Drop)]
+#[derive(Clone, Copy)]
 pub struct Loss {
     pub requested: u64,
     pub unobserved: u64,
@@ -16,7 +16,7 @@ pub struct Loss {
 }
 
 // `unique`, `duplicate`, `unknown`.
-#[derive(Drop)]
+#[derive(Clone, Copy)]
 pub struct Replies {
     pub unique: u64,
     pub duplicate: u64,
@@ -24,7 +24,7 @@ pub struct Replies {
 }
 
 // `answered`, `additional`, `late`.
-#[derive(Drop)]
+#[derive(Clone, Copy)]
 pub struct Probes {
     pub answered: u64,
     pub additional: u64,
@@ -32,14 +32,14 @@ pub struct Probes {
 }
 
 // `reordered`, `independent`.
-#[derive(Drop)]
+#[derive(Clone, Copy)]
 pub struct Order {
     pub reordered: u64,
     pub independent: u64,
 }
 
 // `followup`, which heads its observations, and its classes.
-#[derive(Drop)]
+#[derive(Clone, Copy)]
 pub struct FollowUps {
     pub observations: u64,
     pub matched: u64,
@@ -50,7 +50,7 @@ pub struct FollowUps {
 }
 
 // `direct`, which heads its observations.
-#[derive(Drop)]
+#[derive(Clone, Copy)]
 pub struct Direct {
     pub observations: u64,
     pub unavailable: u64,
@@ -59,21 +59,21 @@ pub struct Direct {
 }
 
 // A number that may be absent.
-#[derive(Drop)]
+#[derive(Clone, Copy)]
 pub enum Value {
     Absent,
     Number(u64),
 }
 
 // `missing forward`, `reverse`.
-#[derive(Drop)]
+#[derive(Clone, Copy)]
 pub struct Missing {
     pub forward: Value,
     pub reverse: Value,
 }
 
 // `state` with its consecutive losses. Without a monitor there are none to be given: the report shows 0.
-#[derive(Drop)]
+#[derive(Clone, Copy)]
 pub enum Session {
     None,
     Idle(u32),
@@ -82,7 +82,7 @@ pub enum Session {
 }
 
 // `rtt samples`, `min`, `max`, in ns: a round trip is not negative.
-#[derive(Drop)]
+#[derive(Clone, Copy)]
 pub struct RoundTrip {
     pub samples: u64,
     pub min: Value,
@@ -90,13 +90,13 @@ pub struct RoundTrip {
 }
 
 // `evicted unanswered` (document 02, Q-3).
-#[derive(Drop)]
+#[derive(Clone, Copy)]
 pub struct Evicted {
     pub unanswered: u64,
 }
 
 // All that the report shows.
-#[derive(Drop)]
+#[derive(Clone, Copy)]
 pub struct Figures {
     pub played: PlayedRecords,
     pub loss: Loss,

@@ -12,7 +12,7 @@ pub use template::words;
 pub const REPORT_ROOM: usize = 1024;
 
 // The length of the text, or the refusal's number.
-#[derive(Drop)]
+#[derive(Clone, Copy)]
 pub enum ReportAnswer {
     Written(usize),
     Refused(u8),

@@ -109,7 +109,7 @@ fn place_of(rank: u64, held: u64, seen: u64) -> u64
 }
 
 // A key at which to part a range, and whether that pays.
-#[derive(Drop)]
+#[derive(Clone, Copy)]
 pub struct Guess {
     pub pays: bool,
     pub value: u64,

@@ -147,7 +147,7 @@ pub fn digits(
 }
 
 // How many samples have a key below a value, and how many have one of at most it.
-#[derive(Drop)]
+#[derive(Clone, Copy)]
 pub struct Tally {
     pub under: u64,
     pub reach: u64,

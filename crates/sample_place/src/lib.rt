@@ -6,7 +6,7 @@ ghost use Rattle.sample_place.specs.Places.{EndedAt, Partable, Parted};
 
 // A search for the sample of a rank, counted from 0. Its key is one of low to high. While these differ, `before` samples have
 // a key below low, and `through` have one of at most high.
-#[derive(Drop)]
+#[derive(Clone, Copy)]
 pub struct Search {
     pub low: u64,
     pub high: u64,
@@ -16,7 +16,7 @@ pub struct Search {
 }
 
 // The digit that holds a rank, and the rank within it.
-#[derive(Drop)]
+#[derive(Clone, Copy)]
 pub struct Place {
     pub digit: usize,
     pub left: u64,

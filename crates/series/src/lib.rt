@@ -11,7 +11,7 @@ use delays::{DelaySummary, Delays, Extreme, Nanoseconds, Sum};
 use quantiles::{Quantiles, Recording};
 
 // What a sample comes to: refusal 5; refusal 4; Rust's false; or true, with the quantiles after it.
-#[derive(Drop)]
+#[derive(Clone, Copy)]
 pub enum Sampling {
     Refused,
     SumsFull,
@@ -45,7 +45,7 @@ pub fn sum_with(sum: Sum, ns: Nanoseconds) -> Sum
 }
 
 // Two words of a sum.
-#[derive(Drop)]
+#[derive(Clone, Copy)]
 pub struct SumWords {
     pub high: u64,
     pub low: u64,

@@ -10,7 +10,7 @@ use quantiles::Quantiles;
 use series::Sampling;
 
 // The Rust's variance_origin, centered_mean_ns and m2_ns.
-#[derive(Drop)]
+#[derive(Clone, Copy)]
 pub struct Welford {
     pub origin: u64,
     pub mean: f64,
@@ -18,14 +18,14 @@ pub struct Welford {
 }
 
 // The Rust's jitter_sum_ns, jitter_count and last_rtt_ns.
-#[derive(Drop)]
+#[derive(Clone, Copy)]
 pub struct Jitter {
     pub sum: Sum,
     pub count: u64,
     pub last: u64,
 }
 
-#[derive(Drop)]
+#[derive(Clone, Copy)]
 pub struct RttCollector {
     pub quantiles: Quantiles,
     pub sum: Sum,
@@ -34,7 +34,7 @@ pub struct RttCollector {
 }
 
 // What recording a sample answers: refusal 5; refusal 4; Rust's false; or true, with the collector as it then stands.
-#[derive(Drop)]
+#[derive(Clone, Copy)]
 pub enum Recording {
     Refused,
     SumsFull,

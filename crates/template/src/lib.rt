@@ -15,7 +15,7 @@ pub const PLACES: usize = 31;
 pub const PLACE: u8 = b'#';
 
 // What a place shows: a number, `-` where it is absent, or the word of a session's state.
-#[derive(Drop)]
+#[derive(Clone, Copy)]
 pub enum Shown {
     Absent,
     Number(u64),

@@ -5,13 +5,13 @@ ghost use Rattle.std.specs.Prelude.{◌≡◌, ◌*◌, ◌/◌, ◌%◌, ◌<�
 ghost use Rattle.thousandths.specs.Thousandths.{thousandths_of};
 
 // The figure of loss, or none.
-#[derive(Drop)]
+#[derive(Clone, Copy)]
 pub enum Thousandths {
     Absent,
     Known(u64),
 }
 
-#[derive(Drop)]
+#[derive(Clone, Copy)]
 pub struct Division {
     pub whole: u64,
     pub rest: u64,
