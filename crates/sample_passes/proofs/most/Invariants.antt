@@ -1,0 +1,12 @@
+-- `sample_passes::most`: the loop's invariant: the distance leads to where the keys of the samples passed end.
+use Rattle.std.proofs.Common.{◌-◌, ◌≤◌, length, take}
+use Rattle.sample_passes.specs.Keys.{shifted}
+use Rattle.sample_passes.specs.Passes.{Most}
+use Rattle.sample_passes.proofs.most.Given as goal
+
+-- Assumes nothing.
+abbrev pub invariant-loop-i : goal.invariant-loop-i
+invariant-loop-i l = (l.i ≤ l.count) × (l.count ≤ length l.samples) × (l.low ≤ l.high) × (l.distance ≤ l.high - l.low) × Most (shifted l.bias) (take l.i l.samples) l.low l.high (l.high - l.distance)
+
+abbrev pub decreases-loop-i : goal.decreases-loop-i
+decreases-loop-i l = l.count - l.i

@@ -1,0 +1,10 @@
+use Rattle.std.proofs.Common.{◌+◌, sym, arith}
+use Rattle.sample_passes.proofs.Counting.{one_below, none_below}
+use Rattle.sample_passes.proofs.one_through.Goals as goal
+
+-- Assumes nothing.
+pub returns-then-k-value : goal.returns-then-k-value
+returns-then-k-value c = sym (one_below c.args.k (c.args.value + 1) (omega (arith, c.if-k-value.true)))
+
+pub returns-else-k-value : goal.returns-else-k-value
+returns-else-k-value c = sym (none_below c.args.k (c.args.value + 1) (omega (arith, c.if-k-value.false)))

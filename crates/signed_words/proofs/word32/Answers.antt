@@ -1,0 +1,37 @@
+use mathlib.Core.Path.{sym, ap, ◌∙◌, subst}
+use Prim.Native.Nat.{◌-◌, ◌≤◌}
+use native.Mathlib.Omega.{arith}
+use lib.IntN.{ℤ, nat_abs}
+use lib.Signed.{non_neg}
+use lib.Dec.{T}
+use mir.Syntax.{w32}
+use mir.Val.{Fits, of_z}
+use mir.ValLaws.{of_z_fits}
+use Rattle.signed_words.proofs.Signed.{turned, turned-fits, turned_negative_is, kept, negative_bits, small}
+use Rattle.signed_words.proofs.word32.Goals as goal
+
+pub overflow_sub-result : goal.overflow_sub-result
+overflow_sub-result c = turned-fits w32 c.args.z c.ranges.z
+
+pub overflow_cast-result : goal.overflow_cast-result
+overflow_cast-result c =
+    subst (λ (x : ℤ). T (non_neg x) × Fits w32 (nat_abs x)) (sym (turned_negative_is w32 c.args.z c.ranges.z c.if-z-lt0.true))
+    (tt, record { fits = omega (arith, small w32 c.args.z c.ranges.z) })
+
+pub overflow_sub-result-then-z-lt0 : goal.overflow_sub-result-then-z-lt0
+overflow_sub-result-then-z-lt0 c =
+    subst (λ (x : ℤ). nat_abs x ≤ 4294967295) (sym (turned_negative_is w32 c.args.z c.ranges.z c.if-z-lt0.true))
+    (omega (arith, small w32 c.args.z c.ranges.z))
+
+pub returns-then-z-lt0 : goal.returns-then-z-lt0
+returns-then-z-lt0 c =
+    ap (λ (x : ℤ). 4294967295 - nat_abs x) (turned_negative_is w32 c.args.z c.ranges.z c.if-z-lt0.true)
+    ∙ negative_bits w32 c.args.z c.ranges.z c.if-z-lt0.true
+
+pub overflow_cast-result-2 : goal.overflow_cast-result-2
+overflow_cast-result-2 c =
+    subst (λ (x : ℤ). T (non_neg x) × Fits w32 (nat_abs x)) (sym (kept w32 c.args.z c.ranges.z c.if-z-lt0.false))
+    (tt, of_z_fits w32 c.args.z c.ranges.z)
+
+pub returns : goal.returns
+returns c = ap nat_abs (kept w32 c.args.z c.ranges.z c.if-z-lt0.false)
