@@ -4,7 +4,7 @@ use Rattle.floats.proofs.Doubled.{first, second, third, fourth}
 use Rattle.floats.proofs.round_half_away.Goals as goal
 
 -- what owning an `f64` tells: the format holds it
-held : (c : tie.Start) → T (fits binary64 c.args.x)
+held : (c : goal.Start) → T (fits binary64 c.args.x)
 held c = subst T (sym c.well-formed.0.1) tt
 
 pub truncating_f64_to_u64-twice-requires : goal.truncating_f64_to_u64-twice-requires
