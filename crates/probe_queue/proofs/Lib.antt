@@ -1,6 +1,3 @@
-pub mod Again
 pub mod Leading
 pub mod Lengths
-pub mod Seen
-pub mod SliceCalls
 pub mod Stored
