@@ -1,0 +1,16 @@
+use mathlib.Core.Path.{sym, ◌∙◌}
+use Rattle.delays.proofs.Steps.{now_most, still-most, first-most}
+use Rattle.delays.proofs.greater_of.Goals as goal
+
+pub returns-then-below : goal.returns-then-below
+returns-then-below c =
+    let a = c.args in
+    now_most a.extreme a.ns _ c.extreme-1.given.1 (sym c.below.ensures ∙ c.if-below.true)
+
+pub returns-else-below : goal.returns-else-below
+returns-else-below c =
+    let a = c.args in
+    still-most a.extreme a.ns _ c.extreme-1.given.1 (sym c.below.ensures ∙ c.if-below.false)
+
+pub returns-in-Absent : goal.returns-in-Absent
+returns-in-Absent c = first-most _ _ c.enum_told-1.given.1
