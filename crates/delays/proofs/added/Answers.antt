@@ -1,10 +1,10 @@
 use mathlib.Core.Path.{ap, ◌∙◌}
-use mathlib.Core.Logic.{⊎_elim}
 use Rattle.floats.specs.Whole.{magnitude}
 use Rattle.delays.specs.Sums.{sum_from}
 use Rattle.delays.proofs.Signs.{same_sign, keeps_sign, takes_sign, one_word, small_sum, high_enough, low_enough}
 use borrow.Author.Rules.{rules}
 use Rattle.delays.proofs.added.Goals as goal
+use Rattle.delays.proofs.added.Goals.{then-high-eq0+else-low-ns, else-high-eq0}
 
 pub returns-then-sum-ns : goal.returns-then-sum-ns
 returns-then-sum-ns c =
@@ -22,10 +22,10 @@ returns-then-low-ns c =
 
 pub lessened-requires : goal.lessened-requires
 lessened-requires c =
-    ⊎_elim
-    (λ w. low_enough _ _ _ w.2.left)
-    (λ w. high_enough _ _ _ (search rules) w.left)
-    c.if-high-eq0.branch
+    elim c.if-high-eq0.branch [
+      | then-high-eq0+else-low-ns w ↦ low_enough _ _ _ w.if-low-ns.false
+      | else-high-eq0 w ↦ high_enough _ _ _ (search rules) w.if-high-eq0.false
+    ]
 
 pub returns : goal.returns
 returns c =
@@ -33,7 +33,7 @@ returns c =
     let s = a.sum in
     c.lessened.ensures
     ∙ keeps_sign s.negative a.ns.negative (magnitude s.high s.low) a.ns.magnitude c.if-sum-ns.false
-    (⊎_elim
-    (λ w. low_enough s.high s.low a.ns.magnitude w.2.left)
-    (λ w. high_enough s.high s.low a.ns.magnitude (search rules) w.left)
-    c.if-high-eq0.branch)
+    (elim c.if-high-eq0.branch [
+      | then-high-eq0+else-low-ns w ↦ low_enough s.high s.low a.ns.magnitude w.if-low-ns.false
+      | else-high-eq0 w ↦ high_enough s.high s.low a.ns.magnitude (search rules) w.if-high-eq0.false
+    ])

@@ -5,12 +5,12 @@ use Rattle.delays.proofs.greater_of.Goals as goal
 pub returns-then-below : goal.returns-then-below
 returns-then-below c =
     let a = c.args in
-    now_most a.extreme a.ns _ c.extreme-1.given.1 (sym c.below.ensures ∙ c.if-below.true)
+    now_most a.extreme a.ns _ c.in-At.is (sym c.below.ensures ∙ c.if-below.true)
 
 pub returns-else-below : goal.returns-else-below
 returns-else-below c =
     let a = c.args in
-    still-most a.extreme a.ns _ c.extreme-1.given.1 (sym c.below.ensures ∙ c.if-below.false)
+    still-most a.extreme a.ns _ c.in-At.is (sym c.below.ensures ∙ c.if-below.false)
 
 pub returns-in-Absent : goal.returns-in-Absent
-returns-in-Absent c = first-most _ _ c.enum_told-1.given.1
+returns-in-Absent c = first-most _ _ c.in-Absent.is
