@@ -3,4 +3,4 @@ use mir.Syntax.{w64}
 use Rattle.ranges.proofs.reference_within.Goals as goal
 
 pub returns : goal.returns
-returns c = both_read w64 3999999999 c.args.z c.fits.z
+returns c = both_read w64 3999999999 c.args.z c.ranges.z
