@@ -1,8 +1,9 @@
-use Rattle.std.proofs.Common.{◌≡◌, ◌-◌, ◌^◌, length, replicate, refl, ⊎_elim, arith, length-set, pow_pos, rules}
+use Rattle.std.proofs.Common.{◌≡◌, ◌-◌, ◌^◌, length, replicate, refl, arith, length-set, pow_pos, rules}
 use lib.ListN.{get_or-replicate}
 use Rattle.sample_passes.specs.Keys.{shifted}
 use Rattle.sample_passes.proofs.DigitCounts.{counted_none, digit-small, digit-counted, digit_skipped, digit-most}
 use Rattle.sample_passes.proofs.digits.Goals as goal
+use Rattle.sample_passes.proofs.digits.Goals.{then-d-span, else-d-span}
 
 pub loop-i-init : goal.loop-i-init
 loop-i-init c = (
@@ -34,15 +35,18 @@ pub loop-i-preserved : goal.loop-i-preserved
 loop-i-preserved c = (
   omega arith,
   omega arith,
-  ⊎_elim (λ w. rw (w.1, length-set) c.loop-i.invariant.2) (λ w. rw w.1 c.loop-i.invariant.2) c.if-d-span.branch,
-  ⊎_elim
-      (λ w. rw w.1 (digit-counted c.args.bias c.args.samples.now c.args.low c.args.high (2 ^ c.args.shift)
-      (search rules) (search rules) c.loop-i.i (omega arith) c.past-d.result (search rules)
-      c.past-d.ensures c.loop-i.counts c.loop-i.invariant.3 (omega arith) (pow_pos c.args.shift) (omega (arith, digit-small c.past-d.result c.args.shift (omega arith)))))
-      (λ w. rw w.1 (digit_skipped c.args.bias c.args.samples.now c.args.low c.args.high (2 ^ c.args.shift)
-      (search rules) (search rules) c.loop-i.i (omega arith) c.past-d.result (search rules)
-      c.past-d.ensures c.loop-i.counts c.loop-i.invariant.3 w.0.left))
-      c.if-d-span.branch,
+  elim c.if-d-span.branch [
+    | then-d-span w ↦ rw (w.counts-is, length-set) c.loop-i.invariant.2
+    | else-d-span w ↦ rw w.counts-is c.loop-i.invariant.2
+  ],
+  elim c.if-d-span.branch [
+    | then-d-span w ↦ rw w.counts-is (digit-counted c.args.bias c.args.samples.now c.args.low c.args.high (2 ^ c.args.shift)
+        (search rules) (search rules) c.loop-i.i (omega arith) c.past-d.result (search rules)
+        c.past-d.ensures c.loop-i.counts c.loop-i.invariant.3 (omega arith) (pow_pos c.args.shift) (omega (arith, digit-small c.past-d.result c.args.shift (omega arith))))
+    | else-d-span w ↦ rw w.counts-is (digit_skipped c.args.bias c.args.samples.now c.args.low c.args.high (2 ^ c.args.shift)
+        (search rules) (search rules) c.loop-i.i (omega arith) c.past-d.result (search rules)
+        c.past-d.ensures c.loop-i.counts c.loop-i.invariant.3 w.if-d-span.false)
+  ],
 )
 
 pub returns : goal.returns

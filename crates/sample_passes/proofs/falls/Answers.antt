@@ -1,14 +1,15 @@
-use Rattle.std.proofs.Common.{◌-◌, sym, ◌∙◌, ⊎_elim, arith, below_more}
+use Rattle.std.proofs.Common.{◌-◌, sym, ◌∙◌, arith, below_more}
 use Rattle.sample_passes.proofs.falls.Goals as goal
+use Rattle.sample_passes.proofs.falls.Goals.{then-key, else-key}
 
 pub loop-j-preserved : goal.loop-j-preserved
 loop-j-preserved c = (
   omega arith,
   omega arith,
-  ⊎_elim
-      (λ w e. absurd (omega (arith, w.1, e)))
-      (λ w e. below_more _ _ (c.loop-j.invariant.2 (sym w.1 ∙ e)) (omega (arith, w.0.left, c.key-in-loop-j.ensures, c.key.ensures)))
-      c.if-key.branch,
+  elim c.if-key.branch [
+    | then-key w ↦ λ e. absurd (omega (arith, w.n-is, e))
+    | else-key w ↦ λ e. below_more _ _ (c.loop-j.invariant.2 (sym w.n-is ∙ e)) (omega (arith, w.if-key.false, c.key-in-loop-j.ensures, c.key.ensures))
+  ],
 )
 
 pub returns : goal.returns
