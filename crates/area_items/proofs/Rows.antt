@@ -1,14 +1,14 @@
 -- The bytes of an area are its items in a row, and items in a row read back equal. Assumes nothing.
-use mathlib.Core.Path.{◌≡◌, refl, sym, ap, ◌∙◌, subst}
+use mathlib.Core.Path.{◌≡◌, refl, sym, ap, ◌∙◌}
 use mathlib.Core.Bool.{Bool, true, false, cond}
-use mathlib.Core.List.{List, [], ◌∷◌, ◌++◌, append_assoc, append-nil}
+use mathlib.Core.List.{List, [], ◌∷◌, ◌++◌, append_assoc}
 use Prim.Native.Nat.{ℕ, zero, suc, ◌+◌, ◌-◌, ◌*◌, ◌/◌, ◌%◌, ◌≤◌, ◌<◌}
 use native.Mathlib.Omega.{arith}
 use native.Mathlib.Numerals.{add-one}
 use lib.Dec.{ltb}
-use lib.ListN.{length, get_or, take, drop, length-append, length-drop, take-append-drop, drop_of_length-le}
-use lib.Seq.{drop-cons, drop-drop, drop-length, get_or-append-add, drop-append-add, take_at}
-use borrow.Author.Tests.{ltb-true, ltb-false}
+use lib.ListN.{length, get_or, take, drop, length-append, take-append-drop, drop_of_length-le}
+use lib.Seq.{drop-cons, drop-drop, get_or-append-add, drop-append-add, take_at}
+use borrow.Author.Tests.{ltb-false}
 use Rattle.area_items.specs.Items.{Item, Reading, refused, items, before, judged, kind_at, length_at, end_at, item_at, fits, verdict_at, read_from, rest_of, area}
 use Rattle.area_items.specs.Rows.{item_bytes, in_a_row, placed, Fits, AllFit, none, more}
 use Rattle.area_items.proofs.Laws.{good, value-length, right_length, rest_end, rest_good}

@@ -1,12 +1,12 @@
 -- The contract of `read` determines the answer and each word of the room; and a refusal changes nothing. Assumes nothing.
-use mathlib.Core.Path.{◌≡◌, refl, sym, ap, ◌∙◌}
+use mathlib.Core.Path.{◌≡◌, sym, ap, ◌∙◌}
 use mathlib.Core.List.{List}
 use Prim.Native.Nat.{ℕ}
 use contract.Lifetimes.{Lfts}
 use borrow.Fn.World as World
 use borrow.Fn.Kinds as Kinds'
 use denote.Triple.Clauses as Clauses
-use Rattle.area_items.specs.Items.{Reading, refused, items, area}
+use Rattle.area_items.specs.Items.{refused, area}
 use Rattle.area_read.specs.declared.Checked.TheVariants.{Refused}
 use Rattle.area_read.specs.Read.{Outcome, read_into}
 use Rattle.area_read.specs.contracts.read.{signature}

@@ -1,18 +1,18 @@
 -- Counting and listing the items one after the other: what the proofs of the functions cite. Assumes nothing.
 use mathlib.Core.Path.{◌≡◌, refl, sym, ap, ◌∙◌, subst}
 use mathlib.Core.Bool.{Bool, true, false}
-use mathlib.Core.List.{List, [], ◌∷◌, map}
+use mathlib.Core.List.{List, [], ◌∷◌}
 use Prim.Native.Nat.{ℕ, zero, suc, ◌+◌, ◌≤◌, ◌<◌, min}
 use native.Mathlib.Nat.{zero-add}
 use native.Mathlib.Numerals.{add-one}
 use native.Mathlib.Omega.{arith}
 use lib.Dec.{ltb}
-use lib.ListN.{length, get_or, set, take, drop, length-drop, length-map}
+use lib.ListN.{length, get_or, set, drop, length-drop, length-map}
 use lib.Seq.{paste, paste-suc, drop-cons}
 use borrow.Author.Tests.{ltb-true, ltb-false}
-use Rattle.area_items.specs.Items.{Item, Reading, refused, items, before, judged, end_at, item_at, verdict_at, rest_of, area}
+use Rattle.area_items.specs.Items.{Item, Reading, refused, items, before, end_at, item_at, verdict_at, rest_of, area}
 use Rattle.area_items.specs.Rows.{word_of}
-use Rattle.area_items.proofs.Laws.{judged-bad, rest_end, rest_step, rest_bad, rest_good}
+use Rattle.area_items.proofs.Laws.{rest_end, rest_bad, rest_good}
 use Rattle.area_read.specs.declared.Checked.{Checked}
 use Rattle.area_read.specs.declared.Checked.TheVariants.{Refused, Items}
 use Rattle.area_read.specs.Read.{checked_of, items_of, words_of, listed, outcome, read_into}

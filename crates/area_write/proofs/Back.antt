@@ -3,20 +3,19 @@
 use mathlib.Core.Path.{◌≡◌, refl, sym, ap, ◌∙◌}
 use mathlib.Core.Bool.{Bool, true, false, cond}
 use mathlib.Core.List.{List, [], ◌∷◌, ◌++◌, map}
-use Prim.Native.Nat.{ℕ, zero, suc, ◌+◌, ◌/◌, ◌%◌, ◌<◌, ◌^◌}
+use Prim.Native.Nat.{ℕ, zero, suc, ◌<◌, ◌^◌}
 use native.Mathlib.Omega.{arith}
 use lib.Dec.{ltb}
-use lib.ListN.{length, take, drop}
+use lib.ListN.{length, drop}
 use contract.Lifetimes.{Lfts}
 use borrow.Fn.World as World
 use borrow.Fn.Kinds as Kinds'
 use denote.Triple.Clauses as Clauses
-use Rattle.area_items.specs.Items.{Item, fits, area, items}
+use Rattle.area_items.specs.Items.{fits, area, items}
 use Rattle.area_items.specs.Rows.{as_written, placed, Fits, AllFit, none, more}
 use Rattle.area_items.proofs.Rows.{row_reads_back}
-use Rattle.area_write.specs.declared.Written.{Written}
 use Rattle.area_write.specs.declared.Written.TheVariants.{Refused, Bytes}
-use Rattle.area_write.specs.Write.{kind_of, length_of, item_in, verdict_in, unless, first_bad, needed, row_of, Outcome, outcome, by, write_into}
+use Rattle.area_write.specs.Write.{kind_of, item_in, verdict_in, first_bad, needed, row_of, Outcome, outcome, by, write_into}
 use Rattle.area_write.proofs.Laws.{good, written-length, both-good}
 use Rattle.area_write.specs.contracts.write.{signature}
 use Rattle.area_write.proofs.write.Kinds as K

@@ -1,22 +1,22 @@
 -- A word's item and its bytes, the first bad one, and items one after the other: what the proofs of the functions cite. Assumes nothing.
-use mathlib.Core.Path.{◌≡◌, refl, sym, ap, ◌∙◌, subst}
+use mathlib.Core.Path.{◌≡◌, refl, sym, ap, ◌∙◌}
 use mathlib.Core.Bool.{Bool, true, false, cond}
-use mathlib.Core.List.{List, [], ◌∷◌, ◌++◌, map, append_assoc}
+use mathlib.Core.List.{List, [], ◌∷◌, ◌++◌}
 use Prim.Native.Nat.{ℕ, zero, suc, ◌+◌, ◌-◌, ◌/◌, ◌%◌, ◌≤◌, ◌<◌}
 use native.Mathlib.Nat.{zero-add}
 use native.Mathlib.Numerals.{add-one}
 use native.Mathlib.Omega.{arith}
 use lib.Dec.{ltb, eqb}
 use lib.ListN.{length, get_or, set, take, drop, length-append, length-drop, get_or-append}
-use lib.Seq.{length-take-le, get_or-take, get_or-drop, get_or-append-add, take_all, take-add, take_at, drop_at, drop-cons, drop-length, drop-drop, drop-append-add, paste, paste-suc, length_paste_head}
+use lib.Seq.{length-take-le, get_or-take, get_or-drop, get_or-append-add, take_all, take-add, take_at, drop_at, drop-cons, drop-length, drop-drop, drop-append-add, paste, paste-suc}
 use borrow.Author.Tests.{lt-ltb, le-ltb, ltb-false, eq-eqb, ne_eqb, eqb-true}
-use Rattle.area_items.specs.Items.{Item, fits}
-use Rattle.area_items.specs.Rows.{item_bytes, written_value, as_written, in_a_row}
+use Rattle.area_items.specs.Items.{fits}
+use Rattle.area_items.specs.Rows.{item_bytes, written_value, as_written}
 use Rattle.area_items.proofs.Laws.{seven}
 use Rattle.area_write.specs.declared.Size.{Size}
 use Rattle.area_write.specs.declared.Size.TheVariants.{Short, Needed}
 use Rattle.area_write.specs.declared.Written.TheVariants.{Refused, Bytes}
-use Rattle.area_write.specs.Write.{flags_of, kind_of, length_of, place_of, item_in, verdict_in, unless, first_bad, size_of, needed, sized, row_of, Outcome, outcome, by, write_into}
+use Rattle.area_write.specs.Write.{flags_of, kind_of, length_of, place_of, item_in, verdict_in, unless, first_bad, size_of, needed, sized, row_of, outcome, by, write_into}
 
 -- ---- one word
 

@@ -2,7 +2,7 @@
 use Rattle.std.specs.Prelude.{cond, List, [], ◌∷◌, ◌++◌, map, ℕ, zero, suc, ◌+◌, ◌/◌, ◌%◌, ◌^◌, ltb, length, take, drop}
 use Rattle.request_limits.specs.Refusals.{passes_end, wrong_length, short_room}
 use Rattle.area_items.specs.Items.{Item, fits}
-use Rattle.area_items.specs.Rows.{item_bytes, as_written, written_area}
+use Rattle.area_items.specs.Rows.{written_area}
 use Rattle.area_write.specs.declared.Size.{Size}
 use Rattle.area_write.specs.declared.Size.TheVariants.{Short, Needed}
 use Rattle.area_write.specs.declared.Written.{Written}

@@ -1,14 +1,14 @@
 -- What is written is read back, and what is written elsewhere leaves it alone: one law over the width. Assumes nothing.
 use mathlib.Core.Path.{◌≡◌, refl, sym, ap, ap₂, ◌∙◌, subst}
 use mathlib.Core.Bool.{Bool, true, false, ◌||◌, ◌&&◌}
-use mathlib.Core.Logic.{◌≢◌, ◌⊎◌, inl, inr}
+use mathlib.Core.Logic.{◌⊎◌, inl, inr}
 use mathlib.Core.List.{List, [], ◌∷◌}
-use Prim.Native.Nat.{ℕ, zero, suc, ◌+◌, ◌-◌, ◌*◌, ◌/◌, ◌%◌, ◌^◌, ◌≤◌, ◌<◌}
+use Prim.Native.Nat.{ℕ, zero, suc, ◌+◌, ◌*◌, ◌/◌, ◌%◌, ◌^◌, ◌≤◌, ◌<◌}
 use native.Mathlib.Omega.{arith}
 use native.Mathlib.Nat.{pow-suc, mod-lt, div-add-mod', div-lt_iff_lt-mul}
 use lib.Dec.{T, leb, leb→le}
 use lib.Pow.{pow-add}
-use lib.ListN.{length, get_or, set, length-set}
+use lib.ListN.{length, get_or, length-set}
 use lib.Seq.{get_or-set_same, get_or-set_other}
 use Rattle.big_endian.specs.Numbers.{base, number_at, put}
 use Rattle.big_endian.specs.Fields.{Field, written, apart, apart_from, laid_out}
@@ -117,6 +117,7 @@ first_back n g fs bs e t l =
 -- Every field of a table that is laid out is read back, where its value fits.
 pub field_back : (n : ℕ) (fs : List Field) (bs : List ℕ) (f : Field) → length bs ≡ n → T (laid_out n fs) → In f fs → f.value < base f.width
     → number_at f.width (written fs bs) f.at ≡ f.value
+field_back n [] bs f e t m l = elim m [ ]
 field_back n (g ∷ fs) bs f e t (first q) l =
     subst (λ (x : Field). x.value < base x.width → number_at x.width (written (g ∷ fs) bs) x.at ≡ x.value) q (first_back n g fs bs e t) l
 field_back n (g ∷ fs) bs f e t (later m) l =

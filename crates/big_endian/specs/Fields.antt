@@ -1,6 +1,6 @@
 -- A record of bytes as a table of fields: each has a width, a place and a value. Assumes nothing.
-use Rattle.std.specs.Prelude.{Bool, true, false, ◌||◌, ◌&&◌, List, [], ◌∷◌, ℕ, zero, suc, ◌+◌, ◌^◌, leb, ltb}
-use Rattle.big_endian.specs.Numbers.{base, put}
+use Rattle.std.specs.Prelude.{Bool, true, ◌||◌, ◌&&◌, List, [], ◌∷◌, ℕ, ◌+◌, ◌^◌, leb}
+use Rattle.big_endian.specs.Numbers.{put}
 
 -- 2 ^ width bytes from a place on, and the number that stands there
 pub record Field : Type 0 where

@@ -1,10 +1,10 @@
 -- The report has a value for each place, and every text fits the buffer. Assumes nothing.
 use mathlib.Core.Path.{◌≡◌, refl}
-use Prim.Native.Nat.{ℕ, ◌≤◌}
+use Prim.Native.Nat.{◌≤◌}
 use native.Mathlib.Nat.{le_trans}
 use lib.Dec.{lit≤}
 use lib.ListN.{length}
-use Rattle.template.specs.Filled.{places, most_filled, filled}
+use Rattle.template.specs.Filled.{places, most_filled}
 use Rattle.template.proofs.Bounds.{Words, filled-at-most}
 use Rattle.report.specs.declared.figures.Figures.{Figures}
 use Rattle.report.specs.Lines.{template, values_of, text_of}

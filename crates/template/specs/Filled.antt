@@ -1,5 +1,5 @@
 -- A template, filled from a list of values. Assumes nothing.
-use Rattle.std.specs.Prelude.{cond, List, [], ◌∷◌, ◌++◌, ℕ, zero, suc, ◌+◌, ◌*◌, eqb, length}
+use Rattle.std.specs.Prelude.{cond, List, [], ◌∷◌, ◌++◌, ℕ, suc, ◌+◌, ◌*◌, eqb, length}
 use Rattle.decimal.specs.Decimal.{decimal, most_digits}
 use Rattle.template.specs.Text.{bytes}
 use Rattle.template.specs.declared.Shown.{Shown}
