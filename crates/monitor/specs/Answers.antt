@@ -1,5 +1,5 @@
 -- What the host is handed: the next monitor, or a refusal's number alone.
-use Rattle.std.specs.Prelude.{◌≡◌, Bool, true, false, List, ℕ, length, get_or, eqb}
+use Rattle.std.specs.Prelude.{◌≡◌, true, List, ℕ, length, get_or, eqb}
 use Rattle.limits.specs.Limits.{capacity}
 use Rattle.limits.specs.Refusals.{wrong_room}
 use Rattle.probe_queue.specs.declared.QueuedProbe.{QueuedProbe}

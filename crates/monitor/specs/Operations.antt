@@ -1,7 +1,6 @@
 -- The operations of document 01, "Monitor", on a monitor and the room that its queue lies in: what a served call leaves.
 -- What they mean, over a plain list of queued probes and a set of marked sequences, is in crate monitor_model.
-use Rattle.std.specs.Prelude.{◌≡◌, Bool, true, false, ◌&&◌, List, ℕ, ◌+◌, ◌%◌, length, set, leb, ltb, eqb}
-use Rattle.limits.specs.Limits.{capacity}
+use Rattle.std.specs.Prelude.{◌≡◌, Bool, true, false, ◌&&◌, List, ℕ, ◌+◌, length, set, leb, ltb, eqb}
 use Rattle.probe_queue.specs.declared.QueuedProbe.{QueuedProbe}
 use Rattle.probe_queue.specs.declared.QueueRing.{QueueRing}
 use Rattle.probe_queue.specs.declared.Rule.TheVariants.{Due, Below, Until, Unmarked}

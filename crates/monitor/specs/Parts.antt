@@ -1,6 +1,6 @@
 -- What the steps between two uses of the queue hand on: each is one part of an operation of Operations.antt.
 -- Where a call is not served, the ring that is looked at is empty, so that nothing is popped, and the place of a new probe is past the end of the room, so that nothing is stored.
-use Rattle.std.specs.Prelude.{Bool, true, false, ◌&&◌, ℕ, ◌+◌, leb, ltb, eqb}
+use Rattle.std.specs.Prelude.{Bool, true, ◌&&◌, ℕ, ◌+◌, ltb, eqb}
 use Rattle.probe_queue.specs.declared.QueuedProbe.{QueuedProbe}
 use Rattle.probe_queue.specs.declared.QueueRing.{QueueRing}
 use Rattle.probe_queue.specs.Queue.{choose, place}

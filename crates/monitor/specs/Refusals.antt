@@ -1,5 +1,5 @@
 -- Document 01, "Refusal numbers", of the monitor's calls: 5, 6, 4 and 3, in the table's order; 0 where a call is served.
-use Rattle.std.specs.Prelude.{Bool, true, false, not, ◌||◌, ◌&&◌, ℕ, ◌+◌, ◌^◌, eqb, leb, ltb}
+use Rattle.std.specs.Prelude.{Bool, not, ◌||◌, ◌&&◌, ℕ, ◌+◌, ◌^◌, eqb, leb, ltb}
 use Rattle.limits.specs.Limits.{capacity, count_bound}
 use Rattle.limits.specs.Refusals.{wrong_room, deadline_passes, counts_full, queue_full}
 use Rattle.probe_queue.specs.Queue.{choose}
