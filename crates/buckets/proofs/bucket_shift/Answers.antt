@@ -1,12 +1,10 @@
--- `buckets::bucket_shift` meets its contract: what the leading zeros leave of 64 is the bit length. Assumes nothing.
 use Rattle.std.proofs.Common.{◌≡◌, ℕ, ◌+◌, ◌-◌, ◌/◌, ◌^◌, ◌<◌, ◌≤◌, sym, ◌∙◌, subst, arith}
 use lib.Bits.{bit_or, or_lt}
 use lib.Count.{count_leading_zeros}
 use Rattle.buckets.specs.Buckets.{bit_length, shift_of}
 use Rattle.buckets.proofs.Length.{length-least, length-leading, length-with, length-either}
 use Rattle.buckets.proofs.Place.{placed}
-use Rattle.buckets.proofs.bucket_shift.Statement.{statement}
-use Rattle.buckets.proofs.bucket_shift.Tie as tie
+use Rattle.buckets.proofs.bucket_shift.Goals as goal
 
 settled : (v r : ℕ) → v < 2 ^ 64 → r ≡ shift_of v → (r ≡ shift_of v) × (r ≤ 56) × (v / 2 ^ r < 256)
 unfolding shift_of
@@ -26,11 +24,8 @@ shift v h = same (count_leading_zeros 64 (bit_or v 128)) (bit_length (bit_or v 1
     same : (z n : ℕ) → z + n ≡ 64 → 56 - z ≡ n - 8
     same z n e = omega arith
 
-sub-result : tie.Need-overflow-sub-result
-sub-result c = few c.args.value c.ranges.value.fits
+pub overflow_sub-result : goal.overflow_sub-result
+overflow_sub-result c = few c.args.value c.ranges.value.fits
 
-returns : tie.Need-returns
+pub returns : goal.returns
 returns c = settled c.args.value _ c.ranges.value.fits (shift c.args.value c.ranges.value.fits)
-
-pub bucket_shift_spec : {M : Type 1} → statement M
-bucket_shift_spec = tie.close (tie.spec sub-result returns)
