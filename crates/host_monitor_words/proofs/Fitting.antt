@@ -3,8 +3,7 @@
 use mathlib.Core.Path.{◌≡◌, refl}
 use mathlib.Core.Bool.{Bool, true, false, ◌&&◌}
 use mathlib.Core.List.{List}
-use Prim.Native.Nat.{ℕ, zero, suc, ◌+◌, ◌<◌, ◌^◌, zero-le, suc-le-suc}
-use native.Mathlib.Nat.{mod-lt}
+use Prim.Native.Nat.{ℕ, zero, suc, ◌+◌, ◌<◌, ◌^◌}
 use native.Mathlib.Omega.{arith}
 use lib.ListN.{length}
 use lib.Dec.{eqb, leb, ltb}
@@ -17,9 +16,9 @@ use Rattle.monitor.specs.declared.State.TheVariants.{Idle, Active, Failed}
 use Rattle.monitor.specs.declared.Summary.{Summary}
 use Rattle.monitor.specs.declared.Monitor.{Monitor}
 use Rattle.monitor.specs.Refusals.{refusal_of, refusal_of_sent, served}
-use Rattle.monitor.specs.States.{most_losses, same, losing, enters, saturated, failing, loses, hears, stops}
+use Rattle.monitor.specs.States.{most_losses, same, losing, enters, saturated, loses, hears, stops}
 use Rattle.monitor.specs.Operations.{MonitorStand, fresh, standing, queues, starts, sent_on, searched, taken, reply_on, due, advance_on, idle_on, unchanged, sent_if, reply_if, advance_if}
-use Rattle.host_monitor_words.specs.Words.{Fits, word, summary_at, monitor_at}
+use Rattle.host_monitor_words.specs.Words.{Fits, summary_at, monitor_at}
 
 -- ---- of a summary
 abbrev Sound : Summary → Type 0

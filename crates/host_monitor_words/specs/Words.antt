@@ -1,7 +1,7 @@
 -- The monitor in twelve words, in the order of its fields: state, loss threshold, consecutive losses, active, failed and idle notifications, timeout,
 -- whether it is transmitting, the ring's head and length, the run and the latest sequence. Every twelve words say a monitor.
 -- Assumes nothing.
-use Rattle.std.specs.Prelude.{◌≡◌, List, [], ◌∷◌, ℕ, ◌<◌, ◌%◌, ◌^◌, get_or, eqb}
+use Rattle.std.specs.Prelude.{List, [], ◌∷◌, ℕ, ◌<◌, ◌%◌, ◌^◌, get_or, eqb}
 use Rattle.host_numbers.specs.Numbers.{lower, flag_word, is_set}
 use Rattle.probe_queue.specs.Queue.{choose}
 use Rattle.monitor.specs.declared.State.{State}

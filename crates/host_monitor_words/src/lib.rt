@@ -1,4 +1,6 @@
 // The monitor in twelve words that a host lends: what any words say, and the words of a monitor. Nothing is asked of what the words hold.
+#![tactic(auto)]
+
 ghost use Rattle.std.specs.Prelude.{◌≡◌, ◌%◌, ◌^◌};
 ghost use Rattle.monitor.specs.Answers.{number};
 ghost use Rattle.host_monitor_words.specs.Words.{state_at, state_number, summary_at, monitor_at, words_of, words_after};
