@@ -164,7 +164,7 @@ module _ (N : ℕ) (by_key : ReplyKey → ℕ) (by_number : ℕ → ℕ) (t : Ta
         (ap (λ (n : ℕ). contents N (row_at t.keys (set t.slots (newest_slot N t.ring) words)) t.ring.head n) all
         ∙ ap₂ (λ (x : Row) (xs : List Row). x ∷ xs)
         (ap (λ (w : List ℕ). record { number = newest_row.number; words = w }) (get_or-set_same t.slots (newest_slot N t.ring) words [] (omega (arith, s.slots_fit.rows_are, newest_in))))
-        (contents-same N (row_at t.keys t.slots) _ t.ring.head (t.ring.len - 1)
+        (contents-same N (row_at t.keys t.slots) (row_at t.keys (set t.slots (newest_slot N t.ring) words)) t.ring.head (t.ring.len - 1)
         (λ i l. ap (λ (w : List ℕ). record { number = (key_at t.keys (wrap N (t.ring.head + i))).reflector; words = w })
         (get_or-set_other t.slots (newest_slot N t.ring) (wrap N (t.ring.head + i)) words []
         (places_differ N t.ring.head i (t.ring.len - 1) s.ring_fits.head_in l (omega (arith, s.ring_fits.len_in)))))))

@@ -101,8 +101,8 @@ module _ (N : ℕ) (by_key : ReplyKey → ℕ) (by_number : ℕ → ℕ) (t : Ta
     keys_fit = s.keys_fit;
     slots_fit = go (lt_test p N);
     links_fit = s.links_fit;
-    by_key_lem = s.by_key;
-    by_number_lem = s.by_number;
+    by_key = s.by_key;
+    by_number = s.by_number;
   }
     where
       go : Test (p < N) (ltb p N) → Rows N 3 (stored_at N t.slots p words)
@@ -272,13 +272,13 @@ module _ (N : ℕ) (by_key : ReplyKey → ℕ) (by_number : ℕ → ℕ) (key_be
     keys_fit = set_row N 2 t.keys s.keys_fit (push_slot N t.ring) here_in (key_row k) refl;
     slots_fit = set_row N 3 t.slots s.slots_fit (push_slot N t.ring) here_in no_slot refl;
     links_fit = linked-fits N 2 _ once-linked (by_number k.reflector) (push_slot N t.ring) (omega arith) (number-below k.reflector) here_in;
-    by_key_lem =
+    by_key =
         rw (
           other-newest N 2 linked_once once-linked (by_number k.reflector) (push_slot N t.ring) (omega arith) (number-below k.reflector) here_in 0 (λ e. omega (arith, e)) (λ e. omega (arith, e)),
           other-older N 2 linked_once once-linked (by_number k.reflector) (push_slot N t.ring) (omega arith) (number-below k.reflector) here_in 0 (λ e. omega (arith, e)) (λ e. omega (arith, e)),
         )
-        (link-ready N 0 t.links t.ring _ _ (by_key k) s.links_fit (omega arith) (key_below k) s.ring_fits (ap by_key key_here) (λ i ne. ap by_key (key_there i ne)) s.by_key);
-    by_number_lem = link-ready N 2 _ t.ring _ _ (by_number k.reflector) once-linked (omega arith) (number-below k.reflector) s.ring_fits
+        (link-ready N 0 t.links t.ring _ _ (by_key k) s.links_fit (omega arith) (key_below k) s.ring_fits (ap by_key key_here) (λ i ne. ap by_key (key_there i ne)) s.by_key_lem);
+    by_number = link-ready N 2 _ t.ring _ _ (by_number k.reflector) once-linked (omega arith) (number-below k.reflector) s.ring_fits
         (ap (λ (x : ReplyKey). by_number x.reflector) key_here) (λ i ne. ap (λ (x : ReplyKey). by_number x.reflector) (key_there i ne)) once-ready;
   }
     where
@@ -291,4 +291,4 @@ module _ (N : ℕ) (by_key : ReplyKey → ℕ) (by_number : ℕ → ℕ) (key_be
             other-newest N 0 t.links s.links_fit (by_key k) (push_slot N t.ring) (omega arith) (key_below k) here_in 2 (λ e. omega (arith, e)) (λ e. omega (arith, e)),
             other-older N 0 t.links s.links_fit (by_key k) (push_slot N t.ring) (omega arith) (key_below k) here_in 2 (λ e. omega (arith, e)) (λ e. omega (arith, e)),
           )
-          s.by_number
+          s.by_number_lem

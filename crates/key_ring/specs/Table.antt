@@ -53,14 +53,14 @@ module _ (N : ℕ) where
   unfoldable pub rows_of : Table → List Row
   rows_of t = contents N (row_at t.keys t.slots) t.ring.head t.ring.len
 
-module _ (N : ℕ) (by_key : ReplyKey → ℕ) (by_number : ℕ → ℕ) where
+module _ (N : ℕ) (key_by : ReplyKey → ℕ) (number_by : ℕ → ℕ) where
   -- the slot of a key, found through its chain; N where there is none
   unfoldable pub find_in : List (List ℕ) → List (List ℕ) → Ring → ReplyKey → ℕ
-  find_in keys links ring k = walk N (λ p. same_key k (key_at keys p)) (older 0 links) ring.head ring.len (newest 0 links (by_key k))
+  find_in keys links ring k = walk N (λ p. same_key k (key_at keys p)) (older 0 links) ring.head ring.len (newest 0 links (key_by k))
 
   -- the slot of the newest observed key of a reflector number; N where there is none
   unfoldable pub holder_in : List (List ℕ) → List (List ℕ) → List (List ℕ) → Ring → ℕ → ℕ
-  holder_in keys slots links ring r = walk N (λ p. holds? r (row_at keys slots p)) (older 2 links) ring.head ring.len (newest 2 links (by_number r))
+  holder_in keys slots links ring r = walk N (λ p. holds? r (row_at keys slots p)) (older 2 links) ring.head ring.len (newest 2 links (number_by r))
 
   -- the words after f at the holder of r
   abbrev pub change_at : (List ℕ → List ℕ) → List (List ℕ) → ℕ → List (List ℕ)
@@ -73,7 +73,7 @@ module _ (N : ℕ) (by_key : ReplyKey → ℕ) (by_number : ℕ → ℕ) where
 
   -- the links after the oldest key, in slot p, left: a chain that it was the last of leads to no slot
   abbrev pub ended_key : List (List ℕ) → ReplyKey → ℕ → List (List ℕ)
-  ended_key links k p = ended N 2 (ended N 0 links (by_key k) p) (by_number k.reflector) p
+  ended_key links k p = ended N 2 (ended N 0 links (key_by k) p) (number_by k.reflector) p
 
   -- the oldest key goes where the ring is full: it leaves its two chains
   unfoldable pub evicted_links : List (List ℕ) → List (List ℕ) → Ring → List (List ℕ)
@@ -81,7 +81,7 @@ module _ (N : ℕ) (by_key : ReplyKey → ℕ) (by_number : ℕ → ℕ) where
 
   -- the links after a push into slot p
   abbrev pub linked_key : List (List ℕ) → ReplyKey → ℕ → List (List ℕ)
-  linked_key links k p = linked 2 (linked 0 links (by_key k) p) (by_number k.reflector) p
+  linked_key links k p = linked 2 (linked 0 links (key_by k) p) (number_by k.reflector) p
 
   -- the key as the newest, not observed, over the oldest where the ring is full
   unfoldable pub pushed_key : Table → ReplyKey → Table
@@ -110,8 +110,8 @@ module _ (N : ℕ) (by_key : ReplyKey → ℕ) (by_number : ℕ → ℕ) where
     pub keys_fit : Rows N 2 t.keys
     pub slots_fit : Rows N 3 t.slots
     pub links_fit : Rows N 8 t.links
-    pub by_key : Indexed N (λ p. by_key (key_at t.keys p)) (newest 0 t.links) (older 0 t.links) t.ring.head t.ring.len
-    pub by_number : Indexed N (λ p. by_number (key_at t.keys p).reflector) (newest 2 t.links) (older 2 t.links) t.ring.head t.ring.len
+    pub by_key : Indexed N (λ p. key_by (key_at t.keys p)) (newest 0 t.links) (older 0 t.links) t.ring.head t.ring.len
+    pub by_number : Indexed N (λ p. number_by (key_at t.keys p).reflector) (newest 2 t.links) (older 2 t.links) t.ring.head t.ring.len
 
 -- ---- at 4,096, with the hashes of the code
 
