@@ -1,4 +1,8 @@
 // Reads a log from standard input, and writes its report or why it is refused (document 01, 'Log and program').
+#![tactic(auto)]
+
+use std::io;
+use std::io::Write;
 
 // The words of the hash that places keys. They decide where a key is looked for, and no figure.
 fn secret() -> [u32; 8] {
@@ -8,7 +12,7 @@ fn secret() -> [u32; 8] {
     ]
 }
 
-fn report(log: &[u8]) {
+fn report<W: Write>(to: &mut W, log: &[u8]) -> io::Result<()> {
     let words = secret();
     let mut keys = [[0u64; 2]; 4096];
     let mut slots = [[0u64; 3]; 4096];
@@ -27,14 +31,12 @@ fn report(log: &[u8]) {
         &mut text,
     );
     let end = log_print::printed(log, &mut text, answer);
-    log_print::write(&text, end);
+    log_print::write(to, &text, end)
 }
 
 // One byte more than a log may have: all that is needed to refuse a longer one.
-fn main() {
+fn main(rt: HostRuntime) -> io::Result<()> {
     let mut log = [0u8; 65537];
-    let got = io::read_full(0, &mut log);
-    if got <= log.len() {
-        report(&log[..got]);
-    }
+    let got = room_input::fill(&mut rt.stdin(), &mut log)?;
+    report(&mut rt.stdout(), &log[..got])
 }

@@ -1,5 +1,7 @@
 // What a program prints of a log (document 01, 'Log and program'), as bytes in a buffer: its report, or `refused 9`, `refused 7` or `refused 8 at N`.
 // A program hands these bytes, and no others, to the system (`write`).
+#![tactic(auto)]
+
 ghost use Rattle.std.specs.Prelude.{◌≡◌, ◌++◌, ◌≤◌, length};
 ghost use Rattle.decimal.specs.Decimal.{decimal};
 ghost use Rattle.decimal.specs.Writing.{Stands};
@@ -9,6 +11,8 @@ ghost use Rattle.log_print.specs.Printed.{said, refused_in, printed_in};
 use log_whole::Log;
 use report::words::{put_figure, put_text};
 use report::{REPORT_ROOM, ReportAnswer};
+use std::io;
+use std::io::Write;
 
 fn put_bad_record(text: &mut [u8], first: u32) -> usize
     requires { 64 ≤ length text.old }
@@ -43,9 +47,10 @@ pub fn printed(log: &[u8], text: &mut [u8], answer: ReportAnswer) -> usize
     }
 }
 
-// Hands the first `end` bytes to the system, in one write. What the system does with them no contract says.
-pub fn write(text: &[u8], end: usize) {
+// Hands the first `end` bytes to a writer, as the system's output is one. What the system does with them no contract says.
+pub fn write<W: Write>(to: &mut W, text: &[u8], end: usize) -> io::Result<()> {
     if end <= text.len() {
-        io::write_all(1, &text[..end]);
+        to.write_all(&text[..end])?;
     }
+    Ok(())
 }

@@ -1,7 +1,11 @@
 // Plays a script of calls on sums of delays, and writes each answer with the state that it leaves.
 // compare/src/parts/delays plays the same script on the original, and says what each word is.
+#![tactic(auto)]
+
 use delays::{Delays, Extreme, Milliseconds, Nanoseconds, Recorded, Sum};
 use play_script::{Call, Next};
+use std::io;
+use std::io::{Read, Write};
 
 // What a call leaves, and its refusal or 0.
 #[derive(Clone, Copy)]
@@ -111,23 +115,26 @@ fn extreme_words(extreme: Extreme) -> ExtremeWords {
     }
 }
 
-fn write_state(refusal: u64, state: Delays) {
+fn write_state<W: Write>(to: &mut W, refusal: u64, state: Delays) -> io::Result<()> {
     let sum = state.sum;
     let least = state.min;
     let min = extreme_words(least);
-    play_script::write([
-        refusal,
-        state.count,
-        flag(sum.negative),
-        sum.high,
-        sum.low,
-        min.known,
-        min.negative,
-        min.magnitude,
-    ]);
+    play_script::write(
+        to,
+        [
+            refusal,
+            state.count,
+            flag(sum.negative),
+            sum.high,
+            sum.low,
+            min.known,
+            min.negative,
+            min.magnitude,
+        ],
+    )
 }
 
-fn write_summary(state: Delays) {
+fn write_summary<W: Write>(to: &mut W, state: Delays) -> io::Result<()> {
     let most = state.max;
     let max = extreme_words(most);
     let summary = state.summary();
@@ -137,39 +144,44 @@ fn write_summary(state: Delays) {
     let low = ms_words(least);
     let average = ms_words(mean);
     let high = ms_words(greatest);
-    play_script::write([
-        max.negative,
-        max.magnitude,
-        low.known | (average.known << 1) | (high.known << 2),
-        low.value,
-        average.value,
-        high.value,
-        0,
-        0,
-    ]);
+    play_script::write(
+        to,
+        [
+            max.negative,
+            max.magnitude,
+            low.known | (average.known << 1) | (high.known << 2),
+            low.value,
+            average.value,
+            high.value,
+            0,
+            0,
+        ],
+    )
 }
 
 // One call, if there is one.
-fn turn(state: Delays) -> After {
-    match play_script::read() {
-        Next::End => After::Stop,
+fn turn<R: Read, W: Write>(from: &mut R, to: &mut W, state: Delays) -> io::Result<After> {
+    match play_script::read(from)? {
+        Next::End => Ok(After::Stop),
         Next::Told(call) => {
             let outcome = play(state, call);
             let next = outcome.state;
-            write_state(outcome.refusal, next);
-            write_summary(next);
-            After::Went(next)
+            write_state(to, outcome.refusal, next)?;
+            write_summary(to, next)?;
+            Ok(After::Went(next))
         }
     }
 }
 
-fn main() {
+fn main(rt: HostRuntime) -> io::Result<()> {
+    let mut from = rt.stdin();
+    let mut to = rt.stdout();
     let mut state = Delays::new();
     let mut turns = u64::MAX;
     while turns > 0 {
-        match turn(state) {
+        match turn(&mut from, &mut to, state)? {
             After::Stop => {
-                return;
+                return Ok(());
             }
             After::Went(next) => {
                 state = next;
@@ -177,4 +189,5 @@ fn main() {
         }
         turns -= 1;
     }
+    Ok(())
 }

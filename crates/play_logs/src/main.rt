@@ -1,6 +1,11 @@
 // Plays many logs, and writes the report of each as linkreport prints it, with a 0 byte behind it.
 // A log comes as its length, eight bytes with the lowest first, and its bytes. compare/src/parts/logs plays the same logs on the original.
-ghost use Rattle.std.specs.Prelude.{◌≤◌};
+#![tactic(auto)]
+
+ghost use Rattle.std.specs.Prelude.{◌≤◌, ◌≡◌, length};
+
+use std::io;
+use std::io::{Read, Write};
 
 // A length, or the end of the logs.
 #[derive(Clone, Copy)]
@@ -9,13 +14,13 @@ enum Next {
     Length(u64),
 }
 
-fn read_length() -> Next {
+fn read_length<R: Read>(from: &mut R) -> io::Result<Next> {
     let mut bytes = [0u8; 8];
-    let got = io::read_full(0, &mut bytes);
+    let got = room_input::fill(from, &mut bytes)?;
     if got < 8 {
-        return Next::End;
+        return Ok(Next::End);
     }
-    Next::Length(play_script::word(&bytes, 0))
+    Ok(Next::Length(play_script::word(&bytes, 0)))
 }
 
 fn least(length: u64, most: usize) -> usize
@@ -28,7 +33,8 @@ fn least(length: u64, most: usize) -> usize
 }
 
 // Plays a log and prints what is said of it.
-fn report(
+fn report<W: Write>(
+    to: &mut W,
     log: &[u8],
     secret: u32,
     keys: &mut [[u64; 2]],
@@ -37,18 +43,20 @@ fn report(
     offsets: &mut [u32],
     links: &mut [[u16; 8]],
     text: &mut [u8],
-) {
+) -> io::Result<()> {
     let words = [secret; 8];
     let answer = link_report::report_log_alone(
         log, &words, keys, slots, probes, offsets, links, text,
     );
     let end = log_print::printed(log, text, answer);
-    log_print::write(text, end);
-    io::write_all(1, &[0u8]);
+    log_print::write(to, text, end)?;
+    to.write_all(&[0u8])
 }
 
 // Reads a log of this length, or as much of it as the room holds, and writes its report.
-fn turn(
+fn turn<R: Read, W: Write>(
+    from: &mut R,
+    to: &mut W,
     room: &mut [u8],
     length: u64,
     secret: u32,
@@ -58,10 +66,11 @@ fn turn(
     offsets: &mut [u32],
     links: &mut [[u16; 8]],
     text: &mut [u8],
-) {
+) -> io::Result<()> {
     let size = least(length, room.len());
-    io::read_full(0, &mut room[..size]);
+    room_input::fill(from, &mut room[..size])?;
     report(
+        to,
         &room[..size],
         secret,
         keys,
@@ -70,11 +79,13 @@ fn turn(
         offsets,
         links,
         text,
-    );
+    )
 }
 
 // A room is handed from log to log as the last one left it, and each log has another secret: no report may depend on either.
-fn main() {
+fn main(rt: HostRuntime) -> io::Result<()> {
+    let mut from = rt.stdin();
+    let mut to = rt.stdout();
     let mut room = [0u8; 66048];
     let mut text = [0u8; 1024];
     let mut keys = [[7u64; 2]; 4096];
@@ -84,12 +95,14 @@ fn main() {
     let mut links = [[7u16; 8]; 4096];
     let mut turns = u64::MAX;
     while turns > 0 {
-        match read_length() {
+        match read_length(&mut from)? {
             Next::End => {
-                return;
+                return Ok(());
             }
             Next::Length(length) => {
                 turn(
+                    &mut from,
+                    &mut to,
                     &mut room,
                     length,
                     (turns % 4294967296) as u32,
@@ -99,9 +112,10 @@ fn main() {
                     &mut offsets,
                     &mut links,
                     &mut text,
-                );
+                )?;
             }
         }
         turns -= 1;
     }
+    Ok(())
 }

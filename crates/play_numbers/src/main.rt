@@ -1,10 +1,14 @@
 // Plays a script of calls on estimates and clock quality, and writes each answer with the state that it leaves.
 // compare/src/parts/numbers plays the same script on the original, and says what each word is.
+#![tactic(auto)]
+
 mod estimates;
 mod quality;
 
 use clock_quality::ClockQuality;
 use play_script::{Call, Next};
+use std::io;
+use std::io::{Read, Write};
 
 // Eight words, and eight more.
 #[derive(Clone, Copy)]
@@ -56,30 +60,32 @@ fn play(state: State, call: Call) -> Outcome {
 }
 
 // One call, if there is one.
-fn turn(state: State) -> After {
-    match play_script::read() {
-        Next::End => After::Stop,
+fn turn<R: Read, W: Write>(from: &mut R, to: &mut W, state: State) -> io::Result<After> {
+    match play_script::read(from)? {
+        Next::End => Ok(After::Stop),
         Next::Told(call) => {
             let outcome = play(state, call);
             let answer = outcome.answer;
             let first = answer.first;
             let second = answer.second;
-            play_script::write(first);
-            play_script::write(second);
+            play_script::write(to, first)?;
+            play_script::write(to, second)?;
             let next = outcome.state;
-            After::Went(next)
+            Ok(After::Went(next))
         }
     }
 }
 
-fn main() {
+fn main(rt: HostRuntime) -> io::Result<()> {
+    let mut from = rt.stdin();
+    let mut to = rt.stdout();
     let begun = fresh();
     let mut state = begun.state;
     let mut turns = u64::MAX;
     while turns > 0 {
-        match turn(state) {
+        match turn(&mut from, &mut to, state)? {
             After::Stop => {
-                return;
+                return Ok(());
             }
             After::Went(next) => {
                 state = next;
@@ -87,4 +93,5 @@ fn main() {
         }
         turns -= 1;
     }
+    Ok(())
 }

@@ -1,5 +1,7 @@
 // Plays a script of calls on the quantiles, and writes each answer with the state that it leaves.
 // compare/src/parts/quantiles plays the same script on the original, and says what each word is.
+#![tactic(auto)]
+
 ghost use Rattle.std.specs.Prelude.{◌≤◌};
 
 mod digests;
@@ -7,6 +9,8 @@ mod digests;
 use percentiles::Showing;
 use play_script::{Call, Digest, Next};
 use quantiles::{Quantiles, Recording};
+use std::io;
+use std::io::{Read, Write};
 
 // What a call answers: its refusal or 0, whether it recorded or shows a value, the value, and the state that it leaves.
 #[derive(Clone, Copy)]
@@ -165,18 +169,21 @@ fn play(state: Quantiles, room: &mut [u64], call: Call) -> Outcome {
     percentile(state, room, call.a, call.b)
 }
 
-fn write(outcome: Outcome, digest: Digest) {
+fn write<W: Write>(to: &mut W, outcome: Outcome, digest: Digest) -> io::Result<()> {
     let q = outcome.state;
-    play_script::write([
-        outcome.refusal,
-        outcome.flag,
-        outcome.value,
-        q.count,
-        q.min,
-        q.max,
-        digest.first,
-        digest.second,
-    ]);
+    play_script::write(
+        to,
+        [
+            outcome.refusal,
+            outcome.flag,
+            outcome.value,
+            q.count,
+            q.min,
+            q.max,
+            digest.first,
+            digest.second,
+        ],
+    )
 }
 
 #[derive(Clone, Copy)]
@@ -186,26 +193,33 @@ enum After {
 }
 
 // One call, if there is one.
-fn turn(state: Quantiles, room: &mut [u64]) -> After {
-    match play_script::read() {
-        Next::End => After::Stop,
+fn turn<R: Read, W: Write>(
+    from: &mut R,
+    to: &mut W,
+    state: Quantiles,
+    room: &mut [u64],
+) -> io::Result<After> {
+    match play_script::read(from)? {
+        Next::End => Ok(After::Stop),
         Next::Told(call) => {
             let outcome = play(state, room, call);
             let next = outcome.state;
-            write(outcome, digests::digest(next, room, call.g == 1));
-            After::Went(next)
+            write(to, outcome, digests::digest(next, room, call.g == 1))?;
+            Ok(After::Went(next))
         }
     }
 }
 
-fn main() {
+fn main(rt: HostRuntime) -> io::Result<()> {
+    let mut from = rt.stdin();
+    let mut to = rt.stdout();
     let mut state = quantiles::fresh(false);
     let mut room = [0u64; 18804];
     let mut turns = u64::MAX;
     while turns > 0 {
-        match turn(state, &mut room) {
+        match turn(&mut from, &mut to, state, &mut room)? {
             After::Stop => {
-                return;
+                return Ok(());
             }
             After::Went(next) => {
                 state = next;
@@ -213,4 +227,5 @@ fn main() {
         }
         turns -= 1;
     }
+    Ok(())
 }

@@ -1,7 +1,12 @@
 // Calls in, answers out: what the programs that play scripts share. A script is a list of calls of eight or sixteen
 // words, an answer a list of words, each word eight bytes, lowest first. compare/src/part.rs has the other side.
 
+#![tactic(auto)]
+
 ghost use Rattle.std.specs.Prelude.{◌≡◌, length};
+
+use std::io;
+use std::io::{Read, Write};
 
 // One call: its operation, and what it is told.
 #[derive(Clone, Copy)]
@@ -51,14 +56,14 @@ pub fn word(bytes: &[u8], at: usize) -> u64 {
     low | (high << 32)
 }
 
-// Reads a call of eight words from standard input.
-pub fn read() -> Next {
+// Reads a call of eight words.
+pub fn read<R: Read>(from: &mut R) -> io::Result<Next> {
     let mut bytes = [0u8; 64];
-    let got = io::read_full(0, &mut bytes);
+    let got = room_input::fill(from, &mut bytes)?;
     if got < 64 {
-        return Next::End;
+        return Ok(Next::End);
     }
-    Next::Told(Call {
+    Ok(Next::Told(Call {
         operation: word(&bytes, 0),
         a: word(&bytes, 8),
         b: word(&bytes, 16),
@@ -67,7 +72,7 @@ pub fn read() -> Next {
         e: word(&bytes, 40),
         f: word(&bytes, 48),
         g: word(&bytes, 56),
-    })
+    }))
 }
 
 // One byte of a word.
@@ -108,8 +113,8 @@ fn put_word(bytes: &mut [u8], at: usize, w: u64)
     }
 }
 
-// Writes eight words to standard output, and answers whether all were written.
-pub fn write(words: [u64; 8]) -> bool {
+// Writes eight words.
+pub fn write<W: Write>(to: &mut W, words: [u64; 8]) -> io::Result<()> {
     let mut bytes = [0u8; 64];
     put_word(&mut bytes, 0, words[0]);
     put_word(&mut bytes, 8, words[1]);
@@ -119,7 +124,7 @@ pub fn write(words: [u64; 8]) -> bool {
     put_word(&mut bytes, 40, words[5]);
     put_word(&mut bytes, 48, words[6]);
     put_word(&mut bytes, 56, words[7]);
-    io::write_all(1, &bytes)
+    to.write_all(&bytes)
 }
 
 // Two digests of a long list, as compare/src/digest.rs has them.
