@@ -1,0 +1,4 @@
+use Rattle.log_record.proofs.putting.put_key.Goals as goal
+
+pub returns : goal.returns
+returns c = rw (c.put_u64.ensures, c.put_u32-2.ensures, c.put_u32.ensures)

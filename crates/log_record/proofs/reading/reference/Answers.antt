@@ -1,0 +1,8 @@
+use mathlib.Core.Path.{ap, ◌∙◌}
+use mir.Syntax.{w64}
+use mir.Val.{to_z}
+use mir.ValLaws.{to_z-of_z}
+use Rattle.log_record.proofs.reading.reference.Goals as goal
+
+pub returns : goal.returns
+returns c = to_z-of_z w64 c.signed64.result (record { sfits = c.signed64.type_inv }) ∙ c.signed64.ensures ∙ ap (to_z w64) c.u64_at.ensures
