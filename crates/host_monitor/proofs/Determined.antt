@@ -23,7 +23,6 @@ use Rattle.limits.specs.Limits.{capacity}
 use Rattle.limits.specs.Refusals.{wrong_room}
 use Rattle.probe_queue.specs.declared.QueuedProbe.{QueuedProbe}
 use Rattle.probe_queue.specs.Queue.{choose, nil}
-use Rattle.monitor.specs.declared.MonitorAnswer.{MonitorAnswer}
 use Rattle.monitor.specs.declared.MonitorAnswer.TheVariants.{Refused}
 use Rattle.monitor.specs.declared.Deadline.TheVariants.{Absent, At, Refused as Refused'}
 use Rattle.monitor.specs.Refusals.{misplaced, refusal_of, refusal_of_sent}

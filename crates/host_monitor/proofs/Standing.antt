@@ -1,7 +1,7 @@
 -- Calls one after another: the words that each call leaves say the monitor that the library's own call leaves, where it is refused too. So what holds of
 -- the library's calls from fresh (crate monitor_model) holds of a host's.
 -- Assumes nothing.
-use mathlib.Core.Path.{◌≡◌, refl, sym, ap, ◌∙◌}
+use mathlib.Core.Path.{◌≡◌, refl, sym, ap}
 use mathlib.Core.Bool.{Bool, true, false, ◌&&◌}
 use mathlib.Core.List.{List}
 use Prim.Native.Nat.{ℕ, ◌<◌, ◌^◌}
@@ -16,7 +16,7 @@ use Rattle.monitor.specs.Refusals.{refusal_of, refusal_of_sent}
 use Rattle.monitor.specs.Operations.{MonitorStand, fresh, sent_on, reply_on, advance_on, idle_on, unchanged, sent_if, reply_if, advance_if}
 use Rattle.monitor.specs.Answers.{answered}
 use Rattle.monitor.specs.Answers as monitor
-use Rattle.host_monitor_words.specs.Words.{Fits, monitor_at, words_of, words_after}
+use Rattle.host_monitor_words.specs.Words.{Fits, monitor_at, words_after}
 use Rattle.host_monitor_words.proofs.Stored.{stored}
 use Rattle.host_monitor_words.proofs.Fitting.{fits-at, fits_fresh, fits-sent, fits-reply, fits-advance, fits-idle}
 use Rattle.host_monitor.specs.Calls.{fresh_to, sent_to, reply_to, advance_to, idle_to}

@@ -3,7 +3,7 @@ use Rattle.std.specs.Prelude.{Bool, true, false, ◌&&◌, List, [], ◌∷◌, 
 use Rattle.limits.specs.Limits.{capacity}
 use Rattle.limits.specs.Refusals.{deadline_passes, counts_full, queue_full}
 use Rattle.probe_queue.specs.Queue.{choose}
-use Rattle.monitor.specs.declared.State.TheVariants.{Idle, Active, Failed}
+use Rattle.monitor.specs.declared.State.TheVariants.{Idle, Active}
 use Rattle.monitor.specs.declared.Deadline.{Deadline}
 use Rattle.monitor.specs.declared.Deadline.TheVariants.{Absent, At}
 use Rattle.monitor.specs.declared.Summary.{Summary}

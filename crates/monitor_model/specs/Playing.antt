@@ -4,7 +4,6 @@ use Rattle.probe_queue.specs.declared.QueuedProbe.{QueuedProbe}
 use Rattle.probe_queue.specs.Queue.{choose, queued, is_marked}
 use Rattle.monitor.specs.declared.MonitorAnswer.{MonitorAnswer}
 use Rattle.monitor.specs.declared.MonitorAnswer.TheVariants.{Served, Refused}
-use Rattle.monitor.specs.declared.Summary.{Summary}
 use Rattle.monitor.specs.Operations.{MonitorStand}
 use Rattle.monitor.specs.Answers.{Outcome, number, sent_to, reply_to, advance_to, idle_to}
 use Rattle.monitor_model.specs.Plain.{Sent, Plain, sent, reply, advance, idle, refusal, sent_refusal}
