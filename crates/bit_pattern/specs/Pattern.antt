@@ -1,5 +1,5 @@
 -- `parse_pattern` of src/ber.rs over the bytes of a text, which need not be UTF-8. Assumes nothing.
-use Rattle.std.specs.Prelude.{◌≡◌, Bool, true, ◌&&◌, ◌||◌, not, cond, List, [], ◌∷◌, ◌++◌, ℕ, ◌+◌, ◌-◌, ◌*◌, ◌/◌, ◌%◌, ltb, eqb, length, get_or, drop}
+use Rattle.std.specs.Prelude.{Bool, true, ◌&&◌, ◌||◌, not, cond, List, [], ◌∷◌, ◌++◌, ℕ, ◌+◌, ◌-◌, ◌*◌, ◌/◌, ◌%◌, ltb, eqb, length, get_or, drop}
 use Rattle.request_limits.specs.Refusals.{short_room, bad_pattern}
 use Rattle.bit_pattern.specs.declared.Parsing.{Parsing}
 use Rattle.bit_pattern.specs.declared.Parsing.TheVariants.{BadPattern, ShortRoom, Parsed}

@@ -1,14 +1,14 @@
 -- The summary that calls leave, one after the other from fresh, shows the plain list of the samples served; so do its ratios; and a refusal
 -- changes nothing. Assumes nothing.
-use Rattle.std.proofs.Common.{◌≡◌, ℕ, zero, suc, ◌+◌, max, Bool, true, false, cond, eqb, ltb, List, [], ◌∷◌, length, sym, refl, ap, ◌∙◌, subst, ap₂, add-zero, add_comm, add-one, arith}
+use Rattle.std.proofs.Common.{◌≡◌, ℕ, zero, suc, ◌+◌, Bool, true, false, cond, eqb, ltb, List, [], ◌∷◌, length, refl, ap, ◌∙◌, add-zero, add_comm, add-one, arith}
 use Rattle.request_limits.specs.Refusals.{most_bits}
 use Rattle.bit_summary.specs.declared.Burst.{Burst}
 use Rattle.bit_summary.specs.declared.Burst.TheVariants as burst
 use Rattle.bit_summary.specs.declared.Sample.{Sample}
 use Rattle.bit_summary.specs.declared.DirectionSummary.{DirectionSummary}
 use Rattle.bit_summary.specs.declared.Recording.TheVariants.{TooManyBits, Full, Counted}
-use Rattle.bit_summary.specs.Summary.{wrong_packet, greater_burst, one_burst, burst_bits, with_burst, fresh, recorded_of}
-use Rattle.bit_summary.specs.Record.{Outcome, outcome, counts_fit, record_to}
+use Rattle.bit_summary.specs.Summary.{wrong_packet, one_burst, burst_bits, with_burst, fresh, recorded_of}
+use Rattle.bit_summary.specs.Record.{outcome, counts_fit, record_to}
 use Rattle.bit_summary.specs.Shown.{shown_of, ratio_of, per_million}
 use Rattle.bit_summary.specs.Samples.{total, greatest, bits_of, errors_of, faulty_and, with_errors, burst_and, bursts_of, Shows, ratios_of, played, served}
 

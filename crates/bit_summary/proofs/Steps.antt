@@ -1,5 +1,5 @@
 -- What the proofs of the functions cite: on each way, what is answered is what the definition says. Assumes nothing.
-use Rattle.std.proofs.Common.{◌≡◌, ℕ, zero, suc, ◌+◌, ◌<◌, ◌≤◌, max, Bool, true, false, ◌&&◌, T, ltb, pos, sym, refl, ap, ◌∙◌, subst, add-zero, arith, ltb→lt, le-ltb, lt-ltb}
+use Rattle.std.proofs.Common.{◌≡◌, ℕ, zero, suc, ◌+◌, ◌<◌, ◌≤◌, true, false, ◌&&◌, T, ltb, pos, sym, refl, ap, ◌∙◌, subst, add-zero, arith, ltb→lt, le-ltb, lt-ltb}
 use lib.Ieee.{Float, binary64, of_int, of_bits, mul, div}
 use lib.Ieee.Fits.{and_l, and_r}
 use Rattle.limits.specs.Limits.{count_bound}

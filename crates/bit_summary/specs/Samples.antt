@@ -1,5 +1,5 @@
 -- What a summary shows of the plain list of samples, the newest first. Assumes nothing.
-use Rattle.std.specs.Prelude.{◌≡◌, ℕ, zero, suc, ◌+◌, max, Bool, cond, List, [], ◌∷◌, length, ◌==◌}
+use Rattle.std.specs.Prelude.{◌≡◌, ℕ, zero, suc, ◌+◌, max, cond, List, [], ◌∷◌, length, ◌==◌}
 use Rattle.bit_summary.specs.declared.Burst.{Burst}
 use Rattle.bit_summary.specs.declared.Burst.TheVariants as burst
 use Rattle.bit_summary.specs.declared.Sample.{Sample}
