@@ -7,7 +7,6 @@ use Rattle.bit_observation.specs.declared.Field.TheVariants.{Absent, Known}
 use Rattle.bit_observation.specs.declared.Seen.{Seen}
 use Rattle.bit_observation.specs.declared.Reading.{Reading}
 use Rattle.bit_observation.specs.declared.Reading.TheVariants as reading
-use Rattle.bit_observation.specs.declared.Sample.{Sample}
 use Rattle.bit_observation.specs.declared.Observed.{Observed}
 use Rattle.bit_observation.specs.declared.Observed.TheVariants.{Refused, Unusable, Unsupported, Sampled}
 use Rattle.bit_observation.specs.Items.{flag_of, value_of}

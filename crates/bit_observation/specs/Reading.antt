@@ -1,5 +1,5 @@
 -- The walk of `observation` over the items, in the source's order of tests. Assumes nothing.
-use Rattle.std.specs.Prelude.{Bool, true, false, not, ◌&&◌, ◌||◌, cond, List, [], ◌∷◌, ℕ, eqb, length}
+use Rattle.std.specs.Prelude.{Bool, true, false, ◌&&◌, ◌||◌, cond, List, [], ◌∷◌, ℕ, eqb, length}
 use Rattle.big_endian.specs.Numbers.{number_at}
 use Rattle.bit_observation.specs.declared.Field.{Field}
 use Rattle.bit_observation.specs.declared.Field.TheVariants.{Absent, Known}
