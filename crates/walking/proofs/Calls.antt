@@ -14,7 +14,7 @@ use mathlib.Core.Bool.{Bool, not}
 use Prim.Native.Nat.{ℕ, ◌+◌, ◌<◌, ◌≤◌}
 use native.Mathlib.Omega.{arith}
 use lib.Dec.{T}
-use mir.Syntax.{Name, Place, Opd as Operand, Body, skip, seq, cond, exit, call, Width, int_big}
+use mir.Syntax.{Callee, Place, Opd as Operand, Body, skip, seq, cond, exit, call, Width, int_big}
 use mir.Val.{Val, vbool, vint, Fits}
 use base.Logic.{SProp, guard_i, ent, sep, emp, id⊢, via, mono_l, comm∗, emp∗, mono∗}
 use base.Fml.{ftrue}
@@ -46,10 +46,10 @@ module _ {M : Type 1} {𝓤 : Ura M} {𝓛 : Logic 𝓤} {K : Type 0} {Γ : List
   pub holds : K → {P Q : SProp 𝓤} → ent 𝓤 (emp 𝓤) Q → Step K 𝓛 Γ (prop P) Γ (prop (sep 𝓤 P Q))
   holds t {P} {Q} had = step (λ s. record { prf = via 𝓤 P s.prf (via 𝓤 (sep 𝓤 (emp 𝓤) P) (emp∗ 𝓤 P) (via 𝓤 (sep 𝓤 Q P) (mono_l 𝓤 P had) (comm∗ 𝓤 Q P))) })
 
-  pub twice : K → {G : Goal 𝓤 H} {R : RattleType} → Copy 𝓛 R → (x : R.Denot) (vs : List Val) → Step K 𝓛 (‵ (R.own x vs) ∷ ‵ (R.own x vs) ∷ Γ) G (‵ (R.own x vs) ∷ Γ) G
-  twice t {G} {R} copy x vs = step (λ s. use1 𝓛 (‵ (R.own x vs) ⊛ ‵ (R.own x vs)) (copy.twice x vs) $ split t $ s)
+  pub twice : K → {G : Goal 𝓤 H} {R : RattleType} → Copy 𝓛 R → (x : R.Denot) (vs : List Val) → Step K 𝓛 (‵ (R.own_val x vs) ∷ ‵ (R.own_val x vs) ∷ Γ) G (‵ (R.own_val x vs) ∷ Γ) G
+  twice t {G} {R} copy x vs = step (λ s. use1 𝓛 (‵ (R.own_val x vs) ⊛ ‵ (R.own_val x vs)) (copy.twice x vs) $ split t $ s)
 
-module _ {M : Type 1} {𝓤 : Ura M} {𝓛 : Logic 𝓤} {K : Type 0} {Γ : List (Item 𝓤)} {E : Env 𝓤 𝓛.H} {C : Calls 𝓤 𝓛.H} {Λ : Loops 𝓤 𝓛.H} {q : Post 𝓤 𝓛.H} {d : Place} {f : Name} {xs : List Operand} {rest : Body} where
+module _ {M : Type 1} {𝓤 : Ura M} {𝓛 : Logic 𝓤} {K : Type 0} {Γ : List (Item 𝓤)} {E : Env 𝓤 𝓛.H} {C : Calls 𝓤 𝓛.H} {Λ : Loops 𝓤 𝓛.H} {q : Post 𝓤 𝓛.H} {d : Place} {f : Callee} {xs : List Operand} {rest : Body} where
   open 𝓛 use {H}
 
   pub calls_gave : K → FmC 𝓤 H 𝓛.laws C → (T : Ended) (c : Clauses 𝓤 T) → Triple 𝓤 (C f) (triple_of 𝓛 T.signature (closing 𝓛 T c))
