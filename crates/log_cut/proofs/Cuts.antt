@@ -11,10 +11,10 @@ use lib.Seq.{length-take-le, take-append_seam, get_or-take, get_or-drop}
 use Rattle.big_endian.specs.Numbers.{number_at}
 use Rattle.log_record.specs.Records.{good}
 use Rattle.log_rules.proofs.Theorem.{good_rules}
-use Rattle.log_whole.specs.Logs.{trailer_at, distance_of, count_of, record_at}
+use Rattle.log_whole.specs.Logs.{count_of, record_at}
 use Rattle.log_whole.proofs.Laws.{trailer_facts}
-use Rattle.log_cut.specs.Cut.{kept_of, stop_of, whole, dropped_of}
-use Rattle.log_cut.proofs.Kept.{both_ways, complete_fit, one_more_does_not, kept_is, Whole, whole_is, whole_keeps}
+use Rattle.log_cut.specs.Cut.{kept_of, whole, dropped_of}
+use Rattle.log_cut.proofs.Kept.{both_ways, complete_fit, one_more_does_not, kept_is, Whole, whole_is}
 use Rattle.log_cut.proofs.Fresh.{record-before}
 use Rattle.log_cut.proofs.Output.{taken, dropped_cut}
 

@@ -14,9 +14,7 @@ use Rattle.big_endian.specs.Numbers.{base, number_at}
 use Rattle.big_endian.specs.Fields.{Field}
 use Rattle.big_endian.proofs.Laws.{In, first, later, field_back, written-length}
 use Rattle.record_parts.specs.Fits.{U16, U64}
-use Rattle.log_record.specs.Records.{good}
 use Rattle.log_whole.specs.declared.Settings.{Settings}
-use Rattle.log_whole.specs.declared.Log.{Log}
 use Rattle.log_whole.specs.declared.Log.TheVariants as log
 use Rattle.log_whole.specs.Logs.{mark, trailer_at, distance_of, count_of, mark_of, settings_of, trailer_fits, trailer_good, record_at, first_bad, by_records, log_of, trailer_table, trailer_over}
 use Rattle.log_whole.proofs.Laws.{by-good, by-bad, log_by_records}

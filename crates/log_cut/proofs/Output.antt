@@ -10,15 +10,13 @@ use lib.Seq.{length-take-le, take_at}
 use Rattle.record_parts.specs.Fits.{U16, U64}
 use Rattle.log_record.specs.Records.{good, read_of}
 use Rattle.log_whole.specs.declared.Settings.{Settings}
-use Rattle.log_whole.specs.declared.Log.{Log}
 use Rattle.log_whole.specs.declared.Log.TheVariants as log
-use Rattle.log_whole.specs.Logs.{trailer_at, count_of, settings_of, trailer_good, record_at, first_bad, log_of, played_by, call_at}
+use Rattle.log_whole.specs.Logs.{trailer_at, count_of, settings_of, record_at, log_of, played_by, call_at}
 use Rattle.log_whole.specs.Meaning.{Means}
 use Rattle.log_whole.proofs.Accepted.{answer_means}
 use Rattle.log_whole.proofs.Laws.{count_is, records-within, call_there}
 use Rattle.log_cut.specs.Cut.{kept_of, stop_of, whole_by, whole, dropped_of, trailer_of, output_of, settings_for}
-use Rattle.log_cut.specs.Answers.{Keeps}
-use Rattle.log_cut.proofs.Kept.{both_ways, first-at, keeps, kept_is, Whole, whole_is, accepted-whole, whole_keeps}
+use Rattle.log_cut.proofs.Kept.{first-at, keeps, kept_is, whole_is, accepted-whole, whole_keeps}
 use Rattle.log_cut.proofs.Fresh.{trailer_length, record-before, fresh-accepted, fresh-refused}
 
 -- ---- by whether the log is whole

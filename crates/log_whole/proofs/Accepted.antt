@@ -14,7 +14,6 @@ use Rattle.log_record.specs.Records.{record_of, entry_of, good, read_of}
 use Rattle.log_record.specs.Records as records
 use Rattle.log_record.proofs.Good.{good_is_written}
 use Rattle.log_whole.specs.declared.Settings.{Settings}
-use Rattle.log_whole.specs.declared.Log.{Log}
 use Rattle.log_whole.specs.declared.Log.TheVariants as log
 use Rattle.log_whole.specs.declared.PlayedCall.TheVariants as played
 use Rattle.log_whole.specs.Logs.{most_bytes, count_of, settings_of, trailer_good, record_at, answer, records_number, number_by, first_of, log_of, played_by, call_at}
