@@ -1,8 +1,7 @@
 use mathlib.Core.Path.{refl, ◌∙◌}
-use Prim.Native.Nat.{◌-◌}
 use native.Mathlib.Omega.{arith}
-use lib.ListN.{length, length-set, get_or}
-use lib.Seq.{paste, paste-zero}
+use lib.ListN.{length-set, get_or}
+use lib.Seq.{paste-zero}
 use Rattle.log_trim.proofs.Laws.{copy_more, copied}
 use Rattle.log_trim.proofs.copy.Goals as goal
 

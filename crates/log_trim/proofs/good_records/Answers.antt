@@ -1,8 +1,7 @@
 use mathlib.Core.Path.{sym, ap, ◌∙◌}
-use Prim.Native.Nat.{ℕ, ◌-◌}
+use Prim.Native.Nat.{ℕ}
 use native.Mathlib.Omega.{arith}
 use lib.ListN.{take, drop}
-use borrow.Author.Tests.{not-true, not-false}
 use Rattle.log_record.specs.Records.{good}
 use borrow.Author.Rules.{rules}
 use Rattle.log_whole.proofs.Laws.{bad_begin, bad-step, bad_stop, bad_end}
