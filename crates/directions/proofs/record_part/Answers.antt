@@ -8,4 +8,4 @@ pub returns : goal.returns
 returns c =
     let a = c.args in
     let k : (a.start + c.room_size-size.result) - a.start ≡ part_size = length_of a.start c.room_size-size.ensures in
-    (part_left a.direction a.slice.now a.start a.value _ _ _ k c.record.ensures, put_untouched a.start _ a.slice.now c.record.new.1.0 k c.requires c.slice-1.given.0)
+    (part_left a.direction a.slice.now a.start a.value _ _ _ k c.record.ensures, put_untouched a.start _ a.slice.now c.record.new.room k c.requires c.record.auto.room)

@@ -26,4 +26,4 @@ returns c =
     let size = c.room_size-size in
     let start = c.start_of-start in
     let k : (start.result + size.result) - start.result ≡ part_size = length_of start.result size.ensures in
-    tried_own a.own a.slice.now a.reverse a.value size.result start.result _ c.record_between.new.1.0 c.requires size.ensures start.ensures c.if-slice-size.false k c.slice-1.given.0 c.record_between.result c.record_between.ensures
+    tried_own a.own a.slice.now a.reverse a.value size.result start.result _ c.record_between.new.room c.requires size.ensures start.ensures c.if-slice-size.false k c.record_between.auto.room c.record_between.result c.record_between.ensures
