@@ -1,12 +1,12 @@
 -- Before 4,294,967,295 calls are served no count of the ledger gets to 2^63 and no sum to 2^126: so of refusal 4 the number of calls alone decides.
 -- Assumes nothing.
 use mathlib.Core.Path.{◌≡◌, refl}
-use mathlib.Core.Bool.{Bool, true, false, ◌&&◌}
+use mathlib.Core.Bool.{Bool, true, false, not, ◌&&◌}
 use mathlib.Core.List.{List}
 use Prim.Native.Nat.{ℕ, ◌*◌, ◌-◌, ◌^◌, ◌≤◌, ◌<◌}
 use native.Mathlib.Nat.{mul-le-mul_right}
 use native.Mathlib.Omega.{arith}
-use lib.Dec.{ltb}
+use lib.Dec.{eqb, ltb}
 use lib.IntN.{ℤ}
 use lib.ListN.{length}
 use borrow.Author.Tests.{ltb-true}
@@ -23,7 +23,8 @@ use Rattle.delays.specs.Sums.{sum_of}
 use Rattle.delays.specs.Bounds as delays
 use Rattle.direct.specs.Outcomes.{counts_in_bounds}
 use Rattle.follow_ups.specs.Bounds as follow_ups
-use Rattle.history.specs.Ledger.{duplicate, unknown, unique, CallTest, is_sent, is_class, is_answered, is_additional, is_late, is_satisfying, is_reordered, is_independent, accepted, events, count, probes_evicted, evicted_unanswered}
+use Rattle.history.specs.Counting.{present}
+use Rattle.history.specs.Ledger.{duplicate, unknown, unique, same_class, reply_class, unique?, before, behind, highest_reflector, CallTest, is_sent, is_class, is_answered, is_additional, is_late, is_satisfying, is_reordered, is_independent, accepted, events, count, probes_evicted, evicted_unanswered}
 use Rattle.history.specs.DirectLoss.{is_direct, is_observation, is_unavailable, is_discontinuity, is_below, direct_counts}
 use Rattle.history.specs.FollowUps.{unavailable, ambiguous, unmatched, repeated, matched, has_follow, is_follow, follow_counts, measured, round_trips}
 use Rattle.history.specs.Figures.{figures_of, estimates, round_trip_figures, delay_figures, clock_quality}
@@ -55,11 +56,11 @@ module _ (copies : ℕ) (copies_in : copies < 2 ^ 16) (h : List Call) (room : ca
   replies_fit_lem : replies_fit (replies_in capacity copies h) ≡ true
   replies_fit_lem =
       both_hold _ _ (both_hold _ _ (both_hold _ _
-      (both_hold _ _ (both_hold _ _ (both_hold _ _ requested_few (test_few (is_class capacity unique) (count_few _ (on_reply_lem _) h)))
-      (test_few (is_class capacity duplicate) (count_few _ (on_reply_lem _) h))) (test_few (is_class capacity unknown) (count_few _ (on_reply_lem _) h)))
-      (both_hold _ _ (both_hold _ _ (both_hold _ _ (test_few (is_answered capacity) (count_few _ (on_reply_lem _) h)) (test_few (is_additional capacity) (count_few _ (on_reply_lem _) h)))
-      (test_few (is_late capacity) (count_few _ (on_reply_lem _) h))) (test_few (is_satisfying capacity copies) (count_few _ (on_reply_lem _) h))))
-      (both_hold _ _ (test_few (is_reordered capacity) (count_few _ (on_reply_lem _) h)) (test_few (is_independent capacity) (count_few _ (on_reply_lem _) h))))
+      (both_hold _ _ (both_hold _ _ (both_hold _ _ requested_few (test_few (is_class capacity unique) (count_few _ (on_reply_lem (λ k p es. same_class unique (reply_class capacity es k p))) h)))
+      (test_few (is_class capacity duplicate) (count_few _ (on_reply_lem (λ k p es. same_class duplicate (reply_class capacity es k p))) h))) (test_few (is_class capacity unknown) (count_few _ (on_reply_lem (λ k p es. same_class unknown (reply_class capacity es k p))) h)))
+      (both_hold _ _ (both_hold _ _ (both_hold _ _ (test_few (is_answered capacity) (count_few _ (on_reply_lem (λ k p es. unique? capacity k p es && eqb (before capacity k p es) 0)) h)) (test_few (is_additional capacity) (count_few _ (on_reply_lem (λ k p es. unique? capacity k p es && not (eqb (before capacity k p es) 0))) h)))
+      (test_few (is_late capacity) (count_few _ (on_reply_lem (λ k p es. unique? capacity k p es && eqb (before capacity k p es) 0 && not (present p))) h))) (test_few (is_satisfying capacity copies) (count_few _ (on_reply_lem (λ k p es. unique? capacity k p es && ltb (before capacity k p es) copies)) h))))
+      (both_hold _ _ (test_few (is_reordered capacity) (count_few _ (on_reply_lem (λ k p es. unique? capacity k p es && behind k.reflector (highest_reflector (accepted es)))) h)) (test_few (is_independent capacity) (count_few _ (on_reply_lem (λ k p es. unique? capacity k p es && not (eqb k.reflector k.sender))) h))))
       (both_hold _ _ (both_hold _ _ (few (probes_evicted capacity (events capacity h)) (omega (arith, evicted_few (events capacity h), events_few h)))
       (few (length (accepted (events capacity h)) - capacity) (omega (arith, accepted_few (events capacity h), events_few h))))
       (few (evicted_unanswered capacity (events capacity h)) (omega (arith, unanswered_few (events capacity h), events_few h))))
