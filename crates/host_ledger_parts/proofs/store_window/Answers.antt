@@ -1,0 +1,25 @@
+use mathlib.Core.Path.{sym, ap, ◌∙◌, subst}
+use Prim.Native.Nat.{ℕ}
+use mathlib.Core.List.{List, ◌∷◌}
+use lib.ListN.{set}
+use lib.Seq.{sets}
+use Rattle.direct.specs.declared.Window.{Window}
+use Rattle.direct.specs.declared.Window.TheVariants.{Closed, Open}
+use Rattle.host_ledger.specs.Parts.{window_words, WindowKept}
+use Rattle.host_ledger.proofs.Back.{closed_kept, open_kept}
+use Rattle.host_ledger_parts.proofs.store_window.Goals as goal
+
+pub returns-in-Closed : goal.returns-in-Closed
+returns-in-Closed c =
+    let w = c.args.state.now in
+    let e = c.enum_told-1.given.1 in
+    (sym (ap (λ (x : Window). sets w 38 (window_words x)) e), subst WindowKept (sym e) closed_kept)
+
+pub returns-in-Open : goal.returns-in-Open
+returns-in-Open c =
+    let w = c.args.state.now in
+    let e = c.window-1.given.1 in
+    let said = c.epoch_words-words.ensures in (
+      ap (λ (ws : List ℕ). sets w 38 (1 ∷ ws)) said.said ∙ sym (ap (λ (x : Window). sets w 38 (window_words x)) e),
+      subst WindowKept (sym e) (open_kept _ _ _ _ _ _ said),
+    )
