@@ -12,13 +12,13 @@ use Rattle.host_ledger_parts.proofs.store_window.Goals as goal
 pub returns-in-Closed : goal.returns-in-Closed
 returns-in-Closed c =
     let w = c.args.state.now in
-    let e = c.enum_told-1.given.1 in
+    let e = c.in-Closed.is in
     (sym (ap (λ (x : Window). sets w 38 (window_words x)) e), subst WindowKept (sym e) closed_kept)
 
 pub returns-in-Open : goal.returns-in-Open
 returns-in-Open c =
     let w = c.args.state.now in
-    let e = c.window-1.given.1 in
+    let e = c.in-Open.is in
     let said = c.epoch_words-words.ensures in (
       ap (λ (ws : List ℕ). sets w 38 (1 ∷ ws)) said.said ∙ sym (ap (λ (x : Window). sets w 38 (window_words x)) e),
       subst WindowKept (sym e) (open_kept _ _ _ _ _ _ said),
