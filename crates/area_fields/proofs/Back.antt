@@ -1,9 +1,8 @@
 -- What is written reads back equal. Assumes nothing.
-use mathlib.Core.Path.{◌≡◌, refl, sym, ap, ◌∙◌}
+use mathlib.Core.Path.{◌≡◌, refl, sym, ◌∙◌}
 use mathlib.Core.List.{List}
-use Prim.Native.Nat.{ℕ, ◌≤◌, ◌<◌}
+use Prim.Native.Nat.{ℕ, ◌<◌}
 use lib.ListN.{length}
-use borrow.Author.Tests.{eq-eqb}
 use Rattle.big_endian.specs.Numbers.{base}
 use Rattle.big_endian.specs.Fields.{byte, bytes4, bytes8, written}
 use Rattle.big_endian.proofs.Laws.{first, later, field_back, written-length}

@@ -10,14 +10,13 @@ use borrow.Author.Tests.{eq-eqb, ne_eqb, eqb-true}
 use Rattle.call_types.specs.declared.CounterPoint.{CounterPoint}
 use Rattle.call_types.specs.declared.Counters.{Counters}
 use Rattle.call_types.specs.declared.Counters.TheVariants as counters
-use Rattle.area_items.specs.Items.{Item, Reading, refused, items, before, kind_at, length_at, end_at, item_at, fits, verdict_at, rest_of, area}
+use Rattle.area_items.specs.Items.{Item, Reading, refused, items, before, kind_at, length_at, end_at, item_at, verdict_at, rest_of, area}
 use Rattle.area_items.proofs.Laws.{good, rest_end, rest_bad, rest_good, five, seven}
 use Rattle.area_fields.specs.declared.FollowUpItem.{FollowUpItem}
 use Rattle.area_fields.specs.Fields.{counters_at, follow_up_at}
 use Rattle.area_observation.specs.declared.Sighted.{Sighted}
 use Rattle.area_observation.specs.declared.Sighted.TheVariants as sighted
 use Rattle.area_observation.specs.declared.Told.{Told}
-use Rattle.area_observation.specs.declared.Telling.{Telling}
 use Rattle.area_observation.specs.declared.Telling.TheVariants as telling
 use Rattle.area_observation.specs.declared.Found.{Found}
 use Rattle.area_observation.specs.declared.Walk.{Walk}

@@ -1,11 +1,10 @@
 -- What `observe` is told of a reply's extension area: the counters and the follow-up of its items. RFC 8972, section 4, says what the flags
 -- that the reflector set mean to the sender; of two items of one type that count, the first does. Assumes nothing.
-use Rattle.std.specs.Prelude.{Bool, true, false, ◌||◌, not, cond, List, [], ◌∷◌, ℕ, ◌+◌, ◌/◌, ◌%◌, eqb, ltb}
+use Rattle.std.specs.Prelude.{Bool, false, ◌||◌, cond, List, [], ◌∷◌, ℕ, ◌+◌, ◌/◌, ◌%◌, eqb, ltb}
 use Rattle.call_types.specs.declared.Counters.{Counters}
 use Rattle.call_types.specs.declared.Counters.TheVariants as counters
 use Rattle.area_items.specs.Items.{Item, Reading, refused, items, area}
 use Rattle.area_fields.specs.Fields.{counters_at, follow_up_at}
-use Rattle.area_observation.specs.declared.Sighting.{Sighting}
 use Rattle.area_observation.specs.declared.Sighted.{Sighted}
 use Rattle.area_observation.specs.declared.Sighted.TheVariants as sighted
 use Rattle.area_observation.specs.declared.Told.{Told}

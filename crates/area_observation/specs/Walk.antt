@@ -1,5 +1,5 @@
 -- One walk over the items that finds what is told. Assumes nothing.
-use Rattle.std.specs.Prelude.{◌≡◌, Bool, true, false, ◌||◌, ◌&&◌, not, cond, List, [], ◌∷◌, ℕ, zero, suc, ◌+◌, ◌/◌, ◌%◌, ◌≤◌, eqb, length}
+use Rattle.std.specs.Prelude.{◌≡◌, Bool, false, ◌||◌, ◌&&◌, not, cond, List, [], ◌∷◌, ℕ, zero, suc, ◌+◌, ◌/◌, ◌%◌, ◌≤◌, eqb, length}
 use Rattle.area_items.specs.Items.{Item, Reading, refused, items}
 use Rattle.area_observation.specs.Told.{flagged, failed, usable, first_of}
 use Rattle.area_observation.specs.declared.Found.{Found}

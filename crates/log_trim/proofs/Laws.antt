@@ -12,14 +12,12 @@ use lib.Seq.{paste, paste-suc, take_all, take_at, drop_at, drop-drop, length-tak
 use borrow.Author.Tests.{lt-ltb, le-ltb}
 use borrow.Rule.Slice.PartMut.{put_mid}
 use Rattle.log_whole.specs.declared.Log.{Log}
-use Rattle.log_whole.specs.Logs.{most_bytes, count_of, first_bad, log_of, Wrote, wrote, trailer_over, trailer_to}
+use Rattle.log_whole.specs.Logs.{count_of, first_bad, log_of, Wrote, wrote, trailer_over, trailer_to}
 use Rattle.log_whole.proofs.Laws.{write_done}
 use Rattle.log_whole.proofs.Whole.{trailer_whole}
 use Rattle.log_cut.specs.Cut.{kept_of, stop_of, whole_by, whole, dropped_of, trailer_of, output_of}
-use Rattle.log_cut.proofs.Kept.{keeps, Whole, whole_is, whole_keeps}
-use Rattle.log_cut.proofs.Fresh.{trailer_length}
+use Rattle.log_cut.proofs.Kept.{keeps, whole_is, whole_keeps}
 use Rattle.log_cut.proofs.Output.{output_whole, output_cut, output_length, dropped_whole, dropped_cut}
-use Rattle.log_trim.specs.declared.Cut.{Cut}
 use Rattle.log_trim.specs.declared.Trimmed.TheVariants as trimmed
 use Rattle.log_trim.specs.Trimmed.{left, cut_of, refusal_of, room_after, answer_by, trim_to}
 

@@ -1,7 +1,7 @@
 -- Document 01, "Proved examples": the whole list, in its order, over the definitions that the contracts cite. Assumes nothing.
 use mathlib.Core.Path.{◌≡◌}
 use mathlib.Core.Bool.{true}
-use Prim.Native.Nat.{ℕ, ◌-◌, ◌^◌}
+use Prim.Native.Nat.{◌-◌, ◌^◌}
 use lib.IntN.{pos}
 use lib.Ieee.{binary64, of_int}
 use Rattle.buckets.specs.Buckets.{index, value}

@@ -23,7 +23,7 @@ pub returns-then-all : goal.returns-then-all
 returns-then-all c =
     let a = c.args in
     trim-whole a.log.now a.room.now a.copies a.threshold a.timeout c.kept_records-kept.result c.if-log-gt-MOST_BYTES.false
-    c.kept_records-kept.ensures c.copy.new.1.1.0 (sym c.is_whole-all.ensures ∙ c.if-all.true) c.if-room-stop.false c.copy.ensures
+    c.kept_records-kept.ensures c.copy.new.room (sym c.is_whole-all.ensures ∙ c.if-all.true) c.if-room-stop.false c.copy.ensures
 
 pub put_log-requires : goal.put_log-requires
 put_log-requires c =
@@ -37,4 +37,4 @@ pub returns : goal.returns
 returns c =
     let a = c.args in
     trim_cut a.log.now a.room.now a.copies a.threshold a.timeout c.kept_records-kept.result c.if-log-gt-MOST_BYTES.false
-    c.kept_records-kept.ensures c.put_log.new.1.1.1.1.1.0 (sym c.is_whole-all.ensures ∙ c.if-all.false) c.if-room-stop.false c.put_log.ensures
+    c.kept_records-kept.ensures c.put_log.new.room (sym c.is_whole-all.ensures ∙ c.if-all.false) c.if-room-stop.false c.put_log.ensures
