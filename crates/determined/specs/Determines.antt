@@ -1,5 +1,5 @@
--- A function that is lent a slice of structs is proved by a walk, and the checker makes no plain reading (`Reads`) of its contract. What it makes is
--- the contract's clauses, assertions of the logic at every model; so uniqueness is stated over these. It says nothing of a crate.
+-- Uniqueness of what a function that is lent a slice of structs leaves is stated over its contract's clauses, assertions of the logic at every model,
+-- and not over a plain reading of the contract (`Reads`). It says nothing of a crate.
 -- Assumes nothing: these are definitions.
 use seplogic.Ra.Ura.{Ura}
 use base.Logic.{ent, sep}

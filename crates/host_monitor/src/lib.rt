@@ -1,5 +1,5 @@
 // The monitor's calls for a host: the monitor in twelve lent words, the queue in a lent slice of probe records, document 01's number back (0 where the call was served).
-// A call that is lent the queue is a straight line of calls, proved by a walk of its MIR; what depends on a test is in the functions that it calls.
+// A call that is lent the queue is a straight line of calls; what depends on a test is in the functions that it calls.
 #![tactic(auto)]
 
 ghost use Rattle.std.specs.Prelude.{◌≡◌};

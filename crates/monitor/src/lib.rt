@@ -1,6 +1,6 @@
 // Sender session state: src/sender/session_state.rs, over a lent queue of probe records (document 01, "Monitor").
 // An operation takes the monitor by value and hands back the next one, with its notification counts, or a refusal's number alone.
-// Each operation that is lent the queue is a straight line of calls, proved by a walk of its MIR; what depends on a test is in the steps below them.
+// Each operation that is lent the queue is a straight line of calls; what depends on a test is in the steps below them.
 #![tactic(auto)]
 
 ghost use Rattle.std.specs.Prelude.{◌≡◌};

@@ -1,5 +1,5 @@
 -- The queue of document 01, "Monitor": probe records in a lent room, of which a ring says which are queued.
-use Rattle.std.specs.Prelude.{◌≡◌, Bool, true, false, not, List, [], ◌∷◌, ℕ, zero, suc, ◌+◌, ◌<◌, ◌≤◌, ◌%◌, ◌-◌, get_or, set, eqb, leb, ltb}
+use Rattle.std.specs.Prelude.{Bool, true, false, not, List, [], ◌∷◌, ℕ, zero, suc, ◌+◌, ◌<◌, ◌≤◌, ◌%◌, ◌-◌, get_or, set, eqb, leb, ltb}
 use Rattle.limits.specs.Limits.{capacity}
 use Rattle.probe_queue.specs.declared.QueuedProbe.{QueuedProbe}
 use Rattle.probe_queue.specs.declared.QueueRing.{QueueRing}

@@ -1,6 +1,8 @@
 // The monitor's queue: `probes: VecDeque<Probe>` and `received: HashSet<u32>` of src/sender/session_state.rs, in one lent slice of records.
 // A record is queued while the ring covers it. The mark belongs to the sequence: it is received's where any queued record of it is marked.
-// Each function that takes the slice is proved by a walk of its MIR; the others hold what depends on numbers and records alone.
+// What depends on numbers and records alone stands in functions that take no slice.
+#![tactic(auto)]
+
 ghost use Rattle.std.specs.Prelude.{◌≡◌, ◌<◌, ◌≤◌, set, get_or};
 ghost use Rattle.probe_queue.specs.Queue.{nil, Held, place, after, queued, leading, passes, unmark, place_if, unmarked as unmarkedRoom, popped};
 ghost use Rattle.limits.specs.Limits.{capacity};

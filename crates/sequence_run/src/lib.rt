@@ -1,6 +1,8 @@
 // The run of ascending sequences at the end of a queue, as plain numbers: how many are queued, and how many of the last of them are known to
 // ascend. While the run covers the queue, no sequence is queued twice. It stands apart from `monitor`, which keeps these numbers: nothing here
 // needs the queue itself.
+#![tactic(auto)]
+
 ghost use Rattle.std.specs.Prelude.{◌≡◌, ◌+◌, ◌<◌, ltb, leb, eqb};
 ghost use Rattle.limits.specs.Limits.{capacity};
 ghost use Rattle.probe_queue.specs.Queue.{choose};

@@ -1,1 +1,3 @@
+#![tactic(auto)]
+
 // Laws for walks of functions with a local array that they lend whole. No code.

@@ -1,5 +1,5 @@
 -- Each record passed so far is one that the rule passes, and the look ends at the first that it does not, or at the queue's end.
-use Rattle.std.proofs.Common.{◌≡◌, ◌∙◌, ℕ, sym, ap, get_or, arith}
+use Rattle.std.proofs.Common.{◌∙◌, ℕ, sym, ap, get_or, arith}
 use Rattle.probe_queue.specs.Queue.{nil, at, passes}
 use Rattle.probe_queue.proofs.Leading.{leads}
 use Rattle.probe_queue.proofs.look.Goals as goal
