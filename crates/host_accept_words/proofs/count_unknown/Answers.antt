@@ -1,0 +1,11 @@
+use mathlib.Core.Path.{refl}
+use Rattle.replies.specs.Served.{after_unknown}
+use Rattle.host_ledger.specs.Parts.{replies_at}
+use Rattle.host_ledger.specs.Words.{ledger_at}
+use Rattle.host_ledger.specs.Left.{counted_words}
+use Rattle.host_accept_words.specs.Accept.{unknown_words}
+use Rattle.host_accept_words.proofs.count_unknown.Goals as goal
+
+pub returns : goal.returns
+unfolding unknown_words counted_words ledger_at replies_at after_unknown
+returns c = refl
