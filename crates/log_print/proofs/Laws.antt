@@ -1,5 +1,5 @@
 -- From a line that stands at the start of the buffer to what is said of it. Assumes nothing.
-use mathlib.Core.Path.{◌≡◌, refl, sym, ap, ◌∙◌}
+use mathlib.Core.Path.{◌≡◌, sym, ap, ◌∙◌}
 use mathlib.Core.Bool.{Bool, true, false, cond}
 use mathlib.Core.List.{List, []}
 use Prim.Native.Nat.{ℕ, ◌+◌}
@@ -7,7 +7,7 @@ use native.Mathlib.Omega.{arith}
 use borrow.Author.Tests.{eq-eqb, ne_eqb}
 use lib.Dec.{eqb}
 use lib.ListN.{length}
-use Rattle.decimal.specs.Writing.{over, Stands}
+use Rattle.decimal.specs.Writing.{Stands}
 use Rattle.decimal.proofs.Places.{over_none}
 use Rattle.report.specs.Report.{report_room}
 use Rattle.log_whole.specs.declared.Log.{Log}

@@ -1,5 +1,5 @@
 -- What a program prints of a log: document 01, 'Log and program': "prints `refused 9`, `refused 7` or `refused 8 at N`; else as here". Assumes nothing.
-use Rattle.std.specs.Prelude.{Bool, cond, List, [], ◌++◌, ℕ, eqb, length, take}
+use Rattle.std.specs.Prelude.{cond, List, [], ◌++◌, ℕ, eqb, length, take}
 use Rattle.decimal.specs.Decimal.{decimal}
 use Rattle.decimal.specs.Writing.{over}
 use Rattle.template.specs.Text.{bytes}
