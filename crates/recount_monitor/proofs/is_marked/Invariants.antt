@@ -1,0 +1,11 @@
+use mathlib.Core.Path.{◌≡◌}
+use Prim.Native.Nat.{◌-◌, ◌≤◌}
+use Rattle.recount_queue.specs.Moves.{move_at}
+use Rattle.recount_monitor.specs.Fronts.{marked_in}
+use Rattle.recount_monitor.proofs.is_marked.Given as goal
+
+abbrev pub invariant-loop-j : goal.invariant-loop-j
+invariant-loop-j l = (l.found ≡ marked_in l.timeout (move_at l.log l.marks) l.fronts l.sequence l.j) × (l.j ≤ l.n)
+
+abbrev pub decreases-loop-j : goal.decreases-loop-j
+decreases-loop-j l = l.n - l.j
