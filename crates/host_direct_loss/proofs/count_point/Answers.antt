@@ -40,5 +40,5 @@ returns-then-not-contains c =
     let tests = (and-eq-true_iff c.is_open.result c.goes_on.result).0 c.if-is_open-goes_on.true in
     went_on (number_hash s.args.secret) s.args.ledger.now s.args.offsets.now s.args.links.now s.args.told s.args.point _ _ _ _ _ _ _ _
     s.requires.4 c.epoch_in-epoch.ensures (sym c.is_open.ensures ∙ tests.0) (sym c.goes_on.ensures ∙ tests.1)
-    c.transmit_offset-offset.ensures c.contains.ensures (not-true _ c.if-not-contains.true)
+    c.transmit_offset-offset.ensures c.contains.ensures c.if-not-contains.true
     c.moved.ensures c.store.ensures c.add.ensures

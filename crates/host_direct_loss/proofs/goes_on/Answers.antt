@@ -3,6 +3,6 @@ use Rattle.host_direct_loss.proofs.goes_on.Goals as goal
 
 pub returns : goal.returns
 returns c =
-    let s = c.before.before.before.before.before.before.before.before.before.before.before.before.before.before.before in
-    tested_as s.args.epoch s.args.point s.args.ordinal _ _ _ _ _ c.ordinal-1.given.1
+    let s = c in
+    tested_as s.args.epoch s.args.point s.args.ordinal _ _ _ _ _ c.in-Number.is
     c.transmit_offset-transmitted.ensures c.sender_since-sender.ensures c.received_since-received.ensures c.transmit_offset-highest.ensures
