@@ -24,7 +24,7 @@ use Rattle.area_observation.specs.declared.Telling.{Telling}
 use Rattle.area_observation.specs.declared.Telling.TheVariants as telling
 use Rattle.area_observation.specs.Told.{told}
 use Rattle.host_area.specs.Words.{sighted_flag, unknown_flag, sequence_of, timestamp_of, flags_with, told_words}
-use Rattle.host_area.specs.Calls.{RoomLeft, room_left, read_by, read_to, write_by, write_to, words_left, counters_by, counters_to, follow_up_by, follow_up_to, observation_by, observation_to}
+use Rattle.host_area.specs.Calls.{room_left, read_by, read_to, write_by, write_to, words_left, counters_by, counters_to, follow_up_by, follow_up_to, observation_by, observation_to}
 
 module _ (bytes room after count : List ℕ) (a : Checked) (left : read_call.outcome a after ≡ read_call.read_into bytes room) where
   read_from : (b : Checked) → a ≡ b → read_by b after count ≡ read_to bytes room count

@@ -1,5 +1,5 @@
 -- What is told of an area, in the words of an observation (`host_observation/specs/Observation.antt`). Assumes nothing.
-use Rattle.std.specs.Prelude.{cond, List, ℕ, ◌+◌, ◌*◌, ◌/◌, ◌%◌, set}
+use Rattle.std.specs.Prelude.{List, ℕ, ◌+◌, ◌*◌, ◌/◌, ◌%◌, set}
 use Rattle.host_numbers.specs.Numbers.{lower, upper, flag_word}
 use Rattle.host_observation.specs.Observation.{word}
 use Rattle.record_parts.specs.Parts.{counters_flag, sender_count, received_count, transmitted_count}

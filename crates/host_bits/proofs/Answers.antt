@@ -1,6 +1,6 @@
 -- What the proofs of the calls cite: each case of the answer below. Assumes nothing.
-use mathlib.Core.Path.{◌≡◌, refl, sym, ap, ◌∙◌}
-use mathlib.Core.Bool.{Bool, not, cond}
+use mathlib.Core.Path.{◌≡◌, sym, ap, ◌∙◌}
+use mathlib.Core.Bool.{not}
 use mathlib.Core.List.{List}
 use Prim.Native.Nat.{ℕ}
 use lib.Dec.{eqb}
@@ -30,7 +30,7 @@ use Rattle.bit_summary.specs.Summary.{fresh}
 use Rattle.bit_summary.specs.Record as record-call
 use Rattle.bit_summary.specs.Shown.{shown_of}
 use Rattle.host_bits.specs.Words.{burst_from, burst_known, burst_word, ratio_known, ratio_word, field_known, field_word, summary_at, summary_words}
-use Rattle.host_bits.specs.Calls.{parse_left, ParseLeft, parse_by, parse_to, count_left, CountLeft, count_by, count_to, observe_by, observe_to, fresh_to, record_by, record_to, show_to}
+use Rattle.host_bits.specs.Calls.{parse_left, parse_by, parse_to, count_left, count_by, count_to, observe_by, observe_to, fresh_to, record_by, record_to, show_to}
 
 -- ---- small parts
 

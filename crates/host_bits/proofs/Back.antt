@@ -3,28 +3,25 @@
 use mathlib.Core.Path.{◌≡◌, refl, sym, ap, ◌∙◌, subst}
 use mathlib.Core.Bool.{Bool, true, false, cond}
 use mathlib.Core.List.{List, [], ◌∷◌}
-use Prim.Native.Nat.{ℕ, zero, suc, ◌%◌, ◌^◌, ◌≤◌, ◌<◌, max}
-use native.Mathlib.Nat.{mod-eq_of_lt, mod-lt}
+use Prim.Native.Nat.{ℕ, zero, suc, ◌^◌, ◌<◌}
+use native.Mathlib.Nat.{mod-eq_of_lt}
 use native.Mathlib.Omega.{arith}
 use lib.Dec.{eqb, ltb}
 use lib.ListN.{length, get_or}
 use lib.Seq.{sets, length-sets}
 use Rattle.request_limits.specs.Refusals.{most_bits}
 use Rattle.host_numbers.specs.Numbers.{lower}
-use Rattle.bit_pattern.specs.Pattern.{parsed}
-use Rattle.bit_pattern.proofs.Determined.{refused-unchanged}
-use Rattle.bit_pattern.specs.Pattern as pattern-call
 use Rattle.bit_summary.specs.declared.Burst.{Burst}
 use Rattle.bit_summary.specs.declared.Burst.TheVariants as burst
 use Rattle.bit_summary.specs.declared.Sample.{Sample}
 use Rattle.bit_summary.specs.declared.DirectionSummary.{DirectionSummary}
 use Rattle.bit_summary.specs.declared.Recording.TheVariants.{TooManyBits, Full, Counted}
-use Rattle.bit_summary.specs.Summary.{fresh, greater_burst, with_burst, recorded_of}
+use Rattle.bit_summary.specs.Summary.{fresh, with_burst, recorded_of}
 use Rattle.bit_summary.specs.Record as record-call
 use Rattle.bit_summary.specs.Samples.{Shows, played, served}
 use Rattle.bit_summary.proofs.Shows.{played-shows}
 use Rattle.host_bits.specs.Words.{burst_from, burst_known, burst_word, summary_at, summary_words}
-use Rattle.host_bits.specs.Calls.{parse_left, parse_by, parse_to, count_left, fresh_to, record_by, record_to}
+use Rattle.host_bits.specs.Calls.{fresh_to, record_by, record_to}
 
 -- what holds of every eight words holds of a list of eight
 eight : (P : List ℕ → Type 0) → ((a b c d e f g h : ℕ) → P (a ∷ b ∷ c ∷ d ∷ e ∷ f ∷ g ∷ h ∷ [])) → (ws : List ℕ) → length ws ≡ 8 → P ws

@@ -8,7 +8,7 @@ use borrow.Fn.Kinds as Kinds'
 use denote.Triple.Clauses as Clauses
 use Rattle.log_trim.specs.declared.Trimmed.{Trimmed}
 use Rattle.log_trim.specs.declared.Trimmed.TheVariants as trimmed
-use Rattle.log_trim.specs.Trimmed.{Left, left, trim_to}
+use Rattle.log_trim.specs.Trimmed.{trim_to}
 use Rattle.log_trim.proofs.Determined.{refused_writes_nothing}
 use Rattle.host_log_trim.specs.Told as told
 use Rattle.host_log_trim.specs.Told.{cut_words, told_by, trim_told}

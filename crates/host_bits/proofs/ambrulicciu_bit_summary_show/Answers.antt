@@ -1,0 +1,7 @@
+use Rattle.host_bits.proofs.Answers.{show-said}
+use Rattle.host_bits.proofs.ambrulicciu_bit_summary_show.Goals as goal
+
+pub returns : goal.returns
+returns c =
+    let a = c.args in
+    show-said a.summary.now a.shown.now _ _ _ _ _ _ _ _ _ _ _ _ c.load-state.ensures c.ratios-ratios.ensures c.burst_known.ensures c.burst_word.ensures c.ratio_known.ensures c.ratio_word.ensures c.ratio_known-2.ensures c.ratio_word-2.ensures c.ratio_known-3.ensures c.ratio_word-3.ensures c.ratio_known-4.ensures c.ratio_word-4.ensures
