@@ -8,12 +8,10 @@ use Rattle.host_direct_loss.proofs.count_any.Goals as goal
 
 pub count_direct-after-requires : goal.count_direct-after-requires
 count_direct-after-requires c =
-    let s = c in
-    let bounded = subst (λ (d : Direct). InBounds d.counts × (seen_in d.window ≤ 4096)) (sym c.direct_of-before.ensures) (s.requires.2, s.requires.3) in
-    (s.requires.0, s.requires.1, bounded.0, bounded.1)
+    let bounded = subst (λ (d : Direct). InBounds d.counts × (seen_in d.window ≤ 4096)) (sym c.direct_of-before.ensures) (c.requires.2, c.requires.3) in
+    (c.requires.0, c.requires.1, bounded.0, bounded.1)
 
 pub returns : goal.returns
 returns c =
-    let s = c in
-    any-as (number_hash s.args.secret) s.args.ledger.now s.args.offsets.now s.args.links.now s.args.told _ _ _ _ _
+    any-as (number_hash c.args.secret) c.args.ledger.now c.args.offsets.now c.args.links.now c.args.told _ _ _ _ _
     c.direct_of-before.ensures c.count_direct-after.ensures c.store_direct.ensures.0
