@@ -20,7 +20,8 @@ use Rattle.estimate.specs.Wire.{estimate_of}
 use Rattle.clock_quality.specs.declared.ClockQuality.{ClockQuality}
 use Rattle.clock_quality.specs.Quality.{Class, counted, is_both, is_unsynchronized, is_invalid, is_unknown, is_invalid_sender, is_invalid_reflector, is_invalid_both, fresh, recorded_of}
 use Rattle.clock_quality.specs.Bounds.{counts_fit, answer, state_after}
-use Rattle.clock_quality.specs.Samples.{class_of, count, Largest, InRange, played, Shows, played-shows, AddsUp, played_adds_up}
+use Rattle.clock_quality.specs.Samples.{class_of, count, Largest, InRange, played, Shows, AddsUp}
+use Rattle.clock_quality.proofs.Samples.{played-shows, played_adds_up}
 use Rattle.clock_quality.proofs.Largest.{largest_among_lem}
 use Rattle.host_clock_quality.specs.Calls.{fresh_to, record_after, record_to}
 use Rattle.host_clock_quality.proofs.Back.{fresh_is_read, record_is_read}

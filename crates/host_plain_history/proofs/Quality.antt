@@ -18,7 +18,8 @@ use Rattle.clock_quality.specs.declared.LastEstimate.TheVariants as last
 use Rattle.clock_quality.specs.Quality as clock
 use Rattle.clock_quality.specs.Quality.{Class, is_known, counted, is_both, is_unsynchronized, is_invalid, is_unknown, is_invalid_sender, is_invalid_reflector, is_invalid_both, clock_estimate_of}
 use Rattle.clock_quality.specs.Samples as samples
-use Rattle.clock_quality.specs.Samples.{largest_among, invalid_adds_up}
+use Rattle.clock_quality.specs.Samples.{largest_among}
+use Rattle.clock_quality.proofs.Samples.{invalid_adds_up}
 use Rattle.host_numbers.specs.Numbers.{flag_word}
 use Rattle.host_snapshot_words.specs.Words as shown
 use Rattle.history.specs.Counting.{tally}

@@ -4,7 +4,8 @@ use mathlib.Core.List.{List, [], ◌∷◌}
 use Rattle.estimate.specs.declared.Estimates.{Estimates}
 use Rattle.clock_quality.specs.declared.ClockQuality.{ClockQuality}
 use Rattle.clock_quality.specs.Quality.{fresh, recorded_of}
-use Rattle.clock_quality.specs.Samples.{played, Shows, recorded-shows, fresh-shows, played-shows, AddsUp, invalid_adds_up}
+use Rattle.clock_quality.specs.Samples.{played, Shows, AddsUp}
+use Rattle.clock_quality.proofs.Samples.{recorded-shows, fresh-shows, played-shows, invalid_adds_up}
 use Rattle.history.specs.Figures.{quality_of}
 
 -- what shows a list is the quality of that list
