@@ -19,7 +19,7 @@ overflow_add-low c =
 
 pub overflow_add-high : goal.overflow_add-high
 overflow_add-high c =
-    record { fits = halves_fit c.loop-i.i (length c.args.buckets.now) c.loop-i.high (get_or c.args.buckets.now c.loop-i.i 0 / 2 ^ 32) c.loop-i-test.true c.loop-i.invariant.4 c.loop-i.invariant.3 (omega (arith, c.shared_slice_known-in-loop-i-1.given c.loop-i.i)) }
+    record { fits = halves_fit c.loop-i.i (length c.args.buckets.now) c.loop-i.high (get_or c.args.buckets.now c.loop-i.i 0 / 2 ^ 32) c.loop-i-test.true c.loop-i.invariant.4 c.loop-i.invariant.3 (omega (arith, c.type_inv.buckets c.loop-i.i)) }
 
 pub overflow_add-i : goal.overflow_add-i
 overflow_add-i c = omega (arith, c.loop-i-test.true, c.loop-i.invariant.4)
@@ -28,7 +28,7 @@ pub loop-i-preserved : goal.loop-i-preserved
 loop-i-preserved c =
     let l = c.loop-i in
     let b = c.args.buckets.now in
-    let h = halves_next l.i l.low l.high (get_or b l.i 0) l.invariant.2 l.invariant.3 (c.shared_slice_known-in-loop-i-1.given l.i).fits in (
+    let h = halves_next l.i l.low l.high (get_or b l.i 0) l.invariant.2 l.invariant.3 (c.type_inv.buckets l.i).fits in (
       omega (arith, c.loop-i-test.true),
       h.0 ∙ ap (λ (x : ℕ). x + get_or b l.i 0) l.invariant.1 ∙ sym (total-next l.i b c.loop-i-test.true),
       h.1,

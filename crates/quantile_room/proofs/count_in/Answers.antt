@@ -9,6 +9,7 @@ use Rattle.buckets.specs.Signed.{bucket_count}
 use Rattle.quantile_room.specs.Room.{totals}
 use Rattle.quantile_room.proofs.Parts.{counted_in}
 use Rattle.quantile_room.proofs.Places.{parts_in, total_in, bucket_is, total_is, bucket_left, block-left, up}
+use borrow.Author.Rules.{rules}
 use Rattle.quantile_room.proofs.count_in.Goals as goal
 
 -- the total's word lies behind the bucket's, so that it is not the one that was written
@@ -24,7 +25,7 @@ overflow_add-room c =
     let a = c.args in
     let p = c.requires in
     let t = c.totals_start in
-    record { fits = up _ _ (bucket_is a.signed a.room.now a.place t.result p.0 p.1 t.ensures) (c.slice_known-2-1.given (4096 + a.place)).fits (bucket_left a.signed a.room.now a.place p.2) }
+    record { fits = up _ _ (bucket_is a.signed a.room.now a.place t.result p.0 p.1 t.ensures) (search rules) (bucket_left a.signed a.room.now a.place p.2) }
 
 pub bounds-room-block : goal.bounds-room-block
 bounds-room-block c =
@@ -39,7 +40,7 @@ overflow_add-room-2 c =
     let p = c.requires in
     let t = c.totals_start in
     let k = kept a.signed a.room.now a.place t.result t.ensures p.1 (get_or a.room.now (4096 + a.place) 0 + 1) in
-    record { fits = up _ _ (total_is a.signed a.room.now a.place t.result p.0 p.1 t.ensures ∙ sym k) (c.slice_known-3-1.given (t.result + a.place / 128)).fits (block-left a.signed a.room.now a.place p.2) }
+    record { fits = up _ _ (total_is a.signed a.room.now a.place t.result p.0 p.1 t.ensures ∙ sym k) (search rules) (block-left a.signed a.room.now a.place p.2) }
 
 pub bounds-room-block-2 : goal.bounds-room-block-2
 bounds-room-block-2 c =
