@@ -30,6 +30,7 @@ pub data In (x : ℕ) : List ℕ → Type 0 where
   there : {v : ℕ} {vs : List ℕ} → In x vs → In x (v ∷ vs)
 
 in_snoc : (x v : ℕ) (vs : List ℕ) → In x vs → In x (vs ++ (v ∷ []))
+in_snoc x v [] i = elim i [ ]
 in_snoc x v (y ∷ vs) (here e) = here e
 in_snoc x v (y ∷ vs) (there i) = there (in_snoc x v vs i)
 
@@ -40,6 +41,7 @@ in_last v (y ∷ vs) = there (in_last v vs)
 -- a sample with a key below k is counted below k
 in_below : (key : ℕ → ℕ) (x k : ℕ) (vs : List ℕ) → In x vs → key x < k → 0 < below key k vs
 unfolding below
+in_below key x k [] i h = elim i [ ]
 in_below key x k (v ∷ vs) (here e) h = up (one_if (ltb (key v) k)) (below key k vs) (one_below (key v) k (subst (λ (y : ℕ). key y < k) (sym e) h))
   where
     up : (a b : ℕ) → a ≡ 1 → 0 < a + b
@@ -52,6 +54,7 @@ in_below key x k (v ∷ vs) (there i) h = up (one_if (ltb (key v) k)) (below key
 -- one with a key from k on is not
 in_above : (key : ℕ → ℕ) (x k : ℕ) (vs : List ℕ) → In x vs → k ≤ key x → below key k vs < length vs
 unfolding below
+in_above key x k [] i h = elim i [ ]
 in_above key x k (v ∷ vs) (here e) h = up (one_if (ltb (key v) k)) (below key k vs) (none_below (key v) k (subst (λ (y : ℕ). k ≤ key y) (sym e) h)) (below_length key k vs)
   where
     up : (a b : ℕ) → a ≡ 0 → b ≤ length vs → a + b < suc (length vs)
