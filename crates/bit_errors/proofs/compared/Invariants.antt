@@ -1,4 +1,5 @@
 -- `bit_errors::compared` The loop's invariant: the tally is that of the bytes passed, and `from` is the place in the
+-- pattern where they end. Assumes nothing.
 use mathlib.Core.Path.{◌≡◌}
 use mathlib.Core.Logic.{◌⊎◌}
 use Prim.Native.Nat.{◌≤◌, ◌<◌, ◌-◌, ◌%◌}

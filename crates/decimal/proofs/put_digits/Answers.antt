@@ -8,12 +8,8 @@ use Rattle.decimal.specs.Decimal.{digit, decimal}
 use Rattle.decimal.specs.Writing.{over}
 use Rattle.decimal.proofs.Laws.{decimal_digit, decimal_more, one_more-digit, some_digit}
 use Rattle.decimal.proofs.Places.{over_none, over-front}
+use Rattle.decimal.proofs.put_digits.Invariants.{behind}
 use Rattle.decimal.proofs.put_digits.Goals as goal
-
--- The measure is the rest. Assumes nothing.
--- the digits of n behind those of a rest
-abbrev behind : ℕ → ℕ → List ℕ
-behind n rest = drop (length (decimal rest)) (decimal n)
 
 -- the last digit of the rest goes to those behind
 moved : (n rest : ℕ) → 10 ≤ rest → decimal n ≡ decimal rest ++ behind n rest → behind n (rest / 10) ≡ digit (rest % 10) ∷ behind n rest

@@ -1,15 +1,15 @@
 -- `decimal::put_digits` The loop's invariant: the number's digits are those of the rest and those already written behind the place.
+-- The measure is the rest. Assumes nothing.
 use mathlib.Core.Path.{◌≡◌}
 use mathlib.Core.List.{List, ◌++◌}
-use Prim.Native.Nat.{ℕ, ◌+◌, ◌-◌, ◌<◌}
+use Prim.Native.Nat.{ℕ, ◌+◌, ◌<◌}
 use lib.ListN.{length, drop}
-use Rattle.decimal.specs.Decimal.{digit, decimal}
+use Rattle.decimal.specs.Decimal.{decimal}
 use Rattle.decimal.specs.Writing.{over}
 use Rattle.decimal.proofs.put_digits.Given as goal
 
--- The measure is the rest. Assumes nothing.
 -- the digits of n behind those of a rest
-abbrev behind : ℕ → ℕ → List ℕ
+abbrev pub behind : ℕ → ℕ → List ℕ
 behind n rest = drop (length (decimal rest)) (decimal n)
 
 abbrev pub invariant-loop-rest : goal.invariant-loop-rest

@@ -10,12 +10,8 @@ use Rattle.bit_runs.specs.Tally.{none, after, Room}
 use Rattle.bit_runs.proofs.Digits.{bits_length, bits_split}
 use Rattle.word_runs.proofs.Windows.{bits_fair}
 use Rattle.bit_runs.proofs.Steps.{after-append, room_after}
+use Rattle.word_runs.proofs.longest_in_word.Invariants.{above}
 use Rattle.word_runs.proofs.longest_in_word.Goals as goal
-
--- Assumes nothing.
--- the bits above a place, counted
-abbrev above : (word below : ℕ) → Tally
-above word below = after (bits_of (64 - below) (word / 2 ^ below)) none
 
 -- one byte more
 next : (word below : ℕ) → 8 ≤ below → below ≤ 64 → after (bits_of 8 (word / 2 ^ (below - 8) % 256)) (above word below) ≡ above word (below - 8)

@@ -1,4 +1,4 @@
--- `word_runs::longest_in_word` The loop's invariant: the tally is that of the bits above `below`.
+-- `word_runs::longest_in_word` The loop's invariant: the tally is that of the bits above `below`. Assumes nothing.
 use mathlib.Core.Path.{◌≡◌}
 use Prim.Native.Nat.{ℕ, ◌≤◌, ◌-◌, ◌/◌, ◌%◌, ◌^◌}
 use Rattle.bit_runs.specs.declared.Tally.{Tally}
@@ -6,9 +6,8 @@ use Rattle.bit_runs.specs.Bits.{bits_of}
 use Rattle.bit_runs.specs.Tally.{none, after}
 use Rattle.word_runs.proofs.longest_in_word.Given as goal
 
--- Assumes nothing.
 -- the bits above a place, counted
-abbrev above : (word below : ℕ) → Tally
+abbrev pub above : (word below : ℕ) → Tally
 above word below = after (bits_of (64 - below) (word / 2 ^ below)) none
 
 abbrev pub invariant-loop-below : goal.invariant-loop-below
