@@ -1,3 +1,4 @@
+use Rattle.std.proofs.Common.{rules}
 use mathlib.Core.Path.{ap, ◌∙◌}
 use mir.Syntax.{w64}
 use mir.ValLaws.{to_z-of_z}
@@ -10,4 +11,4 @@ returns-then-copies-o c = simp c.if-copies-o.true
 
 pub returns : goal.returns
 returns c =
-    simp c.if-copies-o.false (c.left_time.ensures ∙ ap (λ (z : ℤ). left_time c.args.o.t4 c.args.o.format z) (to_z-of_z w64 c.args.o.reference (record { sfits = c.struct_told-1.given.1.1.1.1.0.1 })))
+    simp c.if-copies-o.false (c.left_time.ensures ∙ ap (λ (z : ℤ). left_time c.args.o.t4 c.args.o.format z) (to_z-of_z w64 c.args.o.reference (search rules)))

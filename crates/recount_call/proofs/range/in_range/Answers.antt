@@ -1,3 +1,4 @@
+use Rattle.std.proofs.Common.{rules}
 use mathlib.Core.Path.{ap, ◌∙◌}
 use mathlib.Core.Bool.{◌&&◌}
 use mir.Syntax.{w32, w64}
@@ -9,6 +10,6 @@ pub returns : goal.returns
 unfolding in_range
 returns c = λ i.
     c.time_fits.ensures i
-    && (c.reference_fits.ensures ∙ ap reference_within (to_z-of_z w64 c.args.o.reference (record { sfits = c.struct_told-1.given.1.1.1.1.0.1 }))) i
-    && (c.offset_fits.ensures ∙ ap offset_within (to_z-of_z w32 c.args.o.offset (record { sfits = c.struct_told-2-1.given.1.1.1.1.1.0.1 }))) i
+    && (c.reference_fits.ensures ∙ ap reference_within (to_z-of_z w64 c.args.o.reference (search rules))) i
+    && (c.offset_fits.ensures ∙ ap offset_within (to_z-of_z w32 c.args.o.offset (search rules))) i
     && c.scales_fit.ensures i
