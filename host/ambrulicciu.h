@@ -741,7 +741,7 @@ typedef struct {
 /* Makes a log of one that was cut short on the way: its records from byte 0 up to the first that is bad or incomplete, unchanged, and a new
  * trailer with these settings, `stop` + AMBRULICCIU_TRAILER bytes in all. A log that is accepted and begins with its first record is given
  * back as it is, with its own settings. Changes `answer` and as many bytes at the start of `bytes`; AMBRULICCIU_LOG bytes always do. Refuses
- * 9: more than AMBRULICCIU_LOG bytes; then 12: `bytes` is too short. Stack: 2 KB. */
+ * 9: more than AMBRULICCIU_LOG bytes; then 12: `bytes` is too short. */
 uint8_t ambrulicciu_log_trim(const uint8_t *log, size_t log_length, uint16_t copies, uint16_t threshold, uint64_t timeout, uint8_t *bytes,
                              size_t bytes_length, ambrulicciu_cut *answer);
 
