@@ -1,4 +1,5 @@
 use mathlib.Core.Path.{ap, ◌∙◌}
+use native.Mathlib.Omega.{arith}
 use mathlib.Core.Bool.{true, false}
 use Rattle.correlation.specs.Words.{words_by}
 use Rattle.host_own_slot.proofs.Laws.{free_as, more-as, unique_as}
@@ -15,4 +16,5 @@ returns-then-count-eq0 c =
     ∙ free_as c.args.held _ c.if-count-eq0.true
 
 pub returns : goal.returns
-returns c = more-as c.args.held _ _ _ c.if-count-eq0.false c.one_more.ensures.0 c.flag-corrected.ensures.0
+-- what the two calls promise is looked up in c: none of them is named
+returns c = more-as c.args.held _ _ _ c.if-count-eq0.false (omega arith) (omega arith)
