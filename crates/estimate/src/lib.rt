@@ -45,6 +45,7 @@ pub enum Reading {
 
 impl ErrorEstimate {
     // A scale above 63 is refused.
+    #[tactic(auto, using(crate::specs::Make::in_range_lem, crate::specs::Make::above_range))]
     pub fn new(synchronized: bool, ptp: bool, scale: u8, multiplier: u8) -> Made
         ensures { result ≡ made_of synchronized ptp scale multiplier }
     {

@@ -2,10 +2,10 @@
 --     asks             what plain parameters own, and what the callee requires, are had for nothing
 --     holds            a goal P ∗ Q, where Q is had for nothing: P is left
 --     twice            what is Copy is had twice
---     calls-gave       what i has is what the callee asks. Once it has returned r at v: the tokens are back as j, what says the last values ws is there, and what the callee ensures is the fact ψ r ws
+--     calls_gave       what i has is what the callee asks. Once it has returned r at v: the tokens are back as j, what says the last values ws is there, and what the callee ensures is the fact ψ r ws
 --     calls-plain      the same of a callee that asks nothing that is owned
 --     whiles, unless   the test of a `while`, and an `if` with no `else`: the rest of the part runs where the test held, or where it failed
---     big-lit          a constant that is too big for `lit`, as 4096 is
+--     big_lit          a constant that is too big for `lit`, as 4096 is
 --     most, more       a counter that is at most a number that fits, fits, and where it is below it, one more does
 -- Assumes `Logic`.
 use mathlib.Core.List.{List, [], ◌∷◌}

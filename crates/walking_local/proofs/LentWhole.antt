@@ -1,7 +1,7 @@
 -- A local array that is lent for one call as a `&mut [T; n]`, and comes back: two steps of a walk, as `Lent.antt` and `LentArray.antt` of crate walking
 -- have them for what a function is lent itself and for a local array that is lent as a slice.
 --     array_lies       the array's cell, with what its elements own, is the array in memory
---     array-cell       the array in memory is its cell, at the elements' machine values
+--     array_cell       the array in memory is its cell, at the elements' machine values
 --     whole_to, whole_back       before the call and after it
 -- They say nothing of a crate. Assumes `Logic`.
 use mathlib.Core.Path.{refl, subst}
