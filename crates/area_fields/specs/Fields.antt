@@ -1,14 +1,11 @@
 -- The values of types 5 and 7 (RFC 8972, sections 4.5 and 4.7), the most significant byte first. Assumes nothing.
-use Rattle.std.specs.Prelude.{cond, List, [], ◌∷◌, ℕ, ◌+◌, eqb, ltb, length}
-use Rattle.request_limits.specs.Refusals.{short_room, wrong_length}
+use Rattle.std.specs.Prelude.{cond, List, [], ◌∷◌, ℕ, ◌+◌, eqb, ltb, length, Result, Ok, Err}
+use Rattle.limits.specs.declared.Refusal.{Refusal}
+use Rattle.limits.specs.declared.Refusal.TheVariants as refusal
 use Rattle.big_endian.specs.Numbers.{number_at}
 use Rattle.big_endian.specs.Fields.{Field, byte, bytes4, bytes8, written}
 use Rattle.call_types.specs.declared.CounterPoint.{CounterPoint}
 use Rattle.area_fields.specs.declared.FollowUpItem.{FollowUpItem}
-use Rattle.area_fields.specs.declared.CountersRead.{CountersRead}
-use Rattle.area_fields.specs.declared.CountersRead.TheVariants as counters
-use Rattle.area_fields.specs.declared.FollowUpRead.{FollowUpRead}
-use Rattle.area_fields.specs.declared.FollowUpRead.TheVariants as follow
 
 -- Direct Measurement: S_TxC, R_RxC, R_TxC, four bytes each
 abbrev pub counters_at : List ℕ → ℕ → CounterPoint
@@ -18,23 +15,13 @@ counters_at bytes at = record { sender = record { 0 = number_at 2 bytes at }; re
 abbrev pub follow_up_at : List ℕ → ℕ → FollowUpItem
 follow_up_at bytes at = record { sequence = number_at 2 bytes at; timestamp = number_at 3 bytes (at + 4); mode = number_at 0 bytes (at + 12) }
 
--- the number of the answer on the counters
-abbrev pub counters_number : CountersRead → ℕ
-counters_number counters.WrongLength = wrong_length
-counters_number (counters.Read p) = 0
+-- a value of 12 bytes has the three counters; another length is refused
+unfoldable pub counters_of : List ℕ → Result CounterPoint Refusal
+counters_of value = cond (eqb (length value) 12) (Ok (counters_at value 0)) (Err refusal.WrongLength)
 
--- the number of the answer on a follow-up
-abbrev pub follow_up_number : FollowUpRead → ℕ
-follow_up_number follow.WrongLength = wrong_length
-follow_up_number (follow.Read f) = 0
-
--- a value of 12 bytes has the three counters; another length is refused with 11
-unfoldable pub counters_of : List ℕ → CountersRead
-counters_of value = cond (eqb (length value) 12) (counters.Read (counters_at value 0)) counters.WrongLength
-
--- a value of 16 bytes has the follow-up's fields; another length is refused with 11
-unfoldable pub follow_up_of : List ℕ → FollowUpRead
-follow_up_of value = cond (eqb (length value) 16) (follow.Read (follow_up_at value 0)) follow.WrongLength
+-- a value of 16 bytes has the follow-up's fields; another length is refused
+unfoldable pub follow_up_of : List ℕ → Result FollowUpItem Refusal
+follow_up_of value = cond (eqb (length value) 16) (Ok (follow_up_at value 0)) (Err refusal.WrongLength)
 
 -- what is written of three counters
 abbrev pub counters_table : CounterPoint → List Field
@@ -44,15 +31,15 @@ counters_table p = bytes4 0 p.sender.0 ∷ bytes4 4 p.received.0 ∷ bytes4 8 p.
 abbrev pub follow_up_table : FollowUpItem → List Field
 follow_up_table f = bytes4 0 f.sequence ∷ bytes8 4 f.timestamp ∷ byte 12 f.mode ∷ byte 13 0 ∷ byte 14 0 ∷ byte 15 0 ∷ []
 
--- what writing comes to: its number, and the lent bytes
+-- what writing comes to: its answer, and the lent bytes
 pub record Wrote : Type 0 where
-  pub number : ℕ
+  pub answer : Result (Unit {0}) Refusal
   pub bytes : List ℕ
 
--- of this number and these bytes
-abbrev pub wrote : ℕ → List ℕ → Wrote
-wrote n bytes = record { number = n; bytes = bytes }
+-- of this answer and these bytes
+abbrev pub wrote : Result (Unit {0}) Refusal → List ℕ → Wrote
+wrote a bytes = record { answer = a; bytes = bytes }
 
--- 12 when the lent bytes are fewer than needed; else the fields stand at their start, and the rest stays
+-- refused when the lent bytes are fewer than needed; else the fields stand at their start, and the rest stays
 unfoldable pub wrote_fields : (needed : ℕ) → List Field → List ℕ → Wrote
-wrote_fields needed fields bytes = cond (ltb (length bytes) needed) (wrote short_room bytes) (wrote 0 (written fields bytes))
+wrote_fields needed fields bytes = cond (ltb (length bytes) needed) (wrote (Err refusal.ShortRoom) bytes) (wrote (Ok tt) (written fields bytes))

@@ -1,9 +1,12 @@
 // The values of Direct Measurement and Follow-Up Telemetry: `decode_value` and `encode_value` of src/tlv/typed/direct_measurement.rs and
 // src/tlv/typed/follow_up_telemetry.rs.
+#![tactic(auto)]
+
 ghost use Rattle.std.specs.Prelude.{◌≡◌, ◌+◌, ◌≤◌, length};
 ghost use Rattle.area_fields.specs.Fields.{counters_at, follow_up_at, counters_of, follow_up_of, counters_table, follow_up_table, wrote, wrote_fields};
 
 use call_types::{CounterPoint, ReflectorRx, ReflectorTx, SenderTx};
+use limits::Refusal;
 
 // `FollowUpTelemetryTlv`: the reflector's sequence, its timestamp as it came, and the byte of its mode.
 #[derive(Clone, Copy)]
@@ -11,20 +14,6 @@ pub struct FollowUpItem {
     pub sequence: u32,
     pub timestamp: u64,
     pub mode: u8,
-}
-
-// Refusal 11, or the three counters.
-#[derive(Clone, Copy)]
-pub enum CountersRead {
-    WrongLength,
-    Read(CounterPoint),
-}
-
-// Refusal 11, or the follow-up.
-#[derive(Clone, Copy)]
-pub enum FollowUpRead {
-    WrongLength,
-    Read(FollowUpItem),
 }
 
 // The three counters that stand at a place.
@@ -51,32 +40,32 @@ pub fn follow_up_at(bytes: &[u8], at: usize) -> FollowUpItem
     }
 }
 
-// The value of an item of type 5.
-pub fn read_counters(value: &[u8]) -> CountersRead
+// The value of an item of type 5; another length than 12 is refused.
+pub fn read_counters(value: &[u8]) -> Result<CounterPoint, Refusal>
     ensures { result ≡ counters_of value.now }
 {
     if value.len() == 12 {
-        return CountersRead::Read(counters_at(value, 0));
+        return Ok(counters_at(value, 0));
     }
-    CountersRead::WrongLength
+    Err(Refusal::WrongLength)
 }
 
-// The value of an item of type 7.
-pub fn read_follow_up(value: &[u8]) -> FollowUpRead
+// The value of an item of type 7; another length than 16 is refused.
+pub fn read_follow_up(value: &[u8]) -> Result<FollowUpItem, Refusal>
     ensures { result ≡ follow_up_of value.now }
 {
     if value.len() == 16 {
-        return FollowUpRead::Read(follow_up_at(value, 0));
+        return Ok(follow_up_at(value, 0));
     }
-    FollowUpRead::WrongLength
+    Err(Refusal::WrongLength)
 }
 
-// The value of an item of type 5, at the start of the lent bytes.
-pub fn write_counters(bytes: &mut [u8], point: CounterPoint) -> u8
+// The value of an item of type 5, at the start of the lent bytes; refused where they are too few.
+pub fn write_counters(bytes: &mut [u8], point: CounterPoint) -> Result<(), Refusal>
     ensures { wrote result bytes.new ≡ wrote_fields 12 (counters_table point) bytes.old }
 {
     if bytes.len() < 12 {
-        return request_limits::SHORT_ROOM;
+        return Err(Refusal::ShortRoom);
     }
     let sender = point.sender.0;
     let received = point.received.0;
@@ -84,15 +73,15 @@ pub fn write_counters(bytes: &mut [u8], point: CounterPoint) -> u8
     big_endian::put_u32(bytes, 0, sender);
     big_endian::put_u32(bytes, 4, received);
     big_endian::put_u32(bytes, 8, transmitted);
-    0
+    Ok(())
 }
 
-// The value of an item of type 7, at the start of the lent bytes.
-pub fn write_follow_up(bytes: &mut [u8], item: FollowUpItem) -> u8
+// The value of an item of type 7, at the start of the lent bytes; refused where they are too few.
+pub fn write_follow_up(bytes: &mut [u8], item: FollowUpItem) -> Result<(), Refusal>
     ensures { wrote result bytes.new ≡ wrote_fields 16 (follow_up_table item) bytes.old }
 {
     if bytes.len() < 16 {
-        return request_limits::SHORT_ROOM;
+        return Err(Refusal::ShortRoom);
     }
     big_endian::put_u32(bytes, 0, item.sequence);
     big_endian::put_u64(bytes, 4, item.timestamp);
@@ -100,5 +89,5 @@ pub fn write_follow_up(bytes: &mut [u8], item: FollowUpItem) -> u8
     big_endian::put_u8(bytes, 13, 0);
     big_endian::put_u8(bytes, 14, 0);
     big_endian::put_u8(bytes, 15, 0);
-    0
+    Ok(())
 }

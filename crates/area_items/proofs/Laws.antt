@@ -1,4 +1,7 @@
 -- Types and their lengths, the item at a place, and reading step by step: what the proofs of the functions cite. Assumes nothing.
+use Rattle.std.specs.Prelude.{Result, Ok, Err}
+use Rattle.limits.specs.declared.Refusal.{Refusal}
+use Rattle.limits.specs.declared.Refusal.TheVariants as refusal
 use mathlib.Core.Path.{◌≡◌, refl, sym, ap, ◌∙◌}
 use mathlib.Core.Bool.{Bool, true, false, cond}
 use mathlib.Core.List.{List, []}
@@ -9,7 +12,7 @@ use lib.ListN.{length, drop, length-drop}
 use lib.Seq.{length-take-le}
 use borrow.Author.Tests.{lt-ltb, le-ltb, ltb-false, eq-eqb, ne_eqb}
 use Rattle.big_endian.specs.Numbers.{number_at}
-use Rattle.area_items.specs.Items.{Item, Reading, refused, items, before, judged, kind_at, length_at, end_at, item_at, fits, verdict_at, read_from, rest_of}
+use Rattle.area_items.specs.Items.{Reading, refused, items, before, judged, kind_at, length_at, end_at, item_at, fits, verdict_at, read_from, rest_of}
 use Rattle.area_items.specs.Rows.{word_of}
 
 -- ---- types and lengths
@@ -23,49 +26,36 @@ module _ (kind n : ℕ) where
   unfolding fits
   seven h k = rw (ne_eqb kind 5 h, eq-eqb kind 7 k)
 
-  pub another : (kind ≡ 5 → ⊥) → (kind ≡ 7 → ⊥) → true ≡ fits kind n
-  unfolding fits
-  another h k = rw (ne_eqb kind 5 h, ne_eqb kind 7 k)
-
 -- ---- the item at a place
 
 module _ (bytes : List ℕ) (at : ℕ) where
-  pub no_header : length bytes < at + 4 → 10 ≡ verdict_at bytes at
+  pub no_header : length bytes < at + 4 → Err refusal.PassesEnd ≡ verdict_at bytes at
   unfolding verdict_at
   no_header h = rw (lt-ltb (length bytes) (at + 4) h)
 
-  pub no_value : at + 4 ≤ length bytes → length bytes < end_at bytes at → 10 ≡ verdict_at bytes at
+  pub no_value : at + 4 ≤ length bytes → length bytes < end_at bytes at → Err refusal.PassesEnd ≡ verdict_at bytes at
   unfolding verdict_at
   no_value h k = rw (le-ltb (length bytes) (at + 4) h, lt-ltb (length bytes) (end_at bytes at) k)
 
-  pub right_length : at + 4 ≤ length bytes → end_at bytes at ≤ length bytes → fits (kind_at bytes at) (length_at bytes at) ≡ true → 0 ≡ verdict_at bytes at
+  pub right_length : at + 4 ≤ length bytes → end_at bytes at ≤ length bytes → fits (kind_at bytes at) (length_at bytes at) ≡ true → Ok tt ≡ verdict_at bytes at
   unfolding verdict_at
   right_length h k e = rw (le-ltb (length bytes) (at + 4) h, le-ltb (length bytes) (end_at bytes at) k, e)
 
-  pub wrong-length : at + 4 ≤ length bytes → end_at bytes at ≤ length bytes → fits (kind_at bytes at) (length_at bytes at) ≡ false → 11 ≡ verdict_at bytes at
+  pub wrong-length : at + 4 ≤ length bytes → end_at bytes at ≤ length bytes → fits (kind_at bytes at) (length_at bytes at) ≡ false → Err refusal.WrongLength ≡ verdict_at bytes at
   unfolding verdict_at
   wrong-length h k e = rw (le-ltb (length bytes) (at + 4) h, le-ltb (length bytes) (end_at bytes at) k, e)
 
   -- a good item lies within the bytes, and has a length of its type
-  pub good : verdict_at bytes at ≡ 0 → (at + 4 ≤ length bytes) × (end_at bytes at ≤ length bytes) × (fits (kind_at bytes at) (length_at bytes at) ≡ true)
+  pub good : verdict_at bytes at ≡ Ok tt → (at + 4 ≤ length bytes) × (end_at bytes at ≤ length bytes) × (fits (kind_at bytes at) (length_at bytes at) ≡ true)
   unfolding verdict_at
   good = by (ltb (length bytes) (at + 4)) (ltb (length bytes) (end_at bytes at)) (fits (kind_at bytes at) (length_at bytes at)) refl refl refl
     where
       by : (a b d : Bool) → ltb (length bytes) (at + 4) ≡ a → ltb (length bytes) (end_at bytes at) ≡ b → fits (kind_at bytes at) (length_at bytes at) ≡ d
-          → ◌≡◌ {A = ℕ} (cond a 10 (cond b 10 (cond d 0 11))) 0 → (at + 4 ≤ length bytes) × (end_at bytes at ≤ length bytes) × (fits (kind_at bytes at) (length_at bytes at) ≡ true)
-      by true b d p q r e = absurd (no e)
-        where
-          no : ◌≡◌ {A = ℕ} 10 0 → ⊥
-          no e = omega arith
-      by false true d p q r e = absurd (no e)
-        where
-          no : ◌≡◌ {A = ℕ} 10 0 → ⊥
-          no e = omega arith
+          → ◌≡◌ {A = Result (Unit {0}) Refusal} (cond a (Err refusal.PassesEnd) (cond b (Err refusal.PassesEnd) (cond d (Ok tt) (Err refusal.WrongLength)))) (Ok tt) → (at + 4 ≤ length bytes) × (end_at bytes at ≤ length bytes) × (fits (kind_at bytes at) (length_at bytes at) ≡ true)
+      by true b d p q r e = absurd (cc)
+      by false true d p q r e = absurd (cc)
       by false false true p q r e = (ltb-false (length bytes) (at + 4) p, ltb-false (length bytes) (end_at bytes at) q, r)
-      by false false false p q r e = absurd (no e)
-        where
-          no : ◌≡◌ {A = ℕ} 11 0 → ⊥
-          no e = omega arith
+      by false false false p q r e = absurd (cc)
 
   -- its value is as long as its header says
   pub value-length : end_at bytes at ≤ length bytes → length (item_at bytes at).value ≡ length_at bytes at
@@ -86,10 +76,6 @@ enough (suc n) (suc m) bytes at h k =
     ap (λ (r : Reading). cond (ltb at (length bytes)) (judged (verdict_at bytes at) (item_at bytes at) r) (items []))
     (enough n m bytes (end_at bytes at) (omega arith) (omega arith))
 
-pub judged-bad : (v : ℕ) (i : Item) (r : Reading) → (v ≡ 0 → ⊥) → judged v i r ≡ refused v
-judged-bad zero i r h = absurd (h refl)
-judged-bad (suc v) i r h = refl
-
 module _ (bytes : List ℕ) (at : ℕ) where
   pub rest_end : length bytes ≤ at → rest_of bytes at ≡ items []
   unfolding rest_of read_from
@@ -102,11 +88,8 @@ module _ (bytes : List ℕ) (at : ℕ) where
       ∙ ap (λ (b : Bool). cond b (judged (verdict_at bytes at) (item_at bytes at) (read_from (length bytes - at) bytes (end_at bytes at))) (items [])) (lt-ltb at (length bytes) h)
       ∙ ap (judged (verdict_at bytes at) (item_at bytes at)) (enough (length bytes - at) (length bytes - end_at bytes at) bytes (end_at bytes at) (omega arith) (omega arith))
 
-  pub rest_bad : at < length bytes → (v : ℕ) → v ≡ verdict_at bytes at → (v ≡ 0 → ⊥) → rest_of bytes at ≡ refused v
-  rest_bad h v e n =
-      rest_step h
-      ∙ ap (λ (w : ℕ). judged w (item_at bytes at) (rest_of bytes (end_at bytes at))) (sym e)
-      ∙ judged-bad v (item_at bytes at) (rest_of bytes (end_at bytes at)) n
+  pub rest_bad : at < length bytes → (e : Refusal) → Err e ≡ verdict_at bytes at → rest_of bytes at ≡ refused e
+  rest_bad h e is = rest_step h ∙ ap (λ (w : Result (Unit {0}) Refusal). judged w (item_at bytes at) (rest_of bytes (end_at bytes at))) (sym is)
 
-  pub rest_good : at < length bytes → (v : ℕ) → v ≡ verdict_at bytes at → v ≡ 0 → rest_of bytes at ≡ before (item_at bytes at) (rest_of bytes (end_at bytes at))
-  rest_good h v e z = rest_step h ∙ ap (λ (w : ℕ). judged w (item_at bytes at) (rest_of bytes (end_at bytes at))) (sym e ∙ z)
+  pub rest_good : at < length bytes → Ok tt ≡ verdict_at bytes at → rest_of bytes at ≡ before (item_at bytes at) (rest_of bytes (end_at bytes at))
+  rest_good h is = rest_step h ∙ ap (λ (w : Result (Unit {0}) Refusal). judged w (item_at bytes at) (rest_of bytes (end_at bytes at))) (sym is)

@@ -1,4 +1,6 @@
 -- The bytes of an area are its items in a row, and items in a row read back equal. Assumes nothing.
+use Rattle.std.specs.Prelude.{Result, Ok, Err}
+use Rattle.limits.specs.declared.Refusal.{Refusal}
 use mathlib.Core.Path.{◌≡◌, refl, sym, ap, ◌∙◌}
 use mathlib.Core.Bool.{Bool, true, false, cond}
 use mathlib.Core.List.{List, [], ◌∷◌, ◌++◌, append_assoc}
@@ -53,16 +55,16 @@ row_from zero bytes at [] small h e = sym (drop_of_length-le bytes {i = at} (ome
 row_from zero bytes at (i ∷ is) small h e = let z : ◌≡◌ {A = ℕ} 0 1 = cc in absurd (omega arith)
 row_from (suc n) bytes at is small h e = by (ltb at (length bytes)) (verdict_at bytes at) (read_from n bytes (end_at bytes at)) refl refl refl is (λ js l s. row_from n bytes (end_at bytes at) js small l s) e
   where
-    by : (a : Bool) (v : ℕ) (r : Reading) → ltb at (length bytes) ≡ a → verdict_at bytes at ≡ v → read_from n bytes (end_at bytes at) ≡ r
+    by : (a : Bool) (v : Result (Unit {0}) Refusal) (r : Reading) → ltb at (length bytes) ≡ a → verdict_at bytes at ≡ v → read_from n bytes (end_at bytes at) ≡ r
         → (is : List Item)
         → ((js : List Item) → length bytes - end_at bytes at ≤ n → read_from n bytes (end_at bytes at) ≡ items js → in_a_row js ≡ drop (end_at bytes at) bytes)
         → cond a (judged v (item_at bytes at) r) (items []) ≡ items is → in_a_row is ≡ drop at bytes
     by false v r p q s [] again e = sym (drop_of_length-le bytes {i = at} (ltb-false at (length bytes) p))
     by false v r p q s (i ∷ is) again e = let z : ◌≡◌ {A = ℕ} 0 1 = cc in absurd (omega arith)
-    by true (suc v) r p q s is again e = let z : ◌≡◌ {A = ℕ} 0 1 = cc in absurd (omega arith)
-    by true zero (refused m) p q s is again e = let z : ◌≡◌ {A = ℕ} 0 1 = cc in absurd (omega arith)
-    by true zero (items js) p q s [] again e = let z : ◌≡◌ {A = ℕ} 0 1 = cc in absurd (omega arith)
-    by true zero (items js) p q s (i ∷ is) again e =
+    by true (Err v) r p q s is again e = let z : ◌≡◌ {A = ℕ} 0 1 = cc in absurd (omega arith)
+    by true (Ok _) (refused m) p q s is again e = let z : ◌≡◌ {A = ℕ} 0 1 = cc in absurd (omega arith)
+    by true (Ok _) (items js) p q s [] again e = let z : ◌≡◌ {A = ℕ} 0 1 = cc in absurd (omega arith)
+    by true (Ok _) (items js) p q s (i ∷ is) again e =
         let g = good bytes at q in
         let first : i ≡ item_at bytes at = cc in
         let later : is ≡ js = cc in
@@ -119,7 +121,7 @@ module _ (pre : List ℕ) (i : Item) (rest : List ℕ) (f : Fits i) where
   place_end : end_at whole (length pre) ≡ length pre + 4 + length i.value
   place_end = ap (λ (n : ℕ). length pre + 4 + n) place-length
 
-  place-good : 0 ≡ verdict_at whole (length pre)
+  place-good : Ok tt ≡ verdict_at whole (length pre)
   place-good =
       right_length whole (length pre) (omega (arith, whole_length)) (omega (arith, whole_length, place_end))
       (ap (λ (k : ℕ). fits k (length_at whole (length pre))) place_kind ∙ ap (fits i.kind) place-length ∙ f.right)
@@ -129,7 +131,7 @@ module _ (pre : List ℕ) (i : Item) (rest : List ℕ) (f : Fits i) where
 
   pub row_step : rest_of whole (length pre) ≡ before (record { start = length pre; flags = i.flags; kind = i.kind; value = i.value }) (rest_of whole (length pre + 4 + length i.value))
   row_step =
-      rest_good whole (length pre) (omega (arith, whole_length)) 0 place-good refl
+      rest_good whole (length pre) (omega (arith, whole_length)) place-good
       ∙ ap (λ (j : Item). before j (rest_of whole (end_at whole (length pre)))) place_item
       ∙ ap (λ (n : ℕ). before (record { start = length pre; flags = i.flags; kind = i.kind; value = i.value }) (rest_of whole n)) place_end
 

@@ -1,7 +1,8 @@
 -- The extension area of RFC 8972, section 4: items one after the other, each a flag byte, a type byte, a 16-bit length, then the value.
 -- Which byte strings are areas, with their items and where each starts; and of any other string which refusal it is. Assumes nothing.
-use Rattle.std.specs.Prelude.{Bool, true, cond, List, [], ◌∷◌, ℕ, zero, suc, ◌+◌, ◌-◌, eqb, ltb, length, get_or, take, drop}
-use Rattle.request_limits.specs.Refusals.{passes_end, wrong_length}
+use Rattle.std.specs.Prelude.{Bool, true, cond, List, [], ◌∷◌, ℕ, zero, suc, ◌+◌, ◌-◌, eqb, ltb, length, get_or, take, drop, Result, Ok, Err}
+use Rattle.limits.specs.declared.Refusal.{Refusal}
+use Rattle.limits.specs.declared.Refusal.TheVariants as refusal
 use Rattle.big_endian.specs.Numbers.{number_at}
 
 -- an item: where it starts in the area, its flag byte, its type, and the bytes of its value
@@ -31,27 +32,27 @@ item_at bytes at = record { start = at; flags = get_or bytes at 0; kind = kind_a
 unfoldable pub fits : (kind n : ℕ) → Bool
 fits kind n = cond (eqb kind 5) (eqb n 12) (cond (eqb kind 7) (eqb n 16) true)
 
--- 10 when the header or the value passes the end; then 11 for type 5 or 7 with another length; else 0
-unfoldable pub verdict_at : List ℕ → ℕ → ℕ
+-- refused when the header or the value passes the end; then for type 5 or 7 with another length
+unfoldable pub verdict_at : List ℕ → ℕ → Result (Unit {0}) Refusal
 verdict_at bytes at =
-    cond (ltb (length bytes) (at + 4)) passes_end
-    (cond (ltb (length bytes) (end_at bytes at)) passes_end
-    (cond (fits (kind_at bytes at) (length_at bytes at)) 0 wrong_length))
+    cond (ltb (length bytes) (at + 4)) (Err refusal.PassesEnd)
+    (cond (ltb (length bytes) (end_at bytes at)) (Err refusal.PassesEnd)
+    (cond (fits (kind_at bytes at) (length_at bytes at)) (Ok tt) (Err refusal.WrongLength)))
 
--- what reading comes to: the number of the first bad item, and nothing else; or all items
+-- what reading comes to: the refusal of the first bad item, and nothing else; or all items
 pub data Reading : Type 0 where
-  refused : ℕ → Reading
+  refused : Refusal → Reading
   items : List Item → Reading
 
 -- an item before those that were read
 abbrev pub before : Item → Reading → Reading
-before i (refused n) = refused n
+before i (refused r) = refused r
 before i (items is) = items (i ∷ is)
 
 -- an item by its verdict: a bad one decides
-abbrev pub judged : (verdict : ℕ) → Item → Reading → Reading
-judged zero i r = before i r
-judged (suc n) i r = refused (suc n)
+abbrev pub judged : (verdict : Result (Unit {0}) Refusal) → Item → Reading → Reading
+judged (Ok _) i r = before i r
+judged (Err e) i r = refused e
 
 -- the items from a place on, at most so many of them
 unfoldable pub read_from : (most : ℕ) → List ℕ → (at : ℕ) → Reading

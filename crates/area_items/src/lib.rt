@@ -1,39 +1,42 @@
 // The extension area of a packet (RFC 8972, section 4), `RawTlv` of src/tlv/core.rs: what stands at a place of it. specs/Items.antt says
 // which byte strings are areas, specs/Rows.antt what is written of items.
+#![tactic(auto)]
+
 ghost use Rattle.std.specs.Prelude.{◌≡◌, ◌+◌, ◌≤◌, length};
 ghost use Rattle.area_items.specs.Items.{fits, verdict_at, end_at, item_at};
 ghost use Rattle.area_items.specs.Rows.{word_of};
 
+use limits::Refusal;
+
 // Whether a length is one that the type has.
+#[tactic(auto, unfolding(crate::specs::Items::fits))]
 pub fn length_fits(kind: u8, length: usize) -> bool
     ensures { result ≡ fits kind length }
 {
-    if kind == 5 {
-        return length == 12;
+    match kind {
+        5 => length == 12,
+        7 => length == 16,
+        _ => true,
     }
-    if kind == 7 {
-        return length == 16;
-    }
-    true
 }
 
-// The refusal that the item at a place brings, or 0.
-pub fn verdict(bytes: &[u8], at: usize) -> u8
+// Whether the item at a place is good: the refusal that a bad one brings.
+pub fn verdict(bytes: &[u8], at: usize) -> Result<(), Refusal>
     requires { at ≤ length bytes.now }
     ensures { result ≡ verdict_at bytes.now at }
 {
     let left = bytes.len() - at;
     if left < 4 {
-        return request_limits::PASSES_END;
+        return Err(Refusal::PassesEnd);
     }
     let size = big_endian::u16_at(bytes, at + 2) as usize;
     if left - 4 < size {
-        return request_limits::PASSES_END;
+        return Err(Refusal::PassesEnd);
     }
     if length_fits(bytes[at + 1], size) {
-        return 0;
+        return Ok(());
     }
-    request_limits::WRONG_LENGTH
+    Err(Refusal::WrongLength)
 }
 
 // Where a good item ends.

@@ -1,5 +1,8 @@
 -- One item more, and the walk over all: what the proofs of the functions cite. Assumes nothing.
-use mathlib.Core.Path.{◌≡◌, refl, sym, ap, ◌∙◌, subst}
+use Rattle.std.specs.Prelude.{Option, Some, None, Ok, Err}
+use Rattle.limits.specs.declared.Refusal.{Refusal}
+use Rattle.area_observation.specs.declared.Sighting.{Sighting}
+use mathlib.Core.Path.{◌≡◌, refl, sym, ap, ◌∙◌}
 use mathlib.Core.Bool.{Bool, true, false, ◌||◌, ◌&&◌, not, cond}
 use mathlib.Core.List.{List, [], ◌∷◌}
 use Prim.Native.Nat.{ℕ, zero, suc, ◌+◌, ◌/◌, ◌%◌, ◌≤◌, ◌<◌}
@@ -8,21 +11,14 @@ use lib.Dec.{eqb}
 use lib.ListN.{length, get_or}
 use borrow.Author.Tests.{eq-eqb, ne_eqb, eqb-true}
 use Rattle.call_types.specs.declared.CounterPoint.{CounterPoint}
-use Rattle.call_types.specs.declared.Counters.{Counters}
-use Rattle.call_types.specs.declared.Counters.TheVariants as counters
 use Rattle.area_items.specs.Items.{Item, Reading, refused, items, before, kind_at, length_at, end_at, item_at, verdict_at, rest_of, area}
 use Rattle.area_items.proofs.Laws.{good, rest_end, rest_bad, rest_good, five, seven}
 use Rattle.area_fields.specs.declared.FollowUpItem.{FollowUpItem}
 use Rattle.area_fields.specs.Fields.{counters_at, follow_up_at}
-use Rattle.area_observation.specs.declared.Sighted.{Sighted}
-use Rattle.area_observation.specs.declared.Sighted.TheVariants as sighted
 use Rattle.area_observation.specs.declared.Told.{Told}
-use Rattle.area_observation.specs.declared.Telling.TheVariants as telling
 use Rattle.area_observation.specs.declared.Found.{Found}
-use Rattle.area_observation.specs.declared.Walk.{Walk}
-use Rattle.area_observation.specs.declared.Walk.TheVariants as walk
 use Rattle.area_observation.specs.Told.{flagged, failed, usable, first_of, unknown_mode, counters_from, sighted_from, nothing, told_by, told_of, told}
-use Rattle.area_observation.specs.Walk.{chosen_of, noted_of, malformed, pick, onward, fresh, walked, Inside, Safe, SafeWalk}
+use Rattle.area_observation.specs.Walk.{chosen_of, noted_of, malformed, pick, onward, fresh, walked, Inside, Safe}
 
 -- ---- small parts
 
@@ -45,25 +41,25 @@ unfolding noted_of
 noted-said f flags kind place a b e g = λ i. record { failed = f.failed || eqb (flags / 32 % 2) 1; stopped = f.stopped || eqb (flags / 64 % 2) 1; counters = e i; follow = g i }
 
 module _ (bytes : List ℕ) (at : ℕ) where
-  pub no_counters : at ≡ 0 → counters.Absent ≡ counters_from bytes at
+  pub no_counters : at ≡ 0 → None ≡ counters_from bytes at
   unfolding counters_from
   no_counters h = rw (eq-eqb at 0 h)
 
-  pub some_counters : (p : CounterPoint) → (at ≡ 0 → ⊥) → p ≡ counters_at bytes at → counters.Point p ≡ counters_from bytes at
+  pub some_counters : (p : CounterPoint) → (at ≡ 0 → ⊥) → p ≡ counters_at bytes at → Some p ≡ counters_from bytes at
   unfolding counters_from
-  some_counters p h e = rw (ne_eqb at 0 h) (ap counters.Point e)
+  some_counters p h e = rw (ne_eqb at 0 h) (ap Some e)
 
-  pub no_follow_up : at ≡ 0 → sighted.Absent ≡ sighted_from bytes at
+  pub no_follow_up : at ≡ 0 → None ≡ sighted_from bytes at
   unfolding sighted_from
   no_follow_up h = rw (eq-eqb at 0 h)
 
   pub some_follow_up : (f : FollowUpItem) (u : Bool) → (at ≡ 0 → ⊥) → f ≡ follow_up_at bytes at → u ≡ unknown_mode f.mode
-      → sighted.FollowUp (record { sequence = f.sequence; timestamp = f.timestamp; unknown = u }) ≡ sighted_from bytes at
+      → Some (record { sequence = f.sequence; timestamp = f.timestamp; unknown = u }) ≡ sighted_from bytes at
   unfolding sighted_from
   some_follow_up f u h e k =
       rw (ne_eqb at 0 h)
-      (ap (λ (b : Bool). sighted.FollowUp (record { sequence = f.sequence; timestamp = f.timestamp; unknown = b })) k
-      ∙ ap (λ (g : FollowUpItem). sighted.FollowUp (record { sequence = g.sequence; timestamp = g.timestamp; unknown = unknown_mode g.mode })) e)
+      (ap (λ (b : Bool). Some (record { sequence = f.sequence; timestamp = f.timestamp; unknown = b })) k
+      ∙ ap (λ (g : FollowUpItem). Some (record { sequence = g.sequence; timestamp = g.timestamp; unknown = unknown_mode g.mode })) e)
 
 -- ---- one item more
 
@@ -124,23 +120,23 @@ unfolding area
 walk_from bytes = refl
 
 walk_one : (f : Found) (i : Item) (r : Reading) → walked f (before i r) ≡ walked (noted_of f i.flags i.kind (i.start + 4)) r
-walk_one f i (refused n) = refl
-walk_one f i (items is) = ap walk.Over (onward_one f i is)
+walk_one f i (refused e) = refl
+walk_one f i (items is) = ap Ok (onward_one f i is)
 
-module _ (bytes : List ℕ) (at v : ℕ) (f : Found) (so_far : walked fresh (area bytes) ≡ walked f (rest_of bytes at)) (h : at < length bytes) (e : v ≡ verdict_at bytes at) where
-  pub walk-bad : (v ≡ 0 → ⊥) → walk.Refused v ≡ walked fresh (area bytes)
-  walk-bad n = sym (so_far ∙ ap (walked f) (rest_bad bytes at h v e n))
+module _ (bytes : List ℕ) (at : ℕ) (f : Found) (so_far : walked fresh (area bytes) ≡ walked f (rest_of bytes at)) (h : at < length bytes) where
+  pub walk-bad : (e : Refusal) → Err e ≡ verdict_at bytes at → Err e ≡ walked fresh (area bytes)
+  walk-bad e is = sym (so_far ∙ ap (walked f) (rest_bad bytes at h e is))
 
-  pub walk_more : v ≡ 0 → (g : Found) (n : ℕ) → g ≡ noted_of f (get_or bytes at 0) (kind_at bytes at) (at + 4) → n ≡ end_at bytes at → walked fresh (area bytes) ≡ walked g (rest_of bytes n)
-  walk_more z g n is end =
+  pub walk_more : Ok tt ≡ verdict_at bytes at → (g : Found) (n : ℕ) → g ≡ noted_of f (get_or bytes at 0) (kind_at bytes at) (at + 4) → n ≡ end_at bytes at → walked fresh (area bytes) ≡ walked g (rest_of bytes n)
+  walk_more right g n is end =
       so_far
-      ∙ ap (walked f) (rest_good bytes at h v e z)
+      ∙ ap (walked f) (rest_good bytes at h right)
       ∙ walk_one f (item_at bytes at) (rest_of bytes (end_at bytes at))
       ∙ ap (λ (x : Found). walked x (rest_of bytes (end_at bytes at))) (sym is)
       ∙ ap (λ (m : ℕ). walked g (rest_of bytes m)) (sym end)
 
-pub walk_all : (bytes : List ℕ) (at : ℕ) (f : Found) → walked fresh (area bytes) ≡ walked f (rest_of bytes at) → length bytes ≤ at → walk.Over f ≡ walked fresh (area bytes)
-walk_all bytes at f so_far h = sym (so_far ∙ ap (walked f) (rest_end bytes at h) ∙ ap walk.Over (onward-none f))
+pub walk_all : (bytes : List ℕ) (at : ℕ) (f : Found) → walked fresh (area bytes) ≡ walked f (rest_of bytes at) → length bytes ≤ at → Ok f ≡ walked fresh (area bytes)
+walk_all bytes at f so_far h = sym (so_far ∙ ap (walked f) (rest_end bytes at h) ∙ ap Ok (onward-none f))
 
 -- ---- what was found lies within the bytes
 
@@ -153,7 +149,7 @@ second : (a b : Bool) → a && b ≡ true → b ≡ true
 second true b e = e
 second false b e = let z : ◌≡◌ {A = ℕ} 0 1 = cc in absurd (omega arith)
 
-module _ (bytes : List ℕ) (at : ℕ) (right : verdict_at bytes at ≡ 0) where
+module _ (bytes : List ℕ) (at : ℕ) (right : verdict_at bytes at ≡ Ok tt) where
   five_inside : eqb (kind_at bytes at) 5 ≡ true → at + 4 + 12 ≤ length bytes
   five_inside e =
       let g = good bytes at right in
@@ -178,37 +174,34 @@ module _ (bytes : List ℕ) (at : ℕ) (right : verdict_at bytes at ≡ 0) where
         rw d (inside_chosen 16 bytes f.follow (not passed && eqb (kind_at bytes at) 7) (at + 4) ok.1 (λ t. seven_inside (second (not passed) (eqb (kind_at bytes at) 7) t))),
       )
 
-pub safe_over : (bytes : List ℕ) (a : Walk) (f : Found) → a ≡ walk.Over f → SafeWalk bytes a → Safe bytes f
-safe_over bytes a f e s = subst (SafeWalk bytes) e s
-
 -- ---- the answer
 
-module _ (bytes : List ℕ) (a : Walk) (is : a ≡ walked fresh (area bytes)) where
-  pub told-bad : (n : ℕ) → a ≡ walk.Refused n → telling.Refused n ≡ told bytes
+module _ (bytes : List ℕ) where
+  pub told-bad : (e : Refusal) → Err e ≡ walked fresh (area bytes) → Err e ≡ told bytes
   unfolding told
-  told-bad n e = by (area bytes) (sym e ∙ is)
+  told-bad e is = by (area bytes) is
     where
-      by : (r : Reading) → walk.Refused n ≡ walked fresh r → telling.Refused n ≡ told_of bytes r
-      by (refused m) e = cc
-      by (items is) e = let z : ◌≡◌ {A = ℕ} 0 1 = cc in absurd (omega arith)
+      by : (r : Reading) → Err e ≡ walked fresh r → Err e ≡ told_of bytes r
+      by (refused d) h = cc
+      by (items is) h = absurd (cc)
 
-  over_is : (f : Found) → a ≡ walk.Over f → (t : Told) → ((is : List Item) → f ≡ onward fresh is → t ≡ told_by bytes is) → telling.Told t ≡ told bytes
+  over_is : (f : Found) → Ok f ≡ walked fresh (area bytes) → (t : Told) → ((is : List Item) → f ≡ onward fresh is → t ≡ told_by bytes is) → Ok t ≡ told bytes
   unfolding told
-  over_is f e t each = by (area bytes) (sym e ∙ is)
+  over_is f e t each = by (area bytes) e
     where
-      by : (r : Reading) → walk.Over f ≡ walked fresh r → telling.Told t ≡ told_of bytes r
-      by (refused m) e = let z : ◌≡◌ {A = ℕ} 0 1 = cc in absurd (omega arith)
-      by (items is) e = ap telling.Told (each is (cc))
+      by : (r : Reading) → Ok f ≡ walked fresh r → Ok t ≡ told_of bytes r
+      by (refused d) h = absurd (cc)
+      by (items is) h = ap Ok (each is (cc))
 
-  pub told-nothing : (f : Found) → a ≡ walk.Over f → f.failed ≡ true → telling.Told nothing ≡ told bytes
+  pub told-nothing : (f : Found) → Ok f ≡ walked fresh (area bytes) → f.failed ≡ true → Ok nothing ≡ told bytes
   unfolding told_by
   told-nothing f e h = over_is f e nothing each
     where
       each : (is : List Item) → f ≡ onward fresh is → nothing ≡ told_by bytes is
       each is o = let b : failed is ≡ true = sym (ap (λ (x : Found). x.failed) o) ∙ h in rw b
 
-  pub told_some : (f : Found) (c : Counters) (s : Sighted) → a ≡ walk.Over f → f.failed ≡ false → c ≡ counters_from bytes f.counters → s ≡ sighted_from bytes f.follow
-      → telling.Told (record { counters = c; follow = s }) ≡ told bytes
+  pub told_some : (f : Found) (c : Option CounterPoint) (s : Option Sighting) → Ok f ≡ walked fresh (area bytes) → f.failed ≡ false → c ≡ counters_from bytes f.counters → s ≡ sighted_from bytes f.follow
+      → Ok (record { counters = c; follow = s }) ≡ told bytes
   unfolding told_by
   told_some f c s e h p q = over_is f e (record { counters = c; follow = s }) each
     where

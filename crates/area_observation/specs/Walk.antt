@@ -1,10 +1,9 @@
 -- One walk over the items that finds what is told. Assumes nothing.
-use Rattle.std.specs.Prelude.{◌≡◌, Bool, false, ◌||◌, ◌&&◌, not, cond, List, [], ◌∷◌, ℕ, zero, suc, ◌+◌, ◌/◌, ◌%◌, ◌≤◌, eqb, length}
+use Rattle.std.specs.Prelude.{◌≡◌, Bool, false, ◌||◌, ◌&&◌, not, cond, List, [], ◌∷◌, ℕ, zero, suc, ◌+◌, ◌/◌, ◌%◌, ◌≤◌, eqb, length, Result, Ok, Err}
+use Rattle.limits.specs.declared.Refusal.{Refusal}
 use Rattle.area_items.specs.Items.{Item, Reading, refused, items}
 use Rattle.area_observation.specs.Told.{flagged, failed, usable, first_of}
 use Rattle.area_observation.specs.declared.Found.{Found}
-use Rattle.area_observation.specs.declared.Walk.{Walk}
-use Rattle.area_observation.specs.declared.Walk.TheVariants as walk
 
 -- the first place stays; a new one is taken where the item counts
 abbrev pub chosen_of : (first : ℕ) → (taken : Bool) → (place : ℕ) → ℕ
@@ -47,9 +46,9 @@ abbrev pub fresh : Found
 fresh = record { failed = false; stopped = false; counters = 0; follow = 0 }
 
 -- a reading, walked from what is known
-abbrev pub walked : Found → Reading → Walk
-walked f (refused n) = walk.Refused n
-walked f (items is) = walk.Over (onward f is)
+abbrev pub walked : Found → Reading → Result Found Refusal
+walked f (refused e) = Err e
+walked f (items is) = Ok (onward f is)
 
 -- a place that is not 0 has so many bytes behind it
 abbrev pub Inside : (n : ℕ) → List ℕ → ℕ → Type 0
@@ -60,6 +59,6 @@ abbrev pub Safe : List ℕ → Found → Type 0
 Safe bytes f = Inside 12 bytes f.counters × Inside 16 bytes f.follow
 
 -- the same of a walk; one that was refused has found nothing
-abbrev pub SafeWalk : List ℕ → Walk → Type 0
-SafeWalk bytes (walk.Refused n) = Unit {0}
-SafeWalk bytes (walk.Over f) = Safe bytes f
+abbrev pub SafeWalk : List ℕ → Result Found Refusal → Type 0
+SafeWalk bytes (Err e) = Unit {0}
+SafeWalk bytes (Ok f) = Safe bytes f

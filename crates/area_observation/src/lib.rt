@@ -1,11 +1,14 @@
 // What a reply's extension area tells `observe`: `direct_measurement` and `follow_up` of `TlvTelemetry` (src/sender/telemetry.rs), by its
 // rule "U skips, M stops the remainder, and I blocks values", in one walk over the lent bytes.
+#![tactic(auto)]
+
 ghost use Rattle.std.specs.Prelude.{◌≡◌, ◌+◌, ◌≤◌, length};
 ghost use Rattle.area_items.specs.Items.{area};
 ghost use Rattle.area_observation.specs.Told.{unknown_mode, counters_from, sighted_from, told};
 ghost use Rattle.area_observation.specs.Walk.{chosen_of, noted_of, fresh, walked, Inside, SafeWalk};
 
-use call_types::Counters;
+use call_types::CounterPoint;
+use limits::Refusal;
 
 // A follow-up as `observe` is told it: the reflector's sequence, the timestamp as it came, and whether its mode is unknown.
 #[derive(Clone, Copy)]
@@ -15,25 +18,11 @@ pub struct Sighting {
     pub unknown: bool,
 }
 
-// The follow-up of a reply, or none.
-#[derive(Clone, Copy)]
-pub enum Sighted {
-    Absent,
-    FollowUp(Sighting),
-}
-
 // What is told: the counters and the follow-up.
 #[derive(Clone, Copy)]
 pub struct Told {
-    pub counters: Counters,
-    pub follow: Sighted,
-}
-
-// The refusal of the first bad item, or what is told.
-#[derive(Clone, Copy)]
-pub enum Telling {
-    Refused(u8),
-    Told(Told),
+    pub counters: Option<CounterPoint>,
+    pub follow: Option<Sighting>,
 }
 
 // What a walk has found: whether integrity failed, whether an item was malformed, and where the values begin, 0 for nowhere.
@@ -43,12 +32,6 @@ pub struct Found {
     pub stopped: bool,
     pub counters: usize,
     pub follow: usize,
-}
-
-#[derive(Clone, Copy)]
-pub enum Walk {
-    Refused(u8),
-    Over(Found),
 }
 
 fn chosen(first: usize, taken: bool, place: usize) -> usize
@@ -72,14 +55,14 @@ fn noted(found: Found, flags: u8, kind: u8, place: usize) -> Found
     let counters = chosen(found.counters, !passed & (kind == 5), place);
     let follow = chosen(found.follow, !passed & (kind == 7), place);
     Found {
-        failed: failed,
-        stopped: stopped,
-        counters: counters,
-        follow: follow,
+        failed,
+        stopped,
+        counters,
+        follow,
     }
 }
 
-fn find(bytes: &[u8]) -> Walk
+fn find(bytes: &[u8]) -> Result<Found, Refusal>
     ensures { (result ≡ walked fresh (area bytes.now)) × SafeWalk bytes.now result }
 {
     let mut found = Found {
@@ -89,25 +72,24 @@ fn find(bytes: &[u8]) -> Walk
         follow: 0,
     };
     let mut at: usize = 0;
+    // A place that moves by the length that each item's header says, as in `area_read::check`: no range or iterator of the library steps so, and
+    // a walk for both, which took its step as a closure, would need the step's relation in each contract.
     while at < bytes.len() {
-        let number = area_items::verdict(bytes, at);
-        if number != 0 {
-            return Walk::Refused(number);
-        }
+        area_items::verdict(bytes, at)?;
         found = noted(found, bytes[at], bytes[at + 1], at + 4);
         at = area_items::end_of(bytes, at);
     }
-    Walk::Over(found)
+    Ok(found)
 }
 
-fn counters_from(bytes: &[u8], at: usize) -> Counters
+fn counters_from(bytes: &[u8], at: usize) -> Option<CounterPoint>
     requires { Inside 12 bytes.now at }
     ensures { result ≡ counters_from bytes.now at }
 {
     if at == 0 {
-        return Counters::Absent;
+        return None;
     }
-    Counters::Point(area_fields::counters_at(bytes, at))
+    Some(area_fields::counters_at(bytes, at))
 }
 
 fn unknown_mode(mode: u8) -> bool
@@ -116,42 +98,35 @@ fn unknown_mode(mode: u8) -> bool
     (mode == 0) | (mode > 3)
 }
 
-fn sighted_from(bytes: &[u8], at: usize) -> Sighted
+fn sighted_from(bytes: &[u8], at: usize) -> Option<Sighting>
     requires { Inside 16 bytes.now at }
     ensures { result ≡ sighted_from bytes.now at }
 {
     if at == 0 {
-        return Sighted::Absent;
+        return None;
     }
     let item = area_fields::follow_up_at(bytes, at);
     let unknown = unknown_mode(item.mode);
-    Sighted::FollowUp(Sighting {
+    Some(Sighting {
         sequence: item.sequence,
         timestamp: item.timestamp,
-        unknown: unknown,
+        unknown,
     })
 }
 
-// Refused with 10 and 11 as a reading is.
-pub fn told_of(bytes: &[u8]) -> Telling
+// Refused as a reading is.
+pub fn told_of(bytes: &[u8]) -> Result<Told, Refusal>
     ensures { result ≡ told bytes.now }
 {
-    let answer = find(bytes);
-    match answer {
-        Walk::Refused(number) => Telling::Refused(number),
-        Walk::Over(found) => {
-            if found.failed {
-                return Telling::Told(Told {
-                    counters: Counters::Absent,
-                    follow: Sighted::Absent,
-                });
-            }
-            let counters = counters_from(bytes, found.counters);
-            let follow = sighted_from(bytes, found.follow);
-            Telling::Told(Told {
-                counters: counters,
-                follow: follow,
-            })
-        }
+    let found = find(bytes)?;
+    if found.failed {
+        return Ok(Told {
+            counters: None,
+            follow: None,
+        });
     }
+    Ok(Told {
+        counters: counters_from(bytes, found.counters),
+        follow: sighted_from(bytes, found.follow),
+    })
 }

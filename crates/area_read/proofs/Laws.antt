@@ -1,4 +1,6 @@
 -- Counting and listing the items one after the other: what the proofs of the functions cite. Assumes nothing.
+use Rattle.std.specs.Prelude.{Result, Ok, Err}
+use Rattle.limits.specs.declared.Refusal.{Refusal}
 use mathlib.Core.Path.{◌≡◌, refl, sym, ap, ◌∙◌, subst}
 use mathlib.Core.Bool.{Bool, true, false}
 use mathlib.Core.List.{List, [], ◌∷◌}
@@ -13,42 +15,40 @@ use borrow.Author.Tests.{ltb-true, ltb-false}
 use Rattle.area_items.specs.Items.{Item, Reading, refused, items, before, end_at, item_at, verdict_at, rest_of, area}
 use Rattle.area_items.specs.Rows.{word_of}
 use Rattle.area_items.proofs.Laws.{rest_end, rest_bad, rest_good}
-use Rattle.area_read.specs.declared.Checked.{Checked}
-use Rattle.area_read.specs.declared.Checked.TheVariants.{Refused, Items}
 use Rattle.area_read.specs.Read.{checked_of, items_of, words_of, listed, outcome, read_into}
 
 -- ---- counting
 
 -- an answer with so many items before it
-abbrev pub later : ℕ → Checked → Checked
-later k (Refused n) = Refused n
-later k (Items n) = Items (k + n)
+abbrev pub later : ℕ → Result ℕ Refusal → Result ℕ Refusal
+later k (Err e) = Err e
+later k (Ok n) = Ok (k + n)
 
-later_none : (c : Checked) → c ≡ later 0 c
-later_none (Refused n) = refl
-later_none (Items n) = ap Items (sym (zero-add n))
+later_none : (c : Result ℕ Refusal) → c ≡ later 0 c
+later_none (Err e) = refl
+later_none (Ok n) = ap Ok (sym (zero-add n))
 
 pub counted_none : (bytes : List ℕ) → checked_of (area bytes) ≡ later 0 (checked_of (rest_of bytes 0))
 unfolding area
 counted_none bytes = later_none (checked_of (rest_of bytes 0))
 
 later_one : (k : ℕ) (i : Item) (r : Reading) → later k (checked_of (before i r)) ≡ later (k + 1) (checked_of r)
-later_one k i (refused n) = refl
-later_one k i (items is) = ap Items one_more
+later_one k i (refused e) = refl
+later_one k i (items is) = ap Ok one_more
   where
     one_more : k + suc (length is) ≡ k + 1 + length is
     one_more = omega arith
 
-module _ (bytes : List ℕ) (at k v : ℕ) (so_far : checked_of (area bytes) ≡ later k (checked_of (rest_of bytes at))) (h : at < length bytes) (e : v ≡ verdict_at bytes at) where
-  pub counted-bad : (v ≡ 0 → ⊥) → Refused v ≡ checked_of (area bytes)
-  counted-bad n = sym (so_far ∙ ap (λ (r : Reading). later k (checked_of r)) (rest_bad bytes at h v e n))
+module _ (bytes : List ℕ) (at k : ℕ) (so_far : checked_of (area bytes) ≡ later k (checked_of (rest_of bytes at))) (h : at < length bytes) where
+  pub counted-bad : (e : Refusal) → Err e ≡ verdict_at bytes at → Err e ≡ checked_of (area bytes)
+  counted-bad e is = sym (so_far ∙ ap (λ (r : Reading). later k (checked_of r)) (rest_bad bytes at h e is))
 
-  pub counted_more : v ≡ 0 → checked_of (area bytes) ≡ later (k + 1) (checked_of (rest_of bytes (end_at bytes at)))
-  counted_more z =
-      so_far ∙ ap (λ (r : Reading). later k (checked_of r)) (rest_good bytes at h v e z) ∙ later_one k (item_at bytes at) (rest_of bytes (end_at bytes at))
+  pub counted_more : Ok tt ≡ verdict_at bytes at → checked_of (area bytes) ≡ later (k + 1) (checked_of (rest_of bytes (end_at bytes at)))
+  counted_more is =
+      so_far ∙ ap (λ (r : Reading). later k (checked_of r)) (rest_good bytes at h is) ∙ later_one k (item_at bytes at) (rest_of bytes (end_at bytes at))
 
-pub counted_all : (bytes : List ℕ) (at k : ℕ) → checked_of (area bytes) ≡ later k (checked_of (rest_of bytes at)) → length bytes ≤ at → Items k ≡ checked_of (area bytes)
-counted_all bytes at k so_far h = sym (so_far ∙ ap (λ (r : Reading). later k (checked_of r)) (rest_end bytes at h) ∙ ap Items none)
+pub counted_all : (bytes : List ℕ) (at k : ℕ) → checked_of (area bytes) ≡ later k (checked_of (rest_of bytes at)) → length bytes ≤ at → Ok k ≡ checked_of (area bytes)
+counted_all bytes at k so_far h = sym (so_far ∙ ap (λ (r : Reading). later k (checked_of r)) (rest_end bytes at h) ∙ ap Ok none)
   where
     none : k + 0 ≡ k
     none = omega arith
@@ -58,7 +58,7 @@ counted_all bytes at k so_far h = sym (so_far ∙ ap (λ (r : Reading). later k 
 -- what is known where there is a next item
 pub record Next (bytes : List ℕ) (at : ℕ) : Type 0 where
   pub inside : at < length bytes
-  pub right : verdict_at bytes at ≡ 0
+  pub right : verdict_at bytes at ≡ Ok tt
   pub is : items_of (rest_of bytes at) ≡ item_at bytes at ∷ items_of (rest_of bytes (end_at bytes at))
 
 pub next : (bytes : List ℕ) (at : ℕ) → 0 < length (items_of (rest_of bytes at)) → Next bytes at
@@ -67,23 +67,23 @@ next bytes at h = by (ltb at (length bytes)) refl
     none : (r : Reading) → r ≡ items [] → 0 < length (items_of r) → ⊥
     none r e l = let z : length (items_of r) ≡ 0 = ap (λ (x : Reading). length (items_of x)) e in omega arith
 
-    bad : (n : ℕ) (r : Reading) → r ≡ refused n → 0 < length (items_of r) → ⊥
-    bad n r e l = let z : length (items_of r) ≡ 0 = ap (λ (x : Reading). length (items_of x)) e in omega arith
+    bad : (e : Refusal) (r : Reading) → r ≡ refused e → 0 < length (items_of r) → ⊥
+    bad e r is l = let z : length (items_of r) ≡ 0 = ap (λ (x : Reading). length (items_of x)) is in omega arith
 
     one : (i : Item) (r : Reading) → 0 < length (items_of (before i r)) → items_of (before i r) ≡ i ∷ items_of r
-    one i (refused n) l = absurd (omega arith)
+    one i (refused e) l = absurd (omega arith)
     one i (items is) l = refl
 
-    right : at < length bytes → (v : ℕ) → v ≡ verdict_at bytes at → verdict_at bytes at ≡ 0
-    right l zero e = sym e
-    right l (suc v) e = absurd (bad (suc v) (rest_of bytes at) (rest_bad bytes at l (suc v) e (λ z. omega arith)) h)
+    right : at < length bytes → (v : Result (Unit {0}) Refusal) → v ≡ verdict_at bytes at → verdict_at bytes at ≡ Ok tt
+    right l (Ok _) e = sym e
+    right l (Err v) e = absurd (bad v (rest_of bytes at) (rest_bad bytes at l v e) h)
 
     by : (b : Bool) → ltb at (length bytes) ≡ b → Next bytes at
     by false e = absurd (none (rest_of bytes at) (rest_end bytes at (ltb-false at (length bytes) e)) h)
     by true e =
         let l = ltb-true at (length bytes) e in
         let v = right l (verdict_at bytes at) refl in
-        let s = rest_good bytes at l (verdict_at bytes at) refl v in
+        let s = rest_good bytes at l (sym v) in
         record {
           inside = l;
           right = v;
@@ -134,30 +134,30 @@ module _ (bytes : List ℕ) (at k : ℕ) (h : k < length (items_of (area bytes))
 
 -- ---- the answer
 
-module _ (bytes room : List ℕ) (a : Checked) (is : a ≡ checked_of (area bytes)) where
-  pub bad-area : (n : ℕ) → a ≡ Refused n → outcome (Refused n) room ≡ read_into bytes room
+module _ (bytes room : List ℕ) where
+  pub bad-area : (e : Refusal) → Err e ≡ checked_of (area bytes) → outcome (Err e) room ≡ read_into bytes room
   unfolding read_into
-  bad-area n told = by (area bytes) (sym told ∙ is)
+  bad-area e is = by (area bytes) is
     where
-      by : (r : Reading) → Refused n ≡ checked_of r → outcome (Refused n) room ≡ outcome (checked_of r) (listed r room)
-      by (refused m) e = ap (λ (c : Checked). outcome c room) e
-      by (items is) e = let z : ◌≡◌ {A = ℕ} 0 1 = cc in absurd (omega arith)
+      by : (r : Reading) → Err e ≡ checked_of r → outcome (Err e) room ≡ outcome (checked_of r) (listed r room)
+      by (refused d) h = ap (λ (c : Result ℕ Refusal). outcome c room) h
+      by (items is) h = absurd (cc)
 
-  pub count_is : (n : ℕ) → a ≡ Items n → n ≡ length (items_of (area bytes))
-  count_is n told = by (area bytes) (sym told ∙ is)
+  pub count_is : (n : ℕ) → Ok n ≡ checked_of (area bytes) → n ≡ length (items_of (area bytes))
+  count_is n is = by (area bytes) is
     where
-      by : (r : Reading) → Items n ≡ checked_of r → n ≡ length (items_of r)
-      by (refused m) e = let z : ◌≡◌ {A = ℕ} 0 1 = cc in absurd (omega arith)
-      by (items is) e = cc
+      by : (r : Reading) → Ok n ≡ checked_of r → n ≡ length (items_of r)
+      by (refused d) h = absurd (cc)
+      by (items is) h = cc
 
-  pub good-area : (n last : ℕ) (after : List ℕ) → a ≡ Items n → last ≡ min n (length room) → after ≡ paste room 0 (words_of (items_of (area bytes))) last
-      → outcome (Items n) after ≡ read_into bytes room
+  pub good-area : (n last : ℕ) (after : List ℕ) → Ok n ≡ checked_of (area bytes) → last ≡ min n (length room) → after ≡ paste room 0 (words_of (items_of (area bytes))) last
+      → outcome (Ok n) after ≡ read_into bytes room
   unfolding read_into
-  good-area n last after told l p = by (area bytes) (sym told ∙ is) (p ∙ ap (paste room 0 (words_of (items_of (area bytes)))) l)
+  good-area n last after is l p = by (area bytes) is (p ∙ ap (paste room 0 (words_of (items_of (area bytes)))) l)
     where
-      by : (r : Reading) → Items n ≡ checked_of r → after ≡ paste room 0 (words_of (items_of r)) (min n (length room)) → outcome (Items n) after ≡ outcome (checked_of r) (listed r room)
-      by (refused m) e q = let z : ◌≡◌ {A = ℕ} 0 1 = cc in absurd (omega arith)
-      by (items is) e q =
+      by : (r : Reading) → Ok n ≡ checked_of r → after ≡ paste room 0 (words_of (items_of r)) (min n (length room)) → outcome (Ok n) after ≡ outcome (checked_of r) (listed r room)
+      by (refused d) h q = absurd (cc)
+      by (items is) h q =
           let f : n ≡ length is = cc in
-          ap (outcome (Items n)) (q ∙ ap (λ (k : ℕ). paste room 0 (words_of is) (min k (length room))) f)
-          ∙ ap (λ (c : Checked). outcome c (paste room 0 (words_of is) (min (length is) (length room)))) e
+          ap (outcome (Ok n)) (q ∙ ap (λ (k : ℕ). paste room 0 (words_of is) (min k (length room))) f)
+          ∙ ap (λ (c : Result ℕ Refusal). outcome c (paste room 0 (words_of is) (min (length is) (length room)))) h

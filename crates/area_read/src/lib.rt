@@ -1,38 +1,28 @@
 // A reader of the extension area (RFC 8972, section 4) over lent bytes: no byte is copied. `RawTlv::parse` of src/tlv/core.rs, one item
 // after the other.
-ghost use Rattle.std.specs.Prelude.{◌≡◌, ◌≤◌, min, length};
+#![tactic(auto)]
+
+ghost use Rattle.std.specs.Prelude.{◌≡◌, ◌≤◌, length};
 ghost use Rattle.std.proofs.Math.Seq.{paste};
 ghost use Rattle.area_items.specs.Items.{area};
 ghost use Rattle.area_read.specs.Read.{checked_of, items_of, words_of, outcome, read_into};
 
-// The answer of a reading: the refusal of the first bad item, or how many items there are.
-#[derive(Clone, Copy)]
-pub enum Checked {
-    Refused(u8),
-    Items(usize),
-}
+use limits::Refusal;
 
-// Refused with 10 when a header or a value passes the end, then with 11 for type 5 or 7 with another length.
-pub fn check(bytes: &[u8]) -> Checked
+// How many items an area has. Refused when a header or a value passes the end, then for type 5 or 7 with another length; the first bad item
+// decides.
+pub fn check(bytes: &[u8]) -> Result<usize, Refusal>
     ensures { result ≡ checked_of (area bytes.now) }
 {
     let mut at: usize = 0;
     let mut count: usize = 0;
+    // A place that moves by the length that each item's header says: no range or iterator of the library steps so.
     while at < bytes.len() {
-        let number = area_items::verdict(bytes, at);
-        if number != 0 {
-            return Checked::Refused(number);
-        }
+        area_items::verdict(bytes, at)?;
         at = area_items::end_of(bytes, at);
         count += 1;
     }
-    Checked::Items(count)
-}
-
-fn smaller(a: usize, b: usize) -> usize
-    ensures { result ≡ min a b }
-{
-    if a < b { a } else { b }
+    Ok(count)
 }
 
 // The words of the first items of a good area.
@@ -41,25 +31,17 @@ fn list(bytes: &[u8], room: &mut [u64], last: usize)
     ensures { room.new ≡ paste room.old 0 (words_of (items_of (area bytes.now))) last }
 {
     let mut at: usize = 0;
-    let mut index: usize = 0;
-    while index < last {
+    for index in 0..last {
         room[index] = area_items::word_at(bytes, at);
         at = area_items::end_of(bytes, at);
-        index += 1;
     }
 }
 
 // The items of an area, each in one word at the start of the room, as many as it has place for; the answer says how many there are.
-pub fn read(bytes: &[u8], room: &mut [u64]) -> Checked
+pub fn read(bytes: &[u8], room: &mut [u64]) -> Result<usize, Refusal>
     ensures { outcome result room.new ≡ read_into bytes.now room.old }
 {
-    let answer = check(bytes);
-    match answer {
-        Checked::Refused(number) => Checked::Refused(number),
-        Checked::Items(count) => {
-            let last = smaller(count, room.len());
-            list(bytes, room, last);
-            Checked::Items(count)
-        }
-    }
+    let count = check(bytes)?;
+    list(bytes, room, count.min(room.len()));
+    Ok(count)
 }

@@ -1,4 +1,7 @@
 -- A word's item and its bytes, the first bad one, and items one after the other: what the proofs of the functions cite. Assumes nothing.
+use Rattle.std.specs.Prelude.{Some, None, Result, Ok, Err}
+use Rattle.limits.specs.declared.Refusal.{Refusal}
+use Rattle.limits.specs.declared.Refusal.TheVariants as refusal
 use mathlib.Core.Path.{◌≡◌, refl, sym, ap, ◌∙◌}
 use mathlib.Core.Bool.{Bool, true, false, cond}
 use mathlib.Core.List.{List, [], ◌∷◌, ◌++◌}
@@ -13,10 +16,7 @@ use borrow.Author.Tests.{lt-ltb, le-ltb, ltb-false, eq-eqb, ne_eqb, eqb-true}
 use Rattle.area_items.specs.Items.{fits}
 use Rattle.area_items.specs.Rows.{item_bytes, written_value, as_written}
 use Rattle.area_items.proofs.Laws.{seven}
-use Rattle.area_write.specs.declared.Size.{Size}
-use Rattle.area_write.specs.declared.Size.TheVariants.{Short, Needed}
-use Rattle.area_write.specs.declared.Written.TheVariants.{Refused, Bytes}
-use Rattle.area_write.specs.Write.{flags_of, kind_of, length_of, place_of, item_in, verdict_in, unless, first_bad, size_of, needed, sized, row_of, outcome, by, write_into}
+use Rattle.area_write.specs.Write.{flags_of, kind_of, length_of, place_of, item_in, verdict_in, unless, first_bad, size_of, needed, sized, row_of, outcome, write_into}
 
 -- ---- one word
 
@@ -24,35 +24,29 @@ abbrev pub wire : List ℕ → ℕ → List ℕ
 wire values word = item_bytes (as_written (item_in values word))
 
 module _ (values : List ℕ) (word : ℕ) where
-  pub past_end : length values < place_of word + length_of word → 10 ≡ verdict_in values word
+  pub past_end : length values < place_of word + length_of word → Err refusal.PassesEnd ≡ verdict_in values word
   unfolding verdict_in
   past_end h = rw (lt-ltb (length values) (place_of word + length_of word) h)
 
-  pub right : place_of word + length_of word ≤ length values → fits (kind_of word) (length_of word) ≡ true → 0 ≡ verdict_in values word
+  pub right : place_of word + length_of word ≤ length values → fits (kind_of word) (length_of word) ≡ true → Ok tt ≡ verdict_in values word
   unfolding verdict_in
   right h e = rw (le-ltb (length values) (place_of word + length_of word) h, e)
 
-  pub wrong : place_of word + length_of word ≤ length values → fits (kind_of word) (length_of word) ≡ false → 11 ≡ verdict_in values word
+  pub wrong : place_of word + length_of word ≤ length values → fits (kind_of word) (length_of word) ≡ false → Err refusal.WrongLength ≡ verdict_in values word
   unfolding verdict_in
   wrong h e = rw (le-ltb (length values) (place_of word + length_of word) h, e)
 
-  pub good : verdict_in values word ≡ 0 → (place_of word + length_of word ≤ length values) × (fits (kind_of word) (length_of word) ≡ true)
+  pub good : verdict_in values word ≡ Ok tt → (place_of word + length_of word ≤ length values) × (fits (kind_of word) (length_of word) ≡ true)
   unfolding verdict_in
   good = by (ltb (length values) (place_of word + length_of word)) (fits (kind_of word) (length_of word)) refl refl
     where
       by : (a b : Bool) → ltb (length values) (place_of word + length_of word) ≡ a → fits (kind_of word) (length_of word) ≡ b
-          → ◌≡◌ {A = ℕ} (cond a 10 (cond b 0 11)) 0 → (place_of word + length_of word ≤ length values) × (fits (kind_of word) (length_of word) ≡ true)
-      by true b p q e = absurd (no e)
-        where
-          no : ◌≡◌ {A = ℕ} 10 0 → ⊥
-          no e = omega arith
+          → ◌≡◌ {A = Result (Unit {0}) Refusal} (cond a (Err refusal.PassesEnd) (cond b (Ok tt) (Err refusal.WrongLength))) (Ok tt) → (place_of word + length_of word ≤ length values) × (fits (kind_of word) (length_of word) ≡ true)
+      by true b p q e = absurd (cc)
       by false true p q e = (ltb-false (length values) (place_of word + length_of word) p, q)
-      by false false p q e = absurd (no e)
-        where
-          no : ◌≡◌ {A = ℕ} 11 0 → ⊥
-          no e = omega arith
+      by false false p q e = absurd (cc)
 
-  module _ (ok : verdict_in values word ≡ 0) where
+  module _ (ok : verdict_in values word ≡ Ok tt) where
     abbrev value : List ℕ
     value = take (length_of word) (drop (place_of word) values)
 
@@ -145,32 +139,30 @@ module _ (values : List ℕ) (word : ℕ) where
 
 -- ---- the first bad item
 
-unless-bad : (a b : ℕ) → (a ≡ 0 → ⊥) → unless a b ≡ a
-unless-bad zero b h = absurd (h refl)
-unless-bad (suc a) b h = refl
+abbrev Verdict : Type 0
+Verdict = Result (Unit {0}) Refusal
 
-pub both-good : (a b : ℕ) → unless a b ≡ 0 → (a ≡ 0) × (b ≡ 0)
-both-good zero b e = (refl, e)
-both-good (suc a) b e = absurd (omega (arith, e))
+pub both-good : (a b : Result (Unit {0}) Refusal) → unless a b ≡ Ok tt → (a ≡ Ok tt) × (b ≡ Ok tt)
+both-good (Ok _) b e = (refl, e)
+both-good (Err d) b e = absurd (cc)
 
 module _ (values words : List ℕ) (k : ℕ) where
   bad-step : k < length words → first_bad values (drop k words) ≡ unless (verdict_in values (get_or words k 0)) (first_bad values (drop (k + 1) words))
   unfolding first_bad
   bad-step h = rw (add-one, drop-cons words k 0 h)
 
-  pub bad_here : k < length words → (v : ℕ) → v ≡ verdict_in values (get_or words k 0) → (v ≡ 0 → ⊥) → first_bad values words ≡ first_bad values (drop k words) → v ≡ first_bad values words
-  bad_here h v e n s =
-      sym (s ∙ bad-step h ∙ ap (λ (x : ℕ). unless x (first_bad values (drop (k + 1) words))) (sym e) ∙ unless-bad v (first_bad values (drop (k + 1) words)) n)
+  pub bad_here : k < length words → (e : Refusal) → Err e ≡ verdict_in values (get_or words k 0) → first_bad values words ≡ first_bad values (drop k words) → Err e ≡ first_bad values words
+  bad_here h e is s = sym (s ∙ bad-step h ∙ ap (λ (x : Verdict). unless x (first_bad values (drop (k + 1) words))) (sym is))
 
-  pub bad_later : k < length words → (v : ℕ) → v ≡ verdict_in values (get_or words k 0) → v ≡ 0 → first_bad values words ≡ first_bad values (drop k words)
+  pub bad_later : k < length words → Ok tt ≡ verdict_in values (get_or words k 0) → first_bad values words ≡ first_bad values (drop k words)
       → first_bad values words ≡ first_bad values (drop (k + 1) words)
-  bad_later h v e z s = s ∙ bad-step h ∙ ap (λ (x : ℕ). unless x (first_bad values (drop (k + 1) words))) (sym e ∙ z)
+  bad_later h is s = s ∙ bad-step h ∙ ap (λ (x : Verdict). unless x (first_bad values (drop (k + 1) words))) (sym is)
 
-  pub bad-none : length words ≤ k → k ≤ length words → first_bad values words ≡ first_bad values (drop k words) → 0 ≡ first_bad values words
+  pub bad-none : length words ≤ k → k ≤ length words → first_bad values words ≡ first_bad values (drop k words) → Ok tt ≡ first_bad values words
   unfolding first_bad
   bad-none h l s = let e : length words ≡ k = omega arith in sym (s ∙ ap (λ (n : ℕ). first_bad values (drop n words)) (sym e) ∙ ap (first_bad values) (drop-length words))
 
-  pub this_good : k < length words → first_bad values (drop k words) ≡ 0 → (verdict_in values (get_or words k 0) ≡ 0) × (first_bad values (drop (k + 1) words) ≡ 0)
+  pub this_good : k < length words → first_bad values (drop k words) ≡ Ok tt → (verdict_in values (get_or words k 0) ≡ Ok tt) × (first_bad values (drop (k + 1) words) ≡ Ok tt)
   this_good h s = both-good (verdict_in values (get_or words k 0)) (first_bad values (drop (k + 1) words)) (sym (bad-step h) ∙ s)
 
 -- ---- how much is needed
@@ -189,7 +181,7 @@ module _ (words : List ℕ) (k : ℕ) where
 pub row_step : (values words : List ℕ) (k : ℕ) → k < length words → row_of values (drop k words) ≡ wire values (get_or words k 0) ++ row_of values (drop (k + 1) words)
 row_step values words k h = ap (row_of values) (drop-cons words k 0 h ∙ ap (λ (n : ℕ). get_or words k 0 ∷ drop n words) (sym (add-one k)))
 
-pub row_length : (values words : List ℕ) → first_bad values words ≡ 0 → length (row_of values words) ≡ needed words
+pub row_length : (values words : List ℕ) → first_bad values words ≡ Ok tt → length (row_of values words) ≡ needed words
 unfolding needed first_bad
 row_length values [] e = refl
 row_length values (w ∷ ws) e =
@@ -218,7 +210,7 @@ paste_more d s w at n lw e hd hs =
 
 -- ---- one item more in a row
 
-module _ (values words : List ℕ) (k at n : ℕ) (h : k < length words) (ok : first_bad values (drop k words) ≡ 0)
+module _ (values words : List ℕ) (k at n : ℕ) (h : k < length words) (ok : first_bad values (drop k words) ≡ Ok tt)
     (row : drop at (row_of values words) ≡ row_of values (drop k words)) (size : n ≡ size_of (get_or words k 0)) where
   own-length : length (wire values (get_or words k 0)) ≡ n
   own-length = wire_length values (get_or words k 0) (this_good values words k h ok).0 ∙ sym size
@@ -240,44 +232,40 @@ module _ (values words : List ℕ) (k at n : ℕ) (h : k < length words) (ok : f
 
 -- ---- the answers
 
-pub short_size : (most : ℕ) (words : List ℕ) → most < needed words → Short ≡ sized most words
+pub short_size : (most : ℕ) (words : List ℕ) → most < needed words → None ≡ sized most words
 short_size most words h = rw (lt-ltb most (needed words) h)
 
-pub enough_size : (most n : ℕ) (words : List ℕ) → needed words ≤ most → n ≡ needed words → Needed n ≡ sized most words
-enough_size most n words h e = rw (le-ltb most (needed words) h) (ap Needed e)
+pub enough_size : (most n : ℕ) (words : List ℕ) → needed words ≤ most → n ≡ needed words → Some n ≡ sized most words
+enough_size most n words h e = rw (le-ltb most (needed words) h) (ap Some e)
 
 module _ (words values room : List ℕ) where
-  pub write-bad : (n : ℕ) → n ≡ first_bad values words → (n ≡ 0 → ⊥) → outcome (Refused n) room ≡ write_into words values room
+  pub write-bad : (e : Refusal) → Err e ≡ first_bad values words → outcome (Err e) room ≡ write_into words values room
   unfolding write_into
-  write-bad n e h = go n e h
-    where
-      go : (n : ℕ) → n ≡ first_bad values words → (n ≡ 0 → ⊥) → outcome (Refused n) room ≡ by (first_bad values words) (cond (ltb (length room) (needed words)) (outcome (Refused 12) room) (outcome (Bytes (needed words)) (row_of values words ++ drop (needed words) room))) room
-      go zero e h = absurd (h refl)
-      go (suc m) e h = rw (← e)
+  write-bad e is = rw (← is)
 
-  module _ (n : ℕ) (e : n ≡ first_bad values words) (z : n ≡ 0) (s : Size) (is : s ≡ sized (length room) words) where
-    short_is : (b : Bool) → Short ≡ cond b Short (Needed (needed words)) → b ≡ true
+  module _ (e : Ok tt ≡ first_bad values words) where
+    short_is : (b : Bool) → None ≡ cond b None (Some (needed words)) → b ≡ true
     short_is true f = refl
-    short_is false f = let x : ◌≡◌ {A = ℕ} 0 1 = cc in absurd (omega arith)
+    short_is false f = absurd (cc)
 
-    enough_is : (b : Bool) (m : ℕ) → Needed m ≡ cond b Short (Needed (needed words)) → (b ≡ false) × (m ≡ needed words)
-    enough_is true m f = let x : ◌≡◌ {A = ℕ} 0 1 = cc in absurd (omega arith)
+    enough_is : (b : Bool) (m : ℕ) → Some m ≡ cond b None (Some (needed words)) → (b ≡ false) × (m ≡ needed words)
+    enough_is true m f = absurd (cc)
     enough_is false m f = (refl, cc)
 
-    pub write_short : s ≡ Short → outcome (Refused 12) room ≡ write_into words values room
+    pub write_short : None ≡ sized (length room) words → outcome (Err refusal.ShortRoom) room ≡ write_into words values room
     unfolding write_into
-    write_short f = rw (← e, z, short_is (ltb (length room) (needed words)) (sym f ∙ is))
+    write_short f = rw (← e, short_is (ltb (length room) (needed words)) f)
 
-    pub size_is : (m : ℕ) → s ≡ Needed m → needed words ≤ length room
-    size_is m f = ltb-false (length room) (needed words) (enough_is (ltb (length room) (needed words)) m (sym f ∙ is)).0
+    pub size_is : (m : ℕ) → Some m ≡ sized (length room) words → needed words ≤ length room
+    size_is m f = ltb-false (length room) (needed words) (enough_is (ltb (length room) (needed words)) m f).0
 
-    pub write-good : (m : ℕ) (after : List ℕ) → s ≡ Needed m → after ≡ paste room 0 (row_of values words) (needed words) → outcome (Bytes m) after ≡ write_into words values room
+    pub write-good : (m : ℕ) (after : List ℕ) → Some m ≡ sized (length room) words → after ≡ paste room 0 (row_of values words) (needed words) → outcome (Ok m) after ≡ write_into words values room
     unfolding write_into
     write-good m after f p =
-        let q = enough_is (ltb (length room) (needed words)) m (sym f ∙ is) in
-        rw (← e, z, q.0)
-        (ap (λ (k : ℕ). outcome (Bytes k) after) q.1
-        ∙ ap (outcome (Bytes (needed words)))
+        let q = enough_is (ltb (length room) (needed words)) m f in
+        rw (← e, q.0)
+        (ap (λ (k : ℕ). outcome (Ok k) after) q.1
+        ∙ ap (outcome (Ok (needed words)))
         (p
-        ∙ ap (λ (l : List ℕ). l ++ drop (0 + needed words) room) (take_all (needed words) (row_of values words) (omega (arith, row_length values words (sym e ∙ z))))
+        ∙ ap (λ (l : List ℕ). l ++ drop (0 + needed words) room) (take_all (needed words) (row_of values words) (omega (arith, row_length values words (sym e))))
         ∙ ap (λ (k : ℕ). row_of values words ++ drop k room) (zero-add (needed words))))

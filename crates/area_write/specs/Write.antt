@@ -1,12 +1,9 @@
 -- Writing an area of items: each is one word, as the reader gives it, and its value lies in lent bytes. Assumes nothing.
-use Rattle.std.specs.Prelude.{cond, List, [], ◌∷◌, ◌++◌, map, ℕ, zero, suc, ◌+◌, ◌/◌, ◌%◌, ◌^◌, ltb, length, take, drop}
-use Rattle.request_limits.specs.Refusals.{passes_end, wrong_length, short_room}
+use Rattle.std.specs.Prelude.{cond, List, [], ◌∷◌, ◌++◌, map, ℕ, ◌+◌, ◌/◌, ◌%◌, ◌^◌, ltb, length, take, drop, Option, Some, None, Result, Ok, Err}
+use Rattle.limits.specs.declared.Refusal.{Refusal}
+use Rattle.limits.specs.declared.Refusal.TheVariants as refusal
 use Rattle.area_items.specs.Items.{Item, fits}
 use Rattle.area_items.specs.Rows.{written_area}
-use Rattle.area_write.specs.declared.Size.{Size}
-use Rattle.area_write.specs.declared.Size.TheVariants.{Short, Needed}
-use Rattle.area_write.specs.declared.Written.{Written}
-use Rattle.area_write.specs.declared.Written.TheVariants.{Refused, Bytes}
 
 -- the flag byte of an item's word
 abbrev pub flags_of : ℕ → ℕ
@@ -28,18 +25,18 @@ place_of word = word % 2 ^ 32
 abbrev pub item_in : List ℕ → ℕ → Item
 item_in values word = record { start = place_of word; flags = flags_of word; kind = kind_of word; value = take (length_of word) (drop (place_of word) values) }
 
--- 10 when its value passes the end of the lent bytes; then 11 for type 5 or 7 with another length; else 0
-unfoldable pub verdict_in : List ℕ → ℕ → ℕ
-verdict_in values word = cond (ltb (length values) (place_of word + length_of word)) passes_end (cond (fits (kind_of word) (length_of word)) 0 wrong_length)
+-- refused when its value passes the end of the lent bytes; then for type 5 or 7 with another length
+unfoldable pub verdict_in : List ℕ → ℕ → Result (Unit {0}) Refusal
+verdict_in values word = cond (ltb (length values) (place_of word + length_of word)) (Err refusal.PassesEnd) (cond (fits (kind_of word) (length_of word)) (Ok tt) (Err refusal.WrongLength))
 
--- the first that is not 0
-abbrev pub unless : ℕ → ℕ → ℕ
-unless zero b = b
-unless (suc a) b = suc a
+-- the first of two refusals
+abbrev pub unless : Result (Unit {0}) Refusal → Result (Unit {0}) Refusal → Result (Unit {0}) Refusal
+unless (Ok _) b = b
+unless (Err e) b = Err e
 
--- the number of the first bad item, 0 where there is none
-unfoldable pub first_bad : List ℕ → (words : List ℕ) → ℕ
-first_bad values [] = 0
+-- the refusal of the first bad item, where there is one
+unfoldable pub first_bad : List ℕ → (words : List ℕ) → Result (Unit {0}) Refusal
+first_bad values [] = Ok tt
 first_bad values (w ∷ ws) = unless (verdict_in values w) (first_bad values ws)
 
 -- how many bytes an item needs
@@ -52,8 +49,8 @@ needed [] = 0
 needed (w ∷ ws) = size_of w + needed ws
 
 -- how many they need, where that is at most so many
-abbrev pub sized : (most : ℕ) → List ℕ → Size
-sized most words = cond (ltb most (needed words)) Short (Needed (needed words))
+abbrev pub sized : (most : ℕ) → List ℕ → Option ℕ
+sized most words = cond (ltb most (needed words)) None (Some (needed words))
 
 -- what is written of them
 abbrev pub row_of : List ℕ → (words : List ℕ) → List ℕ
@@ -61,21 +58,21 @@ row_of values words = written_area (map (item_in values) words)
 
 -- what a call comes to
 pub record Outcome : Type 0 where
-  pub answer : Written
+  pub answer : Result ℕ Refusal
   pub room : List ℕ
 
 -- of this answer and these bytes
-abbrev pub outcome : Written → List ℕ → Outcome
+abbrev pub outcome : Result ℕ Refusal → List ℕ → Outcome
 outcome a room = record { answer = a; room = room }
 
--- the number and nothing else, or how many bytes were written
-abbrev pub by : (bad : ℕ) → Outcome → List ℕ → Outcome
-by zero o room = o
-by (suc n) o room = outcome (Refused (suc n)) room
+-- the refusal and nothing else, or how many bytes were written
+abbrev pub by : (bad : Result (Unit {0}) Refusal) → Outcome → List ℕ → Outcome
+by (Ok _) o room = o
+by (Err e) o room = outcome (Err e) room
 
--- the first bad item decides; then 12 when the room is shorter than what is needed; else the row stands at its start, and the rest stays
+-- the first bad item decides; then refused when the room is shorter than what is needed; else the row stands at its start, and the rest stays
 unfoldable pub write_into : (words values room : List ℕ) → Outcome
 write_into words values room =
     by (first_bad values words)
-    (cond (ltb (length room) (needed words)) (outcome (Refused short_room) room) (outcome (Bytes (needed words)) (row_of values words ++ drop (needed words) room)))
+    (cond (ltb (length room) (needed words)) (outcome (Err refusal.ShortRoom) room) (outcome (Ok (needed words)) (row_of values words ++ drop (needed words) room)))
     room

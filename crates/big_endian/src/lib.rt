@@ -1,4 +1,5 @@
-// Unsigned numbers in bytes, the most significant first: read from a slice, and written over one.
+// Unsigned numbers in bytes, the most significant first: read from a slice, and written over one. Each reader and writer is two calls of the
+// next smaller one, so those of the four sizes share no code: a trait with four impls would have the same bodies.
 ghost use Rattle.std.specs.Prelude.{◌≡◌, ◌+◌, ◌≤◌, length};
 ghost use Rattle.big_endian.specs.Numbers.{number_at, put};
 

@@ -1,10 +1,10 @@
 -- `xor_popcount_and_max_burst` of src/ber.rs over all bits: the padding against the pattern, repeated. Assumes nothing.
-use Rattle.std.specs.Prelude.{cond, List, [], ◌∷◌, ℕ, suc, ◌%◌, ltb, length, get_or}
+use Rattle.std.specs.Prelude.{cond, List, [], ◌∷◌, ℕ, suc, ◌%◌, ltb, length, get_or, Result, Ok, Err}
 use Rattle.std.specs.Int.Bits.{bit_xor}
-use Rattle.request_limits.specs.Refusals.{too_much_padding, most_padding}
+use Rattle.limits.specs.declared.Refusal.{Refusal}
+use Rattle.limits.specs.declared.Refusal.TheVariants as refusal
+use Rattle.request_limits.specs.Refusals.{most_padding}
 use Rattle.bit_errors.specs.declared.BitErrors.{BitErrors}
-use Rattle.bit_errors.specs.declared.Comparison.{Comparison}
-use Rattle.bit_errors.specs.declared.Comparison.TheVariants.{Refused, Counted}
 use Rattle.bit_runs.specs.Bits.{all_bits, ones_of, longest}
 
 -- the byte at a place of the pattern repeated without end
@@ -25,17 +25,11 @@ wrong_bytes padding (q ∷ qs) = wrong_from (q ∷ qs) 0 padding
 unfoldable pub errors_in : List ℕ → BitErrors
 errors_in bytes = record { errors = ones_of (all_bits bytes); longest = longest (all_bits bytes) }
 
--- what a call comes to: its number, 0 where it is served, and the counts, which are 0 where it is refused
-pub record Outcome : Type 0 where
-  pub number : ℕ
-  pub errors : ℕ
-  pub longest : ℕ
+-- refused, before all else, for padding above 65,535 bytes; otherwise the count over all bits
+unfoldable pub comparison : (padding pattern : List ℕ) → Result BitErrors Refusal
+comparison padding pattern = cond (ltb most_padding (length padding)) (Err refusal.TooMuchPadding) (Ok (errors_in (wrong_bytes padding pattern)))
 
--- the number and the values of each answer
-abbrev pub outcome : Comparison → Outcome
-outcome Refused = record { number = too_much_padding; errors = 0; longest = 0 }
-outcome (Counted e) = record { number = 0; errors = e.errors; longest = e.longest }
-
--- refusal 14, before all else, for padding above 65,535 bytes; otherwise the count over all bits
-unfoldable pub comparison : (padding pattern : List ℕ) → Outcome
-comparison padding pattern = cond (ltb most_padding (length padding)) (outcome Refused) (outcome (Counted (errors_in (wrong_bytes padding pattern))))
+-- the counts of an answer, 0 where it is a refusal
+abbrev pub counts_of : Result BitErrors Refusal → BitErrors
+counts_of (Err e) = record { errors = 0; longest = 0 }
+counts_of (Ok c) = c

@@ -1,25 +1,19 @@
 // Bit errors: `xor_popcount_and_max_burst` of src/ber.rs. The padding is compared with the pattern, repeated, by words of 64
 // bits; the counts are those of the plain list of all bits.
-ghost use Rattle.std.specs.Prelude.{◌≡◌, ◌+◌, ◌*◌, ◌%◌, ◌≤◌, ◌<◌, ◌^◌, min, length, take};
+ghost use Rattle.std.specs.Prelude.{◌≡◌, ◌+◌, ◌*◌, ◌%◌, ◌≤◌, ◌<◌, ◌^◌, length, take};
 ghost use Rattle.big_endian.specs.Numbers.{number_at};
 ghost use Rattle.bit_runs.specs.Bits.{all_bits};
 ghost use Rattle.bit_runs.specs.Tally.{none, after, Room};
-ghost use Rattle.bit_errors.specs.Errors.{wrong_from, outcome, comparison};
+ghost use Rattle.bit_errors.specs.Errors.{wrong_from, comparison};
 ghost use Rattle.bit_errors.specs.Parts.{differing, Repeats};
 
 use bit_runs::Tally;
+use limits::Refusal;
 
 #[derive(Clone, Copy)]
 pub struct BitErrors {
     pub errors: u32,
     pub longest: u32,
-}
-
-// Refusal 14, or the counts.
-#[derive(Clone, Copy)]
-pub enum Comparison {
-    Refused,
-    Counted(BitErrors),
 }
 
 fn shifted(byte: u8, by: u32) -> u64
@@ -51,6 +45,7 @@ fn after_words(t: Tally, padding: &[u8], pattern: &[u8], end: usize) -> Tally
 {
     let mut u = t;
     let mut at: usize = 0;
+    // A place of both rows at once, eight bytes further at each step: pairs of chunks would be no plainer.
     while at < end {
         let word = word_at(padding, at) ^ word_at(pattern, at);
         u = word_runs::after_word(u, word);
@@ -65,10 +60,8 @@ fn after_bytes(t: Tally, padding: &[u8], pattern: &[u8]) -> Tally
     ensures { result ≡ after (all_bits (differing padding.now pattern.now)) t }
 {
     let mut u = t;
-    let mut at: usize = 0;
-    while at < padding.len() {
-        u = bit_runs::after_byte(u, padding[at] ^ pattern[at]);
-        at += 1;
+    for (at, byte) in padding.iter().enumerate() {
+        u = bit_runs::after_byte(u, *byte ^ pattern[at]);
     }
     u
 }
@@ -81,12 +74,6 @@ fn after_part(t: Tally, padding: &[u8], pattern: &[u8]) -> Tally
     let end = padding.len() - padding.len() % 8;
     let u = after_words(t, padding, pattern, end);
     after_bytes(u, &padding[end..], &pattern[end..])
-}
-
-fn smaller(a: usize, b: usize) -> usize
-    ensures { result ≡ min a b }
-{
-    if a < b { a } else { b }
 }
 
 // How far a part goes from the place `from`: over the pattern's end, in whole words where the room has enough of them, or else just to it.
@@ -114,9 +101,10 @@ fn compared(padding: &[u8], room: &[u8], size: usize) -> Tally
     };
     let mut at: usize = 0;
     let mut from: usize = 0;
+    // Two places move at once, each by as much as `reach` finds: no iterator steps so.
     while at < padding.len() {
         let far = reach(from, size, room.len());
-        let end = at + smaller(padding.len() - at, far);
+        let end = at + (padding.len() - at).min(far);
         t = after_part(t, &padding[at..end], &room[from..]);
         at = end;
         from = from + far - size;
@@ -129,11 +117,9 @@ fn repeat(room: &mut [u8], pattern: &[u8], size: usize)
     requires { (0 < length pattern.now) × (size ≤ length room.old) }
     ensures { Repeats room.new pattern.now size }
 {
-    let mut at: usize = 0;
     let mut from: usize = 0;
-    while at < size {
+    for at in 0..size {
         room[at] = pattern[from];
-        at += 1;
         from += 1;
         if from == pattern.len() {
             from = 0;
@@ -146,7 +132,7 @@ fn times(length: usize, padding: usize) -> usize
     requires { (0 < length) × (length ≤ 760) × (padding ≤ 65535) }
     ensures { (0 < result) × (8 ≤ result * length) × (result * length ≤ 760) }
 {
-    smaller(760 / length, 1 + (8 + padding / 32) / length)
+    (760 / length).min(1 + (8 + padding / 32) / length)
 }
 
 // A pattern is first written down, with seven bytes more, so that all parts are whole words. To write a byte takes about half as long as
@@ -165,21 +151,21 @@ fn counted(padding: &[u8], pattern: &[u8]) -> Tally
     compared(padding, &room[..size + 7], size)
 }
 
-// `xor_popcount_and_max_burst`. Padding above 65,535 bytes is refused with 14; an empty pattern counts nothing.
-pub fn xor_popcount_and_max_burst(padding: &[u8], pattern: &[u8]) -> Comparison
-    ensures { outcome result ≡ comparison padding.now pattern.now }
+// `xor_popcount_and_max_burst`. Padding above 65,535 bytes is refused; an empty pattern counts nothing.
+pub fn xor_popcount_and_max_burst(padding: &[u8], pattern: &[u8]) -> Result<BitErrors, Refusal>
+    ensures { result ≡ comparison padding.now pattern.now }
 {
     if padding.len() > request_limits::MOST_PADDING {
-        return Comparison::Refused;
+        return Err(Refusal::TooMuchPadding);
     }
-    if pattern.len() == 0 {
-        return Comparison::Counted(BitErrors {
+    if pattern.is_empty() {
+        return Ok(BitErrors {
             errors: 0,
             longest: 0,
         });
     }
     let t = counted(padding, pattern);
-    Comparison::Counted(BitErrors {
+    Ok(BitErrors {
         errors: t.errors,
         longest: t.longest,
     })

@@ -1,4 +1,6 @@
 -- Choices, parts of the bytes, and the walk over the items: what the proofs of the functions cite. Assumes nothing.
+use Rattle.std.specs.Prelude.{Option, Some, None, Ok, Err}
+use Rattle.limits.specs.declared.Refusal.{Refusal}
 use mathlib.Core.Path.{◌≡◌, refl, sym, ap, ap₂, ◌∙◌}
 use mathlib.Core.Bool.{Bool, true, false, not, ◌&&◌, ◌||◌}
 use mathlib.Core.List.{List, [], ◌∷◌}
@@ -6,17 +8,14 @@ use Prim.Native.Nat.{ℕ, zero, suc, ◌+◌, ◌-◌, ◌*◌, ◌≤◌, ◌<�
 use native.Mathlib.Numerals.{add-one}
 use native.Mathlib.Omega.{arith}
 use lib.Dec.{ltb, eqb}
+use lib.Pointwise.{pointwise}
 use lib.ListN.{length, get_or, take, drop, length-take, length-drop}
 use lib.Seq.{take-nil, drop-nil, drop-cons}
 use borrow.Author.Tests.{lt-ltb, le-ltb, eq-eqb, ne_eqb, ltb-true, ltb-false}
 use Rattle.big_endian.specs.Numbers.{number_at}
 use Rattle.request_limits.specs.Refusals.{most_padding}
 use Rattle.bit_errors.specs.declared.BitErrors.{BitErrors}
-use Rattle.bit_errors.specs.declared.Comparison.{Comparison}
-use Rattle.bit_errors.specs.declared.Comparison.TheVariants as comparison-of
-use Rattle.bit_errors.specs.Errors.{Outcome, outcome, comparison}
-use Rattle.bit_observation.specs.declared.Field.{Field}
-use Rattle.bit_observation.specs.declared.Field.TheVariants.{Absent, Known}
+use Rattle.bit_errors.specs.Errors.{comparison, counts_of}
 use Rattle.bit_observation.specs.declared.Part.{Part}
 use Rattle.bit_observation.specs.declared.Seen.{Seen}
 use Rattle.bit_observation.specs.declared.Reading.{Reading}
@@ -65,34 +64,12 @@ value-length bytes word p h = sym (ap length h.value) ∙ part_length bytes p.fr
 
 -- ---- bytes that are the same
 
-pub other_length : (a b : List ℕ) → (length a ≡ length b → ⊥) → false ≡ same_bytes a b
+pub same_all : (a b : List ℕ) → pointwise eqb a b ≡ same_bytes a b
 unfolding same_bytes
-other_length [] [] h = absurd (h refl)
-other_length [] (y ∷ m) h = refl
-other_length (x ∷ l) [] h = refl
-other_length (x ∷ l) (y ∷ m) h = by (eqb x y) (other_length l m (λ e. h (ap suc e)))
-  where
-    by : (t : Bool) → false ≡ same_bytes l m → false ≡ t && same_bytes l m
-    by true e = e
-    by false e = refl
-
-module _ (a b : List ℕ) (i : ℕ) (h : i < length a) (k : i < length b) where
-  pub same_step : get_or a i 0 ≡ get_or b i 0 → same_bytes (drop i a) (drop i b) ≡ same_bytes (drop (i + 1) a) (drop (i + 1) b)
-  unfolding same_bytes
-  same_step e =
-      ap₂ same_bytes (drop-cons a i 0 h) (drop-cons b i 0 k)
-      ∙ ap (λ (t : Bool). t && same_bytes (drop (suc i) a) (drop (suc i) b)) (eq-eqb (get_or a i 0) (get_or b i 0) e)
-      ∙ ap (λ (n : ℕ). same_bytes (drop n a) (drop n b)) (sym (add-one i))
-
-  pub same_stop : (get_or a i 0 ≡ get_or b i 0 → ⊥) → same_bytes (drop i a) (drop i b) ≡ false
-  unfolding same_bytes
-  same_stop e =
-      ap₂ same_bytes (drop-cons a i 0 h) (drop-cons b i 0 k)
-      ∙ ap (λ (t : Bool). t && same_bytes (drop (suc i) a) (drop (suc i) b)) (ne_eqb (get_or a i 0) (get_or b i 0) e)
-
-pub same_end : (a b : List ℕ) (i : ℕ) → length a ≤ i → length b ≤ i → same_bytes (drop i a) (drop i b) ≡ true
-unfolding same_bytes
-same_end a b i h k = ap₂ same_bytes (drop_beyond i a h) (drop_beyond i b k)
+same_all [] [] = refl
+same_all [] (y ∷ m) = refl
+same_all (x ∷ l) [] = refl
+same_all (x ∷ l) (y ∷ m) = ap (λ (t : Bool). eqb x y && t) (same_all l m)
 
 -- ---- an item that failed
 
@@ -114,9 +91,9 @@ failed-none items at h = ap failed (drop_beyond at items h)
 
 module _ (s : Seen) (value : List ℕ) where
   pub count-once : (n : ℕ) → length value ≡ 4 → is_absent s.count ≡ true → n ≡ number_at 2 value 0
-      → On (record { pattern = s.pattern; padding = s.padding; count = Known n; burst = s.burst }) ≡ with_count s value
+      → On (record { pattern = s.pattern; padding = s.padding; count = Some n; burst = s.burst }) ≡ with_count s value
   count-once n h a e =
-      rw (eq-eqb (length value) 4 h, a) (ap (λ (m : ℕ). On (record { pattern = s.pattern; padding = s.padding; count = Known m; burst = s.burst })) e)
+      rw (eq-eqb (length value) 4 h, a) (ap (λ (m : ℕ). On (record { pattern = s.pattern; padding = s.padding; count = Some m; burst = s.burst })) e)
 
   pub count_again : length value ≡ 4 → is_absent s.count ≡ false → Unusable ≡ with_count s value
   count_again h a = rw (eq-eqb (length value) 4 h, a)
@@ -125,9 +102,9 @@ module _ (s : Seen) (value : List ℕ) where
   count-wrong h = rw (ne_eqb (length value) 4 h)
 
   pub burst-once : (n : ℕ) → length value ≡ 4 → is_absent s.burst ≡ true → n ≡ number_at 2 value 0
-      → On (record { pattern = s.pattern; padding = s.padding; count = s.count; burst = Known n }) ≡ with_burst s value
+      → On (record { pattern = s.pattern; padding = s.padding; count = s.count; burst = Some n }) ≡ with_burst s value
   burst-once n h a e =
-      rw (eq-eqb (length value) 4 h, a) (ap (λ (m : ℕ). On (record { pattern = s.pattern; padding = s.padding; count = s.count; burst = Known m })) e)
+      rw (eq-eqb (length value) 4 h, a) (ap (λ (m : ℕ). On (record { pattern = s.pattern; padding = s.padding; count = s.count; burst = Some m })) e)
 
   pub burst_again : length value ≡ 4 → is_absent s.burst ≡ false → Unusable ≡ with_burst s value
   burst_again h a = rw (eq-eqb (length value) 4 h, a)
@@ -208,7 +185,7 @@ module _ (bytes pattern : List ℕ) (r : Reading) (items : List ℕ) (at : ℕ) 
 
 -- ---- the end
 
-module _ (wanted : Bool) (count n : ℕ) (burst : Field) (is : burst ≡ Known n) where
+module _ (wanted : Bool) (count n : ℕ) (burst : Option ℕ) (is : burst ≡ Some n) where
   pub burst_more : count < n → false ≡ burst_fits wanted count burst
   unfolding burst_fits
   burst_more h = rw (is, lt-ltb count n h)
@@ -221,32 +198,27 @@ module _ (wanted : Bool) (count n : ℕ) (burst : Field) (is : burst ≡ Known n
   unfolding burst_fits
   burst_some h z = rw (is, le-ltb count n h, ne_eqb n 0 z)
 
-pub burst-absent : (wanted : Bool) (count : ℕ) (burst : Field) → burst ≡ Absent → not wanted ≡ burst_fits wanted count burst
+pub burst-absent : (wanted : Bool) (count : ℕ) (burst : Option ℕ) → burst ≡ None → not wanted ≡ burst_fits wanted count burst
 unfolding burst_fits
 burst-absent wanted count burst is = rw is
 
 module _ (value pattern : List ℕ) where
-  never : length value ≤ 65535 → (comparison value pattern).number ≡ 0
+  pub not_refused : (e : Refusal) → Err e ≡ comparison value pattern → length value ≤ 65535 → ⊥
   unfolding comparison
-  never h = rw (le-ltb most_padding (length value) h)
-
-  pub not_refused : (r : Comparison) → r ≡ comparison-of.Refused → outcome r ≡ comparison value pattern → length value ≤ 65535 → ⊥
-  not_refused r is e h = no_number (ap (λ (a : Comparison). (outcome a).number) (sym is) ∙ ap (λ (o : Outcome). o.number) e ∙ never h)
+  not_refused e is h = no (rw (le-ltb most_padding (length value) h) at is)
     where
-      no_number : ◌≡◌ {A = ℕ} 14 0 → ⊥
-      no_number e = omega arith
+      no : {c : BitErrors} → Err e ≡ Ok c → ⊥
+      no z = cc
 
-  pub counted_is : (n : ℕ) (burst : Field) (found : BitErrors) (r : Comparison) → r ≡ comparison-of.Counted found → outcome r ≡ comparison value pattern
+  pub counted_is : (n : ℕ) (burst : Option ℕ) (found : BitErrors) → Ok found ≡ comparison value pattern
       → observed-as.Sampled (record { bits = length value * 8; forward = n; burst = burst; reverse = found.errors; longest = found.longest }) ≡ sampled value pattern n burst
-  counted_is n burst found r is e =
-      let f : outcome (comparison-of.Counted found) ≡ comparison value pattern = ap outcome (sym is) ∙ e in
-      λ i. observed-as.Sampled (record { bits = length value * 8; forward = n; burst = burst; reverse = (f i).errors; longest = (f i).longest })
+  counted_is n burst found e = let f = ap counts_of e in λ i. observed-as.Sampled (record { bits = length value * 8; forward = n; burst = burst; reverse = (f i).errors; longest = (f i).longest })
 
-  module _ (wanted : Bool) (count burst : Field) where
-    pub no_count : count ≡ Absent → observed-as.Unusable ≡ count_judged value pattern wanted count burst
+  module _ (wanted : Bool) (count burst : Option ℕ) where
+    pub no_count : count ≡ None → observed-as.Unusable ≡ count_judged value pattern wanted count burst
     no_count is = rw is
 
-    module _ (n : ℕ) (is : count ≡ Known n) where
+    module _ (n : ℕ) (is : count ≡ Some n) where
       pub too_many : length value * 8 < n → observed-as.Unusable ≡ count_judged value pattern wanted count burst
       too_many h = rw (is, lt-ltb (length value * 8) n h)
 
@@ -257,11 +229,11 @@ module _ (value pattern : List ℕ) where
       good h b e = rw (is, le-ltb (length value * 8) n h, b) e
 
 module _ (bytes pattern : List ℕ) (size : ℕ) (wanted : Bool) (s : Seen) where
-  pub no_padding : s.padding ≡ Absent → observed-as.Unusable ≡ judged bytes pattern size wanted s
+  pub no_padding : s.padding ≡ None → observed-as.Unusable ≡ judged bytes pattern size wanted s
   unfolding judged
   no_padding is = rw is
 
-  module _ (w : ℕ) (is : s.padding ≡ Known w) (p : Part) (at : PartOf bytes w p) where
+  module _ (w : ℕ) (is : s.padding ≡ Some w) (p : Part) (at : PartOf bytes w p) where
     pub other_size : (p.end - p.from ≡ size → ⊥) → observed-as.Unusable ≡ judged bytes pattern size wanted s
     unfolding judged
     other_size h = rw (is, ne_eqb (length (value_of bytes w)) size (λ e. h (sym (value-length bytes w p at) ∙ e)))

@@ -1,21 +1,19 @@
 -- The walk of `observation` over the items, in the source's order of tests. Assumes nothing.
-use Rattle.std.specs.Prelude.{Bool, true, false, ◌&&◌, ◌||◌, cond, List, [], ◌∷◌, ℕ, eqb, length}
+use Rattle.std.specs.Prelude.{Bool, true, false, ◌&&◌, ◌||◌, cond, List, [], ◌∷◌, ℕ, eqb, length, Option, Some, None}
 use Rattle.big_endian.specs.Numbers.{number_at}
-use Rattle.bit_observation.specs.declared.Field.{Field}
-use Rattle.bit_observation.specs.declared.Field.TheVariants.{Absent, Known}
 use Rattle.bit_observation.specs.declared.Seen.{Seen}
 use Rattle.bit_observation.specs.declared.Reading.{Reading}
 use Rattle.bit_observation.specs.declared.Reading.TheVariants.{On, Ended, Unsupported, Unusable}
 use Rattle.bit_observation.specs.Items.{flag_of, kind_of, value_of, same_bytes, is_ber, is_ours}
 
 -- no item told it yet
-abbrev pub is_absent : Field → Bool
-is_absent Absent = true
-is_absent (Known n) = false
+abbrev pub is_absent : Option ℕ → Bool
+is_absent None = true
+is_absent (Some n) = false
 
 -- nothing was read yet
 abbrev pub nothing : Seen
-nothing = record { pattern = false; padding = Absent; count = Absent; burst = Absent }
+nothing = record { pattern = false; padding = None; count = None; burst = None }
 
 -- the pattern, once and equal to the one that was sent
 abbrev pub with_pattern : Seen → (value pattern : List ℕ) → Reading
@@ -24,20 +22,20 @@ with_pattern s value pattern =
 
 -- the padding, once
 abbrev pub with_padding : Seen → ℕ → Reading
-with_padding s word = cond (is_absent s.padding) (On (record { pattern = s.pattern; padding = Known word; count = s.count; burst = s.burst })) Unusable
+with_padding s word = cond (is_absent s.padding) (On (record { pattern = s.pattern; padding = Some word; count = s.count; burst = s.burst })) Unusable
 
 -- a count of four bytes, once
 abbrev pub with_count : Seen → List ℕ → Reading
 with_count s value =
     cond (eqb (length value) 4)
-    (cond (is_absent s.count) (On (record { pattern = s.pattern; padding = s.padding; count = Known (number_at 2 value 0); burst = s.burst })) Unusable)
+    (cond (is_absent s.count) (On (record { pattern = s.pattern; padding = s.padding; count = Some (number_at 2 value 0); burst = s.burst })) Unusable)
     Unusable
 
 -- a burst of four bytes, once
 abbrev pub with_burst : Seen → List ℕ → Reading
 with_burst s value =
     cond (eqb (length value) 4)
-    (cond (is_absent s.burst) (On (record { pattern = s.pattern; padding = s.padding; count = s.count; burst = Known (number_at 2 value 0) })) Unusable)
+    (cond (is_absent s.burst) (On (record { pattern = s.pattern; padding = s.padding; count = s.count; burst = Some (number_at 2 value 0) })) Unusable)
     Unusable
 
 -- what an item of one of the four types leaves

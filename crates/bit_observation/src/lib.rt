@@ -1,28 +1,21 @@
 // `observation` of src/ber.rs: the sample that a reply's items make, that its sender does not do this, or nothing. An item of the
 // extension area (RFC 8972, 4) is one word: its header's four bytes as they stand in the packet, flags, type and length, then the
 // place where its value begins. A value reaches as far as the bytes do. The list has the items in the packet's order, HMAC too.
-ghost use Rattle.std.specs.Prelude.{◌≡◌, Bool, not, ◌-◌, ◌/◌, ◌%◌, ◌≤◌, ◌<◌, ◌^◌, min, length, take, drop};
+ghost use Rattle.std.specs.Prelude.{◌≡◌, Bool, not, ◌-◌, ◌/◌, ◌%◌, ◌≤◌, ◌<◌, ◌^◌, length, take, drop};
 ghost use Rattle.bit_observation.specs.Items.{flag_of, kind_of, length_of, start_of, value_of, same_bytes, is_ber, is_ours, PartOf};
 ghost use Rattle.bit_observation.specs.declared.Reading.TheVariants.{On};
 ghost use Rattle.bit_observation.specs.Observation.{failed, burst_fits, sampled, count_judged, judged, ending, observed};
 ghost use Rattle.bit_observation.specs.Reading.{is_absent, nothing, with_pattern, with_padding, with_count, with_burst, noted, step_of, turned, read_all};
 
-use bit_errors::Comparison;
-
-// A field that was read, or none.
-#[derive(Clone, Copy)]
-pub enum Field {
-    Absent,
-    Known(u64),
-}
+use limits::Refusal;
 
 // What was read so far: whether the pattern was there, the item of the padding, the count and the burst.
 #[derive(Clone, Copy)]
 pub struct Seen {
     pub pattern: bool,
-    pub padding: Field,
-    pub count: Field,
-    pub burst: Field,
+    pub padding: Option<u64>,
+    pub count: Option<u64>,
+    pub burst: Option<u64>,
 }
 
 // Reading goes on, ended at a malformed item, or has its answer.
@@ -39,15 +32,14 @@ pub enum Reading {
 pub struct Sample {
     pub bits: u64,
     pub forward: u64,
-    pub burst: Field,
+    pub burst: Option<u64>,
     pub reverse: u32,
     pub longest: u32,
 }
 
-// Refusal 14; `None`; or one of the two observations.
+// `None`, or one of the two observations.
 #[derive(Clone, Copy)]
 pub enum Observed {
-    Refused,
     Unusable,
     Unsupported,
     Sampled(Sample),
@@ -74,21 +66,15 @@ fn kind_of(word: u64) -> u64
     word / 281474976710656 % 256
 }
 
-fn smaller(a: usize, b: usize) -> usize
-    ensures { result ≡ min a b }
-{
-    if a < b { a } else { b }
-}
-
 fn place(bytes: &[u8], word: u64) -> Part
     ensures { PartOf bytes.now word result }
 {
     let start = (word % 4294967296) as usize;
     let length = (word / 4294967296 % 65536) as usize;
-    let from = smaller(start, bytes.len());
-    let taken = smaller(length, bytes.len() - from);
+    let from = start.min(bytes.len());
+    let taken = length.min(bytes.len() - from);
     Part {
-        from: from,
+        from,
         end: from + taken,
     }
 }
@@ -96,43 +82,28 @@ fn place(bytes: &[u8], word: u64) -> Part
 fn same(a: &[u8], b: &[u8]) -> bool
     ensures { result ≡ same_bytes a.now b.now }
 {
-    if a.len() != b.len() {
-        return false;
-    }
-    let mut i = 0;
-    while i < a.len() {
-        if a[i] != b[i] {
-            return false;
-        }
-        i += 1;
-    }
-    true
+    a == b
 }
 
-fn absent(field: Field) -> bool
+fn absent(field: Option<u64>) -> bool
     ensures { result ≡ is_absent field }
 {
     match field {
-        Field::Absent => true,
-        Field::Known(value) => false,
+        None => true,
+        Some(value) => false,
     }
 }
 
 fn with_pattern(seen: Seen, value: &[u8], pattern: &[u8]) -> Reading
     ensures { result ≡ with_pattern seen value.now pattern.now }
 {
-    let padding = seen.padding;
-    let count = seen.count;
-    let burst = seen.burst;
     if seen.pattern {
         return Reading::Unusable;
     }
     if same(value, pattern) {
         return Reading::On(Seen {
             pattern: true,
-            padding,
-            count,
-            burst,
+            ..seen
         });
     }
     Reading::Unusable
@@ -141,16 +112,10 @@ fn with_pattern(seen: Seen, value: &[u8], pattern: &[u8]) -> Reading
 fn with_padding(seen: Seen, word: u64) -> Reading
     ensures { result ≡ with_padding seen word }
 {
-    let padding = seen.padding;
-    let count = seen.count;
-    let burst = seen.burst;
-    if absent(padding) {
-        let first = Field::Known(word);
+    if absent(seen.padding) {
         return Reading::On(Seen {
-            pattern: seen.pattern,
-            padding: first,
-            count,
-            burst,
+            padding: Some(word),
+            ..seen
         });
     }
     Reading::Unusable
@@ -159,17 +124,11 @@ fn with_padding(seen: Seen, word: u64) -> Reading
 fn with_count(seen: Seen, value: &[u8]) -> Reading
     ensures { result ≡ with_count seen value.now }
 {
-    let padding = seen.padding;
-    let count = seen.count;
-    let burst = seen.burst;
     if value.len() == 4 {
-        if absent(count) {
-            let first = Field::Known(big_endian::u32_at(value, 0) as u64);
+        if absent(seen.count) {
             return Reading::On(Seen {
-                pattern: seen.pattern,
-                padding,
-                count: first,
-                burst,
+                count: Some(big_endian::u32_at(value, 0) as u64),
+                ..seen
             });
         }
         return Reading::Unusable;
@@ -180,17 +139,11 @@ fn with_count(seen: Seen, value: &[u8]) -> Reading
 fn with_burst(seen: Seen, value: &[u8]) -> Reading
     ensures { result ≡ with_burst seen value.now }
 {
-    let padding = seen.padding;
-    let count = seen.count;
-    let burst = seen.burst;
     if value.len() == 4 {
-        if absent(burst) {
-            let first = Field::Known(big_endian::u32_at(value, 0) as u64);
+        if absent(seen.burst) {
             return Reading::On(Seen {
-                pattern: seen.pattern,
-                padding,
-                count,
-                burst: first,
+                burst: Some(big_endian::u32_at(value, 0) as u64),
+                ..seen
             });
         }
         return Reading::Unusable;
@@ -203,18 +156,13 @@ fn note(seen: Seen, word: u64, bytes: &[u8], pattern: &[u8]) -> Reading
 {
     let kind = kind_of(word);
     let part = place(bytes, word);
-    let from = part.from;
-    let end = part.end;
-    if kind == 240 {
-        return with_pattern(seen, &bytes[from..end], pattern);
+    let value = &bytes[part.from..part.end];
+    match kind {
+        240 => with_pattern(seen, value, pattern),
+        241 => with_count(seen, value),
+        242 => with_burst(seen, value),
+        _ => with_padding(seen, word),
     }
-    if kind == 241 {
-        return with_count(seen, &bytes[from..end]);
-    }
-    if kind == 242 {
-        return with_burst(seen, &bytes[from..end]);
-    }
-    with_padding(seen, word)
 }
 
 fn is_ber(kind: u64) -> bool
@@ -264,14 +212,12 @@ fn read_all(items: &[u64], bytes: &[u8], pattern: &[u8]) -> Reading
 {
     let mut reading = Reading::On(Seen {
         pattern: false,
-        padding: Field::Absent,
-        count: Field::Absent,
-        burst: Field::Absent,
+        padding: None,
+        count: None,
+        burst: None,
     });
-    let mut at: usize = 0;
-    while at < items.len() {
-        reading = turn(reading, items[at], bytes, pattern);
-        at += 1;
+    for word in items {
+        reading = turn(reading, *word, bytes, pattern);
     }
     reading
 }
@@ -279,21 +225,19 @@ fn read_all(items: &[u64], bytes: &[u8], pattern: &[u8]) -> Reading
 fn any_failed(items: &[u64]) -> bool
     ensures { result ≡ failed items.now }
 {
-    let mut at: usize = 0;
-    while at < items.len() {
-        if flag(items[at], 61) {
+    for word in items {
+        if flag(*word, 61) {
             return true;
         }
-        at += 1;
     }
     false
 }
 
-fn burst_fits(wanted: bool, count: u64, burst: Field) -> bool
+fn burst_fits(wanted: bool, count: u64, burst: Option<u64>) -> bool
     ensures { result ≡ burst_fits wanted count burst }
 {
     match burst {
-        Field::Known(n) => {
+        Some(n) => {
             if n > count {
                 return false;
             }
@@ -302,35 +246,40 @@ fn burst_fits(wanted: bool, count: u64, burst: Field) -> bool
             }
             !(count == 0)
         }
-        Field::Absent => !wanted,
+        None => !wanted,
     }
 }
 
-fn counted(value: &[u8], pattern: &[u8], count: u64, burst: Field) -> Observed
+fn counted(value: &[u8], pattern: &[u8], count: u64, burst: Option<u64>) -> Observed
     requires { length value.now ≤ 65535 }
     ensures { result ≡ sampled value.now pattern.now count burst }
 {
     let bits = value.len() as u64 * 8;
-    let answer = bit_errors::xor_popcount_and_max_burst(value, pattern);
-    match answer {
-        Comparison::Refused => Observed::Refused,
-        Comparison::Counted(found) => Observed::Sampled(Sample {
-            bits: bits,
+    match bit_errors::xor_popcount_and_max_burst(value, pattern) {
+        Ok(found) => Observed::Sampled(Sample {
+            bits,
             forward: count,
-            burst: burst,
+            burst,
             reverse: found.errors,
             longest: found.longest,
         }),
+        Err(_) => unreachable!(),
     }
 }
 
 // The padding was found and has its size: the count, the burst, then the bits.
-fn judge_count(value: &[u8], pattern: &[u8], wanted: bool, count: Field, burst: Field) -> Observed
+fn judge_count(
+    value: &[u8],
+    pattern: &[u8],
+    wanted: bool,
+    count: Option<u64>,
+    burst: Option<u64>,
+) -> Observed
     requires { length value.now ≤ 65535 }
     ensures { result ≡ count_judged value.now pattern.now wanted count burst }
 {
     match count {
-        Field::Known(n) => {
+        Some(n) => {
             let bits = value.len() as u64 * 8;
             if n > bits {
                 return Observed::Unusable;
@@ -340,7 +289,7 @@ fn judge_count(value: &[u8], pattern: &[u8], wanted: bool, count: Field, burst: 
             }
             Observed::Unusable
         }
-        Field::Absent => Observed::Unusable,
+        None => Observed::Unusable,
     }
 }
 
@@ -352,7 +301,7 @@ fn judge(seen: Seen, bytes: &[u8], pattern: &[u8], size: usize, wanted: bool) ->
     let count = seen.count;
     let burst = seen.burst;
     match padding {
-        Field::Known(word) => {
+        Some(word) => {
             let part = place(bytes, word);
             let from = part.from;
             let end = part.end;
@@ -364,7 +313,7 @@ fn judge(seen: Seen, bytes: &[u8], pattern: &[u8], size: usize, wanted: bool) ->
             }
             Observed::Unusable
         }
-        Field::Absent => Observed::Unusable,
+        None => Observed::Unusable,
     }
 }
 
@@ -381,7 +330,7 @@ fn finish(reading: Reading, bytes: &[u8], pattern: &[u8], size: usize, wanted: b
 }
 
 // `intact` is the sender's verdict on the reply's HMAC, `size` the padding that it sends, `wanted` whether it asks for bursts.
-// Refused with 14, before all else, for a size above 65,535.
+// Refused, before all else, for a size above 65,535.
 pub fn observation(
     items: &[u64],
     bytes: &[u8],
@@ -389,18 +338,18 @@ pub fn observation(
     size: usize,
     intact: bool,
     wanted: bool,
-) -> Observed
+) -> Result<Observed, Refusal>
     ensures { result ≡ observed items.now bytes.now pattern.now size intact wanted }
 {
     if size > request_limits::MOST_PADDING {
-        return Observed::Refused;
+        return Err(Refusal::TooMuchPadding);
     }
     if intact {
         if any_failed(items) {
-            return Observed::Unusable;
+            return Ok(Observed::Unusable);
         }
         let reading = read_all(items, bytes, pattern);
-        return finish(reading, bytes, pattern, size, wanted);
+        return Ok(finish(reading, bytes, pattern, size, wanted));
     }
-    Observed::Unusable
+    Ok(Observed::Unusable)
 }

@@ -1,4 +1,6 @@
 -- The prefix, all digits, and the bytes of the digits: what the proofs of the functions cite. Assumes nothing.
+use Rattle.std.specs.Prelude.{Ok, Err}
+use Rattle.limits.specs.declared.Refusal.TheVariants as refusal
 use mathlib.Core.Path.{◌≡◌, refl, sym, ap, ◌∙◌, subst}
 use mathlib.Core.Bool.{Bool, true, false, ◌&&◌, cond}
 use mathlib.Core.List.{List, [], ◌∷◌, ◌++◌}
@@ -11,7 +13,6 @@ use lib.Ieee.Fits.{and_l}
 use lib.ListN.{length, get_or, set, drop}
 use lib.Seq.{drop-cons, drop-length, paste, paste-suc, take_all}
 use borrow.Author.Tests.{lt-ltb, le-ltb, eq-eqb, ne_eqb}
-use Rattle.bit_pattern.specs.declared.Parsing.TheVariants.{BadPattern, ShortRoom, Parsed}
 use Rattle.bit_pattern.specs.Pattern.{digit_of, after_prefix, all_digits, bytes_of, outcome, decoded}
 use Rattle.bit_pattern.proofs.Digits.{digit-most}
 
@@ -112,24 +113,24 @@ all_put room ds r at h e =
 -- ---- the answers
 
 module _ (digits room : List ℕ) where
-  pub empty : length digits ≡ 0 → outcome BadPattern room ≡ decoded digits room
+  pub empty : length digits ≡ 0 → outcome (Err refusal.BadPattern) room ≡ decoded digits room
   unfolding decoded
   empty h = rw (eq-eqb (length digits) 0 h)
 
-  pub odd : (length digits ≡ 0 → ⊥) → length digits % 2 ≡ 1 → outcome BadPattern room ≡ decoded digits room
+  pub odd : (length digits ≡ 0 → ⊥) → length digits % 2 ≡ 1 → outcome (Err refusal.BadPattern) room ≡ decoded digits room
   unfolding decoded
   odd h k = rw (ne_eqb (length digits) 0 h, eq-eqb (length digits % 2) 1 k)
 
   module _ (h : length digits ≡ 0 → ⊥) (k : length digits % 2 ≡ 1 → ⊥) where
-    pub another_character : all_digits digits ≡ false → outcome BadPattern room ≡ decoded digits room
+    pub another_character : all_digits digits ≡ false → outcome (Err refusal.BadPattern) room ≡ decoded digits room
     unfolding decoded
     another_character a = rw (ne_eqb (length digits) 0 h, ne_eqb (length digits % 2) 1 k, a)
 
-    pub short : all_digits digits ≡ true → length room < length digits / 2 → outcome ShortRoom room ≡ decoded digits room
+    pub short : all_digits digits ≡ true → length room < length digits / 2 → outcome (Err refusal.ShortRoom) room ≡ decoded digits room
     unfolding decoded
     short a l = rw (ne_eqb (length digits) 0 h, ne_eqb (length digits % 2) 1 k, a, lt-ltb (length room) (length digits / 2) l)
 
     pub fits : (after : List ℕ) → all_digits digits ≡ true → length digits / 2 ≤ length room → after ≡ bytes_of digits ++ drop (length digits / 2) room
-        → outcome (Parsed (length digits / 2)) after ≡ decoded digits room
+        → outcome (Ok (length digits / 2)) after ≡ decoded digits room
     unfolding decoded
-    fits after a l e = rw (ne_eqb (length digits) 0 h, ne_eqb (length digits % 2) 1 k, a, le-ltb (length room) (length digits / 2) l) (ap (outcome (Parsed (length digits / 2))) e)
+    fits after a l e = rw (ne_eqb (length digits) 0 h, ne_eqb (length digits % 2) 1 k, a, le-ltb (length room) (length digits / 2) l) (ap (outcome (Ok (length digits / 2))) e)

@@ -1,8 +1,7 @@
 -- `parse_pattern` of src/ber.rs over the bytes of a text, which need not be UTF-8. Assumes nothing.
-use Rattle.std.specs.Prelude.{Bool, true, ◌&&◌, ◌||◌, not, cond, List, [], ◌∷◌, ◌++◌, ℕ, ◌+◌, ◌-◌, ◌*◌, ◌/◌, ◌%◌, ltb, eqb, length, get_or, drop}
-use Rattle.request_limits.specs.Refusals.{short_room, bad_pattern}
-use Rattle.bit_pattern.specs.declared.Parsing.{Parsing}
-use Rattle.bit_pattern.specs.declared.Parsing.TheVariants.{BadPattern, ShortRoom, Parsed}
+use Rattle.std.specs.Prelude.{Bool, true, ◌&&◌, ◌||◌, not, cond, List, [], ◌∷◌, ◌++◌, ℕ, ◌+◌, ◌-◌, ◌*◌, ◌/◌, ◌%◌, ltb, eqb, length, get_or, drop, Result, Ok, Err}
+use Rattle.limits.specs.declared.Refusal.{Refusal}
+use Rattle.limits.specs.declared.Refusal.TheVariants as refusal
 
 -- the value of a hexadecimal digit, '0' to '9', 'A' to 'F', 'a' to 'f'; 16 for any other byte
 unfoldable pub digit_of : ℕ → ℕ
@@ -29,28 +28,25 @@ bytes_of [] = []
 bytes_of (a ∷ []) = []
 bytes_of (a ∷ b ∷ bs) = (digit_of a * 16 + digit_of b) ∷ bytes_of bs
 
--- what a call comes to: its number, 0 where it is served, how many bytes were written, and the room
+-- what a call comes to: how many bytes were written, or why none, and the room
 pub record Outcome : Type 0 where
-  pub number : ℕ
-  pub count : ℕ
+  pub answer : Result ℕ Refusal
   pub room : List ℕ
 
--- the number and the value of each answer, with what the room then holds
-abbrev pub outcome : Parsing → List ℕ → Outcome
-outcome BadPattern room = record { number = bad_pattern; count = 0; room = room }
-outcome ShortRoom room = record { number = short_room; count = 0; room = room }
-outcome (Parsed n) room = record { number = 0; count = n; room = room }
+-- an answer, with what the room then holds
+abbrev pub outcome : Result ℕ Refusal → List ℕ → Outcome
+outcome a room = record { answer = a; room = room }
 
 -- empty, an odd number of digits, or a character that is not hexadecimal
 abbrev pub bad : List ℕ → Bool
 bad digits = eqb (length digits) 0 || eqb (length digits % 2) 1 || not (all_digits digits)
 
--- refusal 13 for bad digits, then 12 for too short a room; else the bytes stand at the start of the room, and the rest of it stays
+-- refused for bad digits, then for too short a room; else the bytes stand at the start of the room, and the rest of it stays
 unfoldable pub decoded : (digits room : List ℕ) → Outcome
 decoded digits room =
-    cond (bad digits) (outcome BadPattern room)
-    (cond (ltb (length room) (length digits / 2)) (outcome ShortRoom room)
-    (outcome (Parsed (length digits / 2)) (bytes_of digits ++ drop (length digits / 2) room)))
+    cond (bad digits) (outcome (Err refusal.BadPattern) room)
+    (cond (ltb (length room) (length digits / 2)) (outcome (Err refusal.ShortRoom) room)
+    (outcome (Ok (length digits / 2)) (bytes_of digits ++ drop (length digits / 2) room)))
 
 -- the digits of a text are what stands behind its prefix
 unfoldable pub parsed : (text room : List ℕ) → Outcome

@@ -3,13 +3,7 @@
 ghost use Rattle.std.specs.Prelude.{◌≡◌, true, ◌++◌, ◌+◌, ◌*◌, ◌/◌, ◌%◌, ◌≤◌, ◌<◌, length, drop};
 ghost use Rattle.bit_pattern.specs.Pattern.{digit_of, after_prefix, all_digits, bytes_of, outcome, decoded, parsed};
 
-// The answer of `parse_pattern`: refusal 13, refusal 12, or how many bytes were written.
-#[derive(Clone, Copy)]
-pub enum Parsing {
-    BadPattern,
-    ShortRoom,
-    Parsed(usize),
-}
+use limits::Refusal;
 
 // The value of a digit; 16 for any other byte.
 fn digit_of(byte: u8) -> u8
@@ -54,12 +48,10 @@ fn prefix_length(text: &[u8]) -> usize
 fn all_digits(text: &[u8]) -> bool
     ensures { result ≡ all_digits text.now }
 {
-    let mut at: usize = 0;
-    while at < text.len() {
-        if digit_of(text[at]) == 16 {
+    for byte in text {
+        if digit_of(*byte) == 16 {
             return false;
         }
-        at += 1;
     }
     true
 }
@@ -77,38 +69,35 @@ fn put_bytes(digits: &[u8], room: &mut [u8])
     requires { (all_digits digits.now ≡ true) × (length digits.now % 2 ≡ 0) × (length digits.now / 2 ≤ length room.old) }
     ensures { room.new ≡ bytes_of digits.now ++ drop (length digits.now / 2) room.old }
 {
-    let count = digits.len() / 2;
-    let mut at: usize = 0;
-    while at < count {
+    for at in 0..digits.len() / 2 {
         room[at] = byte_of(digits[2 * at], digits[2 * at + 1]);
-        at += 1;
     }
 }
 
 // The digits of a text to bytes, once the prefix is off.
-fn decode(digits: &[u8], room: &mut [u8]) -> Parsing
+fn decode(digits: &[u8], room: &mut [u8]) -> Result<usize, Refusal>
     ensures { outcome result room.new ≡ decoded digits.now room.old }
 {
     if digits.len() == 0 {
-        return Parsing::BadPattern;
+        return Err(Refusal::BadPattern);
     }
     if digits.len() % 2 == 1 {
-        return Parsing::BadPattern;
+        return Err(Refusal::BadPattern);
     }
     if all_digits(digits) {
         let count = digits.len() / 2;
         if room.len() < count {
-            return Parsing::ShortRoom;
+            return Err(Refusal::ShortRoom);
         }
         put_bytes(digits, room);
-        return Parsing::Parsed(count);
+        return Ok(count);
     }
-    Parsing::BadPattern
+    Err(Refusal::BadPattern)
 }
 
-// Refused with 13 for a text that is empty behind the prefix, has an odd number of digits or a character that is not hexadecimal; then
-// with 12 for a room shorter than its bytes. Else the bytes stand at the start of the room.
-pub fn parse_pattern(text: &[u8], room: &mut [u8]) -> Parsing
+// Refused for a text that is empty behind the prefix, has an odd number of digits or a character that is not hexadecimal; then for a room
+// shorter than its bytes. Else the bytes stand at the start of the room, and the answer says how many they are.
+pub fn parse_pattern(text: &[u8], room: &mut [u8]) -> Result<usize, Refusal>
     ensures { outcome result room.new ≡ parsed text.now room.old }
 {
     let start = prefix_length(text);

@@ -13,12 +13,6 @@ pub struct Tally {
     pub longest: u32,
 }
 
-pub fn greater(a: u32, b: u32) -> u32
-    ensures { result ≡ max a b }
-{
-    if a < b { b } else { a }
-}
-
 fn run_after_byte(run: u32, byte: u8) -> u32
     requires { run + 8 < 2 ^ 32 }
     ensures { result ≡ ending_run run (bits_of 8 byte) }
@@ -34,7 +28,7 @@ fn with_run_in_byte(byte: u8, known: u32) -> u32
     ensures { result ≡ max known (longest (bits_of 8 byte)) }
 {
     if known < 8 {
-        return greater(known, runs::longest_in_byte(byte));
+        return known.max(runs::longest_in_byte(byte));
     }
     known
 }
@@ -50,7 +44,7 @@ pub fn after_byte(t: Tally, byte: u8) -> Tally
             longest: t.longest,
         };
     }
-    let reached = greater(t.longest, t.run + u8::leading_zeros(!byte));
+    let reached = t.longest.max(t.run + u8::leading_zeros(!byte));
     Tally {
         errors: t.errors + u8::count_ones(byte),
         run: run_after_byte(t.run, byte),

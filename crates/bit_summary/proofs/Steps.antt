@@ -1,19 +1,16 @@
 -- What the proofs of the functions cite: on each way, what is answered is what the definition says. Assumes nothing.
+use Rattle.std.specs.Prelude.{Option, Some, None, Ok, Err}
+use Rattle.limits.specs.declared.Refusal.TheVariants as refusal
 use Rattle.std.proofs.Common.{◌≡◌, ℕ, zero, suc, ◌+◌, ◌<◌, ◌≤◌, true, false, ◌&&◌, T, ltb, pos, sym, refl, ap, ◌∙◌, subst, add-zero, arith, ltb→lt, le-ltb, lt-ltb}
 use lib.Ieee.{Float, binary64, of_int, of_bits, mul, div}
 use lib.Ieee.Fits.{and_l, and_r}
 use Rattle.limits.specs.Limits.{count_bound}
 use Rattle.request_limits.specs.Refusals.{most_bits}
 use Rattle.floats.proofs.Negative.{million}
-use Rattle.bit_summary.specs.declared.Burst.{Burst}
-use Rattle.bit_summary.specs.declared.Burst.TheVariants as burst
-use Rattle.bit_summary.specs.declared.Ratio.{Ratio}
-use Rattle.bit_summary.specs.declared.Ratio.TheVariants as ratio
 use Rattle.bit_summary.specs.declared.Sample.{Sample}
 use Rattle.bit_summary.specs.declared.DirectionSummary.{DirectionSummary}
-use Rattle.bit_summary.specs.declared.Recording.TheVariants.{TooManyBits, Full, Counted}
 use Rattle.bit_summary.specs.Summary.{wrong_packet, greater_burst, recorded_of}
-use Rattle.bit_summary.specs.Record.{Bounded, counts_fit, outcome, record_to}
+use Rattle.bit_summary.specs.Record.{Bounded, counts_fit, record_to}
 use Rattle.bit_summary.specs.Shown.{ratio_of, per_million, shown_of}
 
 -- ---- small parts
@@ -22,23 +19,23 @@ pub some_errors : (n : ℕ) → (n ≡ 0 → ⊥) → 1 ≡ wrong_packet n
 some_errors zero h = absurd (h refl)
 some_errors (suc n) h = refl
 
-module _ (b : Burst) (m n : ℕ) (is : b ≡ burst.Bits m) where
-  pub longer : m < n → burst.Bits n ≡ greater_burst b n
-  longer h = ap burst.Bits (omega arith) ∙ sym (ap (λ (x : Burst). greater_burst x n) is)
+module _ (b : Option ℕ) (m n : ℕ) (is : b ≡ Some m) where
+  pub longer : m < n → Some n ≡ greater_burst b n
+  longer h = ap Some (omega arith) ∙ sym (ap (λ (x : Option ℕ). greater_burst x n) is)
 
-  pub not_longer : n ≤ m → burst.Bits m ≡ greater_burst b n
-  not_longer h = ap burst.Bits (omega arith) ∙ sym (ap (λ (x : Burst). greater_burst x n) is)
+  pub not_longer : n ≤ m → Some m ≡ greater_burst b n
+  not_longer h = ap Some (omega arith) ∙ sym (ap (λ (x : Option ℕ). greater_burst x n) is)
 
-pub first : (b : Burst) (n : ℕ) → b ≡ burst.Absent → burst.Bits n ≡ greater_burst b n
-first b n is = sym (ap (λ (x : Burst). greater_burst x n) is)
+pub first : (b : Option ℕ) (n : ℕ) → b ≡ None → Some n ≡ greater_burst b n
+first b n is = sym (ap (λ (x : Option ℕ). greater_burst x n) is)
 
 pub divided : (part whole : ℕ) (x y : Float) → (whole ≡ 0 → ⊥) → x ≡ of_int binary64 (pos part) → y ≡ of_int binary64 (pos whole)
-    → ratio.Known (div binary64 x y) ≡ ratio_of part whole
+    → Some (div binary64 x y) ≡ ratio_of part whole
 divided part zero x y h p q = absurd (h refl)
 divided part (suc n) x y h p q = rw (p, q)
 
-pub times : (r : Ratio) (x : Float) → r ≡ ratio.Known x → ratio.Known (mul binary64 x (of_bits binary64 0x412e_8480_0000_0000)) ≡ per_million r
-times r x is = ap (λ (m : Float). ratio.Known (mul binary64 x m)) million ∙ sym (ap per_million is)
+pub times : (r : Option Float) (x : Float) → r ≡ Some x → Some (mul binary64 x (of_bits binary64 0x412e_8480_0000_0000)) ≡ per_million r
+times r x is = ap (λ (m : Float). Some (mul binary64 x m)) million ∙ sym (ap per_million is)
 
 -- ---- `record`
 
@@ -66,17 +63,17 @@ module _ (d : DirectionSummary) (s : Sample) where
         sample = l;
       }
 
-  pub too_many : most_bits < s.bits → outcome d TooManyBits ≡ record_to d s
+  pub too_many : most_bits < s.bits → Err refusal.TooMuchPadding ≡ record_to d s
   unfolding record_to
   too_many h = rw (lt-ltb most_bits s.bits h)
 
-  pub full : s.bits ≤ most_bits → counts_fit d ≡ false → outcome d Full ≡ record_to d s
+  pub full : s.bits ≤ most_bits → counts_fit d ≡ false → Err refusal.CountsFull ≡ record_to d s
   unfolding record_to
   full h f = rw (le-ltb most_bits s.bits h, f)
 
-  pub counted : {next : DirectionSummary} → s.bits ≤ most_bits → counts_fit d ≡ true → next ≡ recorded_of d s → outcome d (Counted next) ≡ record_to d s
+  pub counted : {next : DirectionSummary} → s.bits ≤ most_bits → counts_fit d ≡ true → next ≡ recorded_of d s → Ok next ≡ record_to d s
   unfolding record_to
-  counted h f e = rw (le-ltb most_bits s.bits h, f) (ap (λ (n : DirectionSummary). outcome d (Counted n)) e)
+  counted h f e = rw (le-ltb most_bits s.bits h, f) (ap Ok e)
 
 -- ---- `recorded`
 
@@ -88,15 +85,15 @@ pub wrong-fits : {w : ℕ} (n : ℕ) → w ≡ wrong_packet n → w ≤ 1
 wrong-fits n e = omega (arith, e, wrong-small n)
 
 module _ (d : DirectionSummary) (s : Sample) (w : ℕ) (is : w ≡ wrong_packet s.errors) where
-  pub with-burst : (n : ℕ) (g : Burst) → s.burst ≡ burst.Bits n → g ≡ greater_burst d.longest n
+  pub with-burst : (n : ℕ) (g : Option ℕ) → s.burst ≡ Some n → g ≡ greater_burst d.longest n
       → record { received = d.received + 1; faulty = d.faulty + w; bits = d.bits + s.bits; errors = d.errors + s.errors; bursts = d.bursts + 1; sum = d.sum + n; longest = g } ≡ recorded_of d s
   with-burst n g b e = rw (is, b, e)
 
-  pub without-burst : s.burst ≡ burst.Absent
+  pub without-burst : s.burst ≡ None
       → record { received = d.received + 1; faulty = d.faulty + w; bits = d.bits + s.bits; errors = d.errors + s.errors; bursts = d.bursts; sum = d.sum; longest = d.longest } ≡ recorded_of d s
   without-burst b = rw (is, b) (λ i. record { received = d.received + 1; faulty = d.faulty + wrong_packet s.errors; bits = d.bits + s.bits; errors = d.errors + s.errors; bursts = sym (add-zero d.bursts) i; sum = sym (add-zero d.sum) i; longest = d.longest })
 
 -- ---- `ratios`
-pub shown : (d : DirectionSummary) (r e p b : Ratio) → r ≡ ratio_of d.errors d.bits → e ≡ per_million r → (q : Ratio) → q ≡ ratio_of d.faulty d.received → p ≡ per_million q → b ≡ ratio_of d.sum d.bursts
+pub shown : (d : DirectionSummary) (r e p b : Option Float) → r ≡ ratio_of d.errors d.bits → e ≡ per_million r → (q : Option Float) → q ≡ ratio_of d.faulty d.received → p ≡ per_million q → b ≡ ratio_of d.sum d.bursts
     → record { ratio = r; errors = e; packets = p; burst = b } ≡ shown_of d
 shown d r e p b ir ie q iq ip ib = λ i. record { ratio = ir i; errors = (ie ∙ ap per_million ir) i; packets = (ip ∙ ap per_million iq) i; burst = ib i }

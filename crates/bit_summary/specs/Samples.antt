@@ -1,12 +1,11 @@
 -- What a summary shows of the plain list of samples, the newest first. Assumes nothing.
-use Rattle.std.specs.Prelude.{◌≡◌, ℕ, zero, suc, ◌+◌, max, cond, List, [], ◌∷◌, length, ◌==◌}
-use Rattle.bit_summary.specs.declared.Burst.{Burst}
-use Rattle.bit_summary.specs.declared.Burst.TheVariants as burst
+use Rattle.std.specs.Prelude.{◌≡◌, ℕ, zero, suc, ◌+◌, max, List, [], ◌∷◌, length, Option, Some, None, Result, Ok, Err}
+use Rattle.limits.specs.declared.Refusal.{Refusal}
 use Rattle.bit_summary.specs.declared.Sample.{Sample}
 use Rattle.bit_summary.specs.declared.Ratios.{Ratios}
 use Rattle.bit_summary.specs.declared.DirectionSummary.{DirectionSummary}
 use Rattle.bit_summary.specs.Summary.{fresh}
-use Rattle.bit_summary.specs.Record.{record_to}
+use Rattle.bit_summary.specs.Record.{record_to, state_after}
 use Rattle.bit_summary.specs.Shown.{ratio_of, per_million}
 
 -- all added up
@@ -15,9 +14,9 @@ total [] = 0
 total (n ∷ ns) = n + total ns
 
 -- the greatest, and none where there is none
-unfoldable pub greatest : List ℕ → Burst
-greatest [] = burst.Absent
-greatest (n ∷ ns) = burst.Bits (largest n ns)
+unfoldable pub greatest : List ℕ → Option ℕ
+greatest [] = None
+greatest (n ∷ ns) = Some (largest n ns)
   where
     largest : ℕ → List ℕ → ℕ
     largest m [] = m
@@ -44,9 +43,9 @@ with_errors [] = []
 with_errors (s ∷ ss) = faulty_and s.errors s (with_errors ss)
 
 -- a burst before these, where it is known
-abbrev pub burst_and : Burst → List ℕ → List ℕ
-burst_and burst.Absent ns = ns
-burst_and (burst.Bits n) ns = n ∷ ns
+abbrev pub burst_and : Option ℕ → List ℕ → List ℕ
+burst_and None ns = ns
+burst_and (Some n) ns = n ∷ ns
 
 -- the bursts, of those that have one
 unfoldable pub bursts_of : List Sample → List ℕ
@@ -75,9 +74,14 @@ ratios_of ss = record {
 -- the summary that calls leave, one after the other from fresh, refused ones included
 unfoldable pub played : List Sample → DirectionSummary
 played [] = fresh
-played (s ∷ ss) = (record_to (played ss) s).state
+played (s ∷ ss) = state_after (played ss) (record_to (played ss) s)
+
+-- a sample before these, where its call was served
+abbrev pub and_served : Result DirectionSummary Refusal → Sample → List Sample → List Sample
+and_served (Err e) s ss = ss
+and_served (Ok next) s ss = s ∷ ss
 
 -- the samples of the calls that were served
 unfoldable pub served : List Sample → List Sample
 served [] = []
-served (s ∷ ss) = cond ((record_to (played ss) s).number == 0) (s ∷ served ss) (served ss)
+served (s ∷ ss) = and_served (record_to (played ss) s) s (served ss)

@@ -1,7 +1,5 @@
 -- What a sample leaves of a summary (`DirectionSummary::record` of src/ber.rs). Assumes nothing.
-use Rattle.std.specs.Prelude.{ℕ, zero, suc, ◌+◌, max}
-use Rattle.bit_summary.specs.declared.Burst.{Burst}
-use Rattle.bit_summary.specs.declared.Burst.TheVariants as burst
+use Rattle.std.specs.Prelude.{ℕ, zero, suc, ◌+◌, max, Option, Some, None}
 use Rattle.bit_summary.specs.declared.Sample.{Sample}
 use Rattle.bit_summary.specs.declared.DirectionSummary.{DirectionSummary}
 
@@ -11,9 +9,9 @@ wrong_packet zero = 0
 wrong_packet (suc n) = 1
 
 -- the greater of a burst, if there is one, and one more
-abbrev pub greater_burst : Burst → ℕ → Burst
-greater_burst burst.Absent n = burst.Bits n
-greater_burst (burst.Bits m) n = burst.Bits (max m n)
+abbrev pub greater_burst : Option ℕ → ℕ → Option ℕ
+greater_burst None n = Some n
+greater_burst (Some m) n = Some (max m n)
 
 -- no packet yet
 abbrev pub fresh : DirectionSummary
@@ -24,23 +22,23 @@ fresh = record {
   errors = 0;
   bursts = 0;
   sum = 0;
-  longest = burst.Absent;
+  longest = None;
 }
 
 -- a sample's burst, where it is known, is one more
-abbrev pub one_burst : Burst → ℕ
-one_burst burst.Absent = 0
-one_burst (burst.Bits n) = 1
+abbrev pub one_burst : Option ℕ → ℕ
+one_burst None = 0
+one_burst (Some n) = 1
 
 -- it adds so many bits
-abbrev pub burst_bits : Burst → ℕ
-burst_bits burst.Absent = 0
-burst_bits (burst.Bits n) = n
+abbrev pub burst_bits : Option ℕ → ℕ
+burst_bits None = 0
+burst_bits (Some n) = n
 
 -- and it may be the greatest
-abbrev pub with_burst : Burst → Burst → Burst
-with_burst most burst.Absent = most
-with_burst most (burst.Bits n) = greater_burst most n
+abbrev pub with_burst : Option ℕ → Option ℕ → Option ℕ
+with_burst most None = most
+with_burst most (Some n) = greater_burst most n
 
 -- what `record` leaves
 abbrev pub recorded_of : DirectionSummary → Sample → DirectionSummary

@@ -2,22 +2,17 @@
 // the counts and works it out at each `record`; here it is worked out when it is shown, from the same counts in the same steps.
 ghost use Rattle.std.specs.Prelude.{◌≡◌};
 ghost use Rattle.bit_summary.specs.Summary.{fresh, wrong_packet, greater_burst, one_burst, burst_bits, recorded_of};
-ghost use Rattle.bit_summary.specs.Record.{Bounded, counts_fit, outcome, record_to};
+ghost use Rattle.bit_summary.specs.Record.{Bounded, counts_fit, record_to};
 ghost use Rattle.bit_summary.specs.Shown.{ratio_of, per_million, shown_of};
 
-// The longest run of wrong bits, or none.
-#[derive(Clone, Copy)]
-pub enum Burst {
-    Absent,
-    Bits(u32),
-}
+use limits::Refusal;
 
 // One packet's padding: how many bits it has, how many were wrong, and the longest run of wrong ones where it is known.
 #[derive(Clone, Copy)]
 pub struct Sample {
     pub bits: u64,
     pub errors: u32,
-    pub burst: Burst,
+    pub burst: Option<u32>,
 }
 
 // The Rust's packets_received, packets_with_errors, padding_bits, bit_errors, burst_samples, burst_sum and max_burst_bits.
@@ -29,32 +24,17 @@ pub struct DirectionSummary {
     pub errors: u64,
     pub bursts: u64,
     pub sum: u64,
-    pub longest: Burst,
-}
-
-// What recording a sample answers: refusal 14, refusal 4, or the summary as it then stands.
-#[derive(Clone, Copy)]
-pub enum Recording {
-    TooManyBits,
-    Full,
-    Counted(DirectionSummary),
-}
-
-// A ratio, or none.
-#[derive(Clone, Copy)]
-pub enum Ratio {
-    Absent,
-    Known(f64),
+    pub longest: Option<u32>,
 }
 
 // What a summary shows beside its counts: the Rust's bit_error_ratio, bit_errors_per_million, packets_with_errors_per_million and
 // average_max_burst_bits.
 #[derive(Clone, Copy)]
 pub struct Ratios {
-    pub ratio: Ratio,
-    pub errors: Ratio,
-    pub packets: Ratio,
-    pub burst: Ratio,
+    pub ratio: Option<f64>,
+    pub errors: Option<f64>,
+    pub packets: Option<f64>,
+    pub burst: Option<f64>,
 }
 
 fn wrong_packet(errors: u32) -> u64
@@ -63,37 +43,37 @@ fn wrong_packet(errors: u32) -> u64
     if errors == 0 { 0 } else { 1 }
 }
 
-fn greater_burst(burst: Burst, bits: u32) -> Burst
+fn greater_burst(burst: Option<u32>, bits: u32) -> Option<u32>
     ensures { result ≡ greater_burst burst bits }
 {
     match burst {
-        Burst::Bits(most) => {
+        Some(most) => {
             if most < bits {
-                return Burst::Bits(bits);
+                return Some(bits);
             }
-            Burst::Bits(most)
+            Some(most)
         }
-        Burst::Absent => Burst::Bits(bits),
+        None => Some(bits),
     }
 }
 
-fn ratio_of(part: u64, whole: u64) -> Ratio
+fn ratio_of(part: u64, whole: u64) -> Option<f64>
     ensures { result ≡ ratio_of part whole }
 {
     if whole == 0 {
-        return Ratio::Absent;
+        return None;
     }
     let upper = std::num::nearest_u64_to_f64(part);
     let lower = std::num::nearest_u64_to_f64(whole);
-    Ratio::Known(upper / lower)
+    Some(upper / lower)
 }
 
-fn per_million(ratio: Ratio) -> Ratio
+fn per_million(ratio: Option<f64>) -> Option<f64>
     ensures { result ≡ per_million ratio }
 {
     match ratio {
-        Ratio::Known(value) => Ratio::Known(value * 1000000.0),
-        Ratio::Absent => Ratio::Absent,
+        Some(value) => Some(value * 1000000.0),
+        None => None,
     }
 }
 
@@ -109,7 +89,7 @@ impl DirectionSummary {
             errors: 0,
             bursts: 0,
             sum: 0,
-            longest: Burst::Absent,
+            longest: None,
         }
     }
 
@@ -138,7 +118,7 @@ impl DirectionSummary {
         let most = self.longest;
         let burst = sample.burst;
         match burst {
-            Burst::Bits(run) => {
+            Some(run) => {
                 let greatest = greater_burst(most, run);
                 DirectionSummary {
                     received: received,
@@ -150,7 +130,7 @@ impl DirectionSummary {
                     longest: greatest,
                 }
             }
-            Burst::Absent => DirectionSummary {
+            None => DirectionSummary {
                 received: received,
                 faulty: with_errors,
                 bits: bits,
@@ -162,18 +142,17 @@ impl DirectionSummary {
         }
     }
 
-    // Refused with 14 for a sample of more than 524,280 bits, then with 4 where a count or a sum is at its bound.
-    pub fn record(self, sample: Sample) -> Recording
-        ensures { outcome self result ≡ record_to self sample }
+    // The summary as it then stands. Refused for a sample of more than 524,280 bits, then where a count or a sum is at its bound.
+    pub fn record(self, sample: Sample) -> Result<DirectionSummary, Refusal>
+        ensures { result ≡ record_to self sample }
     {
         if sample.bits > request_limits::MOST_BITS {
-            return Recording::TooManyBits;
+            return Err(Refusal::TooMuchPadding);
         }
         if self.counts_fit() {
-            let next = self.recorded(sample);
-            return Recording::Counted(next);
+            return Ok(self.recorded(sample));
         }
-        Recording::Full
+        Err(Refusal::CountsFull)
     }
 
     // Refuses nothing.

@@ -1,5 +1,5 @@
-// What the host hands over, as values: the types that src/sender/measurements.rs takes, with `Option` as enums.
-use estimate::{ClockFormat, Estimates};
+// What the host hands over, as values: the types that src/sender/measurements.rs takes. There a time is an i128 or a `Duration`; here it is in ns.
+use estimate::{ClockFormat, ErrorEstimate};
 
 // `PendingPacket` of src/sender.rs: the send time in ns, and a tag that is handed back untouched.
 #[derive(Clone, Copy)]
@@ -8,26 +8,12 @@ pub struct PendingPacket {
     pub tag: u64,
 }
 
-// The packet that the host still holds for a reply, or none.
-#[derive(Clone, Copy)]
-pub enum Pending {
-    Absent,
-    Held(PendingPacket),
-}
-
 // `ReplyKey`: what tells two replies apart.
 #[derive(Clone, Copy)]
 pub struct ReplyKey {
     pub sender: u32,
     pub reflector: u32,
     pub t3: u64,
-}
-
-// The ordinal of a probe, or none.
-#[derive(Clone, Copy)]
-pub enum Ordinal {
-    Absent,
-    Number(u32),
 }
 
 // S_TxC: how many packets the sender has transmitted.
@@ -50,20 +36,6 @@ pub struct CounterPoint {
     pub transmitted: ReflectorTx,
 }
 
-// The counters of a reply, or none.
-#[derive(Clone, Copy)]
-pub enum Counters {
-    Absent,
-    Point(CounterPoint),
-}
-
-// A time in ns since 1970, or none.
-#[derive(Clone, Copy)]
-pub enum Time {
-    Absent,
-    Nanoseconds(i64),
-}
-
 // `FollowUpTelemetryTlv`, its timestamp as it came.
 #[derive(Clone, Copy)]
 pub struct FollowUpTelemetry {
@@ -72,26 +44,19 @@ pub struct FollowUpTelemetry {
     pub unknown: bool,
 }
 
-// The follow-up of a reply, or none.
-#[derive(Clone, Copy)]
-pub enum FollowUp {
-    Absent,
-    Telemetry(FollowUpTelemetry),
-}
-
 // `ReplyObservation`: timing and telemetry of one accepted reply.
 #[derive(Clone, Copy)]
 pub struct ReplyObservation {
     pub key: ReplyKey,
     pub rtt: u64,
-    pub t4: Time,
+    pub t4: Option<i64>,
     pub format: ClockFormat,
     pub reference: i64,
     pub offset: i32,
-    pub ordinal: Ordinal,
-    pub counters: Counters,
-    pub follow: FollowUp,
-    pub quality: Estimates,
+    pub ordinal: Option<u32>,
+    pub counters: Option<CounterPoint>,
+    pub follow: Option<FollowUpTelemetry>,
+    pub quality: Option<(ErrorEstimate, ErrorEstimate)>,
 }
 
 // What `sent` is told. Train 0 is none.
@@ -107,7 +72,7 @@ pub struct SentProbe {
 #[derive(Clone, Copy)]
 pub struct Reply {
     pub key: ReplyKey,
-    pub pending: Pending,
+    pub pending: Option<PendingPacket>,
 }
 
 // One call of the host that can change a count.

@@ -46,12 +46,10 @@ pub fn push_slot(ring: Ring) -> usize
     requires { RingFits capacity ring }
     ensures { (result ≡ push_slot capacity ring) × (result < capacity) }
 {
-    let head = ring.head;
-    let len = ring.len;
-    if len < CAPACITY {
-        return wrapped(head + len);
+    if ring.len < CAPACITY {
+        return wrapped(ring.head + ring.len);
     }
-    head
+    ring.head
 }
 
 // The ring after a push.
@@ -59,18 +57,15 @@ pub fn pushed(ring: Ring) -> Ring
     requires { RingFits capacity ring }
     ensures { (result ≡ after_push capacity ring) × RingFits capacity result }
 {
-    let head = ring.head;
-    let len = ring.len;
-    if len < CAPACITY {
+    if ring.len < CAPACITY {
         return Ring {
-            head: head,
-            len: len + 1,
+            head: ring.head,
+            len: ring.len + 1,
         };
     }
-    let next = wrapped(head + 1);
     Ring {
-        head: next,
-        len: len,
+        head: wrapped(ring.head + 1),
+        len: ring.len,
     }
 }
 

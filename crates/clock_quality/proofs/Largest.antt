@@ -1,5 +1,6 @@
 -- The largest combined error that a clock quality shows is the largest of its samples' combined errors. Each of them is above 0 and finite,
 -- so of two one is at most the other. Assumes nothing.
+use Rattle.std.specs.Prelude.{Option, Some, None}
 use mathlib.Core.Path.{◌≡◌, refl, sym, ap, ◌∙◌, subst}
 use mathlib.Core.Bool.{Bool, true, false, ◌&&◌, cond, true≢false}
 use mathlib.Core.Logic.{inl, inr}
@@ -20,12 +21,8 @@ use Rattle.floats.proofs.Values.{scaled_exact}
 use Rattle.estimate.specs.declared.ErrorEstimate.{ErrorEstimate}
 use Rattle.estimate.specs.declared.Reading.{Reading}
 use Rattle.estimate.specs.declared.Reading.TheVariants.{Known, Invalid}
-use Rattle.estimate.specs.declared.Estimates.{Estimates}
-use Rattle.estimate.specs.declared.Estimates.TheVariants as estimates
 use Rattle.estimate.specs.Wire.{wire_of}
 use Rattle.estimate.specs.Error.{known_if, reading_of}
-use Rattle.clock_quality.specs.declared.LargestError.{LargestError}
-use Rattle.clock_quality.specs.declared.LargestError.TheVariants as largest
 use Rattle.clock_quality.specs.Quality.{larger_of, largest_of}
 use Rattle.clock_quality.specs.Samples.{largest_with, largest_among, Combined, Largest, InRange}
 
@@ -148,20 +145,20 @@ reflexive x p = cross→le x x p p (same (num x * den x))
     same n = omega arith
 
 -- ---- which samples have a combined error
-some_or_none : (t : Float) → largest.Absent ≡ largest.Ms t → ⊥
+some_or_none : (t : Float) → None ≡ Some t → ⊥
 some_or_none t h = let z : ◌≡◌ {A = ℕ} 0 1 = cc in omega arith
 
-the_same : (t u : Float) → largest.Ms u ≡ largest.Ms t → t ≡ u
+the_same : (t u : Float) → Some u ≡ Some t → t ≡ u
 the_same t u h = cc
 
 module _ (s r : ErrorEstimate) where
-  abbrev paired : LargestError
-  paired = largest_of largest.Absent (reading_of s) (reading_of r)
+  abbrev paired : Option Float
+  paired = largest_of None (reading_of s) (reading_of r)
 
-  by_errors : (a b : Reading) → reading_of s ≡ a → reading_of r ≡ b → paired ≡ largest_of largest.Absent a b
-  by_errors a b p q = ap (λ (x : Reading). largest_of largest.Absent x (reading_of r)) p ∙ ap (largest_of largest.Absent a) q
+  by_errors : (a b : Reading) → reading_of s ≡ a → reading_of r ≡ b → paired ≡ largest_of None a b
+  by_errors a b p q = ap (λ (x : Reading). largest_of None x (reading_of r)) p ∙ ap (largest_of None a) q
 
-  pair_positive : s.multiplier < 256 → r.multiplier < 256 → (t : Float) → paired ≡ largest.Ms t → T (positive t)
+  pair_positive : s.multiplier < 256 → r.multiplier < 256 → (t : Float) → paired ≡ Some t → T (positive t)
   pair_positive m n t h = go (reading_of s) (reading_of r) refl refl
     where
       go : (a b : Reading) → reading_of s ≡ a → reading_of r ≡ b → T (positive t)
@@ -169,39 +166,39 @@ module _ (s r : ErrorEstimate) where
       go (Known x) (Invalid w) p q = absurd (some_or_none t (sym (by_errors (Known x) (Invalid w) p q) ∙ h))
       go (Invalid w) b p q = absurd (some_or_none t (sym (by_errors (Invalid w) b p q) ∙ h))
 
-all_positive : (es : List Estimates) → InRange es → (t : Float) → Combined t es → T (positive t)
+all_positive : (es : List (Option (ErrorEstimate × ErrorEstimate))) → InRange es → (t : Float) → Combined t es → T (positive t)
 all_positive [] R t h = absurd h
-all_positive (estimates.Absent ∷ es) R t (inl h) = absurd (some_or_none t h)
-all_positive (estimates.Absent ∷ es) R t (inr h) = all_positive es R t h
-all_positive (estimates.Pair s r ∷ es) R t (inl h) = pair_positive s r R.0 R.1 t h
-all_positive (estimates.Pair s r ∷ es) R t (inr h) = all_positive es R.2 t h
+all_positive (None ∷ es) R t (inl h) = absurd (some_or_none t h)
+all_positive (None ∷ es) R t (inr h) = all_positive es R t h
+all_positive (Some (s, r) ∷ es) R t (inl h) = pair_positive s r R.0 R.1 t h
+all_positive (Some (s, r) ∷ es) R t (inr h) = all_positive es R.2 t h
 
 -- ---- one sample more
-without : (e : Estimates) (es : List Estimates) (l : LargestError) → ((t : Float) → largest_with largest.Absent e ≡ largest.Ms t → ⊥) → Largest es l → Largest (e ∷ es) l
-without e es largest.Absent none h = λ t. go t
+without : (e : Option (ErrorEstimate × ErrorEstimate)) (es : List (Option (ErrorEstimate × ErrorEstimate))) (l : Option Float) → ((t : Float) → largest_with None e ≡ Some t → ⊥) → Largest es l → Largest (e ∷ es) l
+without e es None none h = λ t. go t
   where
     go : (t : Float) → Combined t (e ∷ es) → ⊥
     go t (inl k) = none t k
     go t (inr k) = h t k
-without e es (largest.Ms m) none h = (inr h.0, λ t. go t)
+without e es (Some m) none h = (inr h.0, λ t. go t)
   where
     go : (t : Float) → Combined t (e ∷ es) → T (le t m)
     go t (inl k) = absurd (none t k)
     go t (inr k) = h.1 t k
 
-module _ (e : Estimates) (es : List Estimates) (u : Float) (k : largest_with largest.Absent e ≡ largest.Ms u) (P : T (positive u)) (all : (t : Float) → Combined t es → T (positive t)) where
-  itself : (t : Float) → largest_with largest.Absent e ≡ largest.Ms t → t ≡ u
+module _ (e : Option (ErrorEstimate × ErrorEstimate)) (es : List (Option (ErrorEstimate × ErrorEstimate))) (u : Float) (k : largest_with None e ≡ Some u) (P : T (positive u)) (all : (t : Float) → Combined t es → T (positive t)) where
+  itself : (t : Float) → largest_with None e ≡ Some t → t ≡ u
   itself t h = the_same t u (sym k ∙ h)
 
-  with_one : (l : LargestError) → Largest es l → Largest (e ∷ es) (larger_of l u)
-  with_one largest.Absent h = (inl k, λ t. go t)
+  with_one : (l : Option Float) → Largest es l → Largest (e ∷ es) (larger_of l u)
+  with_one None h = (inl k, λ t. go t)
     where
       go : (t : Float) → Combined t (e ∷ es) → T (le t u)
       go t (inl g) = subst (λ (z : Float). T (le z u)) (sym (itself t g)) (reflexive u P)
       go t (inr g) = absurd (h t g)
-  with_one (largest.Ms m) h = test (le u m) refl
+  with_one (Some m) h = test (le u m) refl
     where
-      test : (b : Bool) → le u m ≡ b → Largest (e ∷ es) (largest.Ms (cond b m u))
+      test : (b : Bool) → le u m ≡ b → Largest (e ∷ es) (Some (cond b m u))
       test true c = (inr h.0, λ t. go t)
         where
           go : (t : Float) → Combined t (e ∷ es) → T (le t m)
@@ -213,20 +210,20 @@ module _ (e : Estimates) (es : List Estimates) (u : Float) (k : largest_with lar
           go t (inl g) = subst (λ (z : Float). T (le z u)) (sym (itself t g)) (reflexive u P)
           go t (inr g) = le_trans_positive t m u (all t g) (all m h.0) P (h.1 t g) (either u m P (all m h.0) c)
 
-pair_more : (s r : ErrorEstimate) (es : List Estimates) (l : LargestError) → s.multiplier < 256 → r.multiplier < 256 → InRange es → Largest es l → Largest (estimates.Pair s r ∷ es) (largest_of l (reading_of s) (reading_of r))
+pair_more : (s r : ErrorEstimate) (es : List (Option (ErrorEstimate × ErrorEstimate))) (l : Option Float) → s.multiplier < 256 → r.multiplier < 256 → InRange es → Largest es l → Largest (Some (s, r) ∷ es) (largest_of l (reading_of s) (reading_of r))
 pair_more s r es l m n R h = go (reading_of s) (reading_of r) refl refl
   where
-    go : (a b : Reading) → reading_of s ≡ a → reading_of r ≡ b → Largest (estimates.Pair s r ∷ es) (largest_of l a b)
+    go : (a b : Reading) → reading_of s ≡ a → reading_of r ≡ b → Largest (Some (s, r) ∷ es) (largest_of l a b)
     go (Known x) (Known y) p q =
         let u = add binary64 x y in
         let k = by_errors s r (Known x) (Known y) p q in
-        with_one (estimates.Pair s r) es u k (pair_positive s r m n u k) (all_positive es R) l h
-    go (Known x) (Invalid w) p q = without (estimates.Pair s r) es l (λ t g. some_or_none t (sym (by_errors s r (Known x) (Invalid w) p q) ∙ g)) h
-    go (Invalid w) b p q = without (estimates.Pair s r) es l (λ t g. some_or_none t (sym (by_errors s r (Invalid w) b p q) ∙ g)) h
+        with_one (Some (s, r)) es u k (pair_positive s r m n u k) (all_positive es R) l h
+    go (Known x) (Invalid w) p q = without (Some (s, r)) es l (λ t g. some_or_none t (sym (by_errors s r (Known x) (Invalid w) p q) ∙ g)) h
+    go (Invalid w) b p q = without (Some (s, r)) es l (λ t g. some_or_none t (sym (by_errors s r (Invalid w) b p q) ∙ g)) h
 
 -- what `largest_among` folds is the largest
-pub largest_among_lem : (es : List Estimates) → InRange es → Largest es (largest_among es)
+pub largest_among_lem : (es : List (Option (ErrorEstimate × ErrorEstimate))) → InRange es → Largest es (largest_among es)
 unfolding largest_among
 largest_among_lem [] R = λ t h. h
-largest_among_lem (estimates.Absent ∷ es) R = without estimates.Absent es (largest_among es) some_or_none (largest_among_lem es R)
-largest_among_lem (estimates.Pair s r ∷ es) R = pair_more s r es (largest_among es) R.0 R.1 R.2 (largest_among_lem es R.2)
+largest_among_lem (None ∷ es) R = without None es (largest_among es) some_or_none (largest_among_lem es R)
+largest_among_lem (Some (s, r) ∷ es) R = pair_more s r es (largest_among es) R.0 R.1 R.2 (largest_among_lem es R.2)

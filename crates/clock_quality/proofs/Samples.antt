@@ -1,10 +1,9 @@
 -- The state after recording a list of samples from fresh shows them, and its three invalid counts add up to the fourth. Assumes nothing.
-use Rattle.std.specs.Prelude.{◌≡◌, refl, Bool, ◌&&◌, List, [], ◌∷◌, ℕ, suc, ◌+◌}
+use Rattle.std.specs.Float.Ieee.{Float}
+use Rattle.estimate.specs.declared.ErrorEstimate.{ErrorEstimate}
+use Rattle.std.specs.Prelude.{◌≡◌, refl, Bool, ◌&&◌, List, [], ◌∷◌, ℕ, suc, ◌+◌, Option, Some, None}
 use Rattle.std.proofs.Common.{ap, ◌∙◌, add-one, arith}
-use Rattle.estimate.specs.declared.Estimates.{Estimates}
-use Rattle.estimate.specs.declared.Estimates.TheVariants as estimates
 use Rattle.estimate.specs.Error.{reading_of}
-use Rattle.clock_quality.specs.declared.LargestError.{LargestError}
 use Rattle.clock_quality.specs.declared.ClockQuality.{ClockQuality}
 use Rattle.clock_quality.specs.Quality.{Class, unknown, invalid_sender, invalid_reflector, invalid_both, unsynchronized, both, is_both, is_unsynchronized, is_invalid, is_unknown, is_invalid_sender, is_invalid_reflector, is_invalid_both, counted, largest_of, fresh, recorded_of}
 use Rattle.clock_quality.specs.Samples.{class_of, count, largest_among, played, Shows, AddsUp}
@@ -26,9 +25,9 @@ fresh-shows = record {
   largest = refl;
 }
 
-pub recorded-shows : (q : ClockQuality) (es : List Estimates) (e : Estimates) → Shows es q → Shows (e ∷ es) (recorded_of q e)
+pub recorded-shows : (q : ClockQuality) (es : List (Option (ErrorEstimate × ErrorEstimate))) (e : Option (ErrorEstimate × ErrorEstimate)) → Shows es q → Shows (e ∷ es) (recorded_of q e)
 unfolding count largest_among
-recorded-shows q es estimates.Absent s = record {
+recorded-shows q es None s = record {
   samples = add-one q.samples ∙ ap suc s.samples;
   both = s.both;
   unsynchronized = s.unsynchronized;
@@ -41,7 +40,7 @@ recorded-shows q es estimates.Absent s = record {
   reflector = refl;
   largest = s.largest;
 }
-recorded-shows q es (estimates.Pair a b) s = let c = class_of (estimates.Pair a b) in record {
+recorded-shows q es (Some (a, b)) s = let c = class_of (Some (a, b)) in record {
   samples = add-one q.samples ∙ ap suc s.samples;
   both = ap (counted (is_both c)) s.both;
   unsynchronized = ap (counted (is_unsynchronized c)) s.unsynchronized;
@@ -52,11 +51,11 @@ recorded-shows q es (estimates.Pair a b) s = let c = class_of (estimates.Pair a 
   invalid_both = ap (counted (is_invalid_both c)) s.invalid_both;
   sender = refl;
   reflector = refl;
-  largest = ap (λ (m : LargestError). largest_of m (reading_of a) (reading_of b)) s.largest;
+  largest = ap (λ (m : Option Float). largest_of m (reading_of a) (reading_of b)) s.largest;
 }
 
 -- the state after recording a list of samples from fresh shows them
-pub played-shows : (es : List Estimates) → Shows es (played es)
+pub played-shows : (es : List (Option (ErrorEstimate × ErrorEstimate))) → Shows es (played es)
 unfolding played
 played-shows [] = fresh-shows
 played-shows (e ∷ es) = recorded-shows (played es) es e (played-shows es)
@@ -72,7 +71,7 @@ one_class unsynchronized n a b d h = h
 one_class both n a b d h = h
 
 -- of a plain list of samples
-pub invalid_adds_up : (es : List Estimates) → count is_invalid es ≡ count is_invalid_sender es + count is_invalid_reflector es + count is_invalid_both es
+pub invalid_adds_up : (es : List (Option (ErrorEstimate × ErrorEstimate))) → count is_invalid es ≡ count is_invalid_sender es + count is_invalid_reflector es + count is_invalid_both es
 unfolding count
 invalid_adds_up [] = refl
 invalid_adds_up (e ∷ es) = one_class (class_of e) (count is_invalid es) (count is_invalid_sender es) (count is_invalid_reflector es) (count is_invalid_both es) (invalid_adds_up es)
@@ -81,11 +80,11 @@ invalid_adds_up (e ∷ es) = one_class (class_of e) (count is_invalid es) (count
 pub fresh_adds_up : AddsUp fresh
 fresh_adds_up = refl
 
-pub recorded_adds_up : (q : ClockQuality) (e : Estimates) → AddsUp q → AddsUp (recorded_of q e)
-recorded_adds_up q estimates.Absent h = h
-recorded_adds_up q (estimates.Pair a b) h = one_class (class_of (estimates.Pair a b)) q.invalid q.invalid_sender q.invalid_reflector q.invalid_both h
+pub recorded_adds_up : (q : ClockQuality) (e : Option (ErrorEstimate × ErrorEstimate)) → AddsUp q → AddsUp (recorded_of q e)
+recorded_adds_up q None h = h
+recorded_adds_up q (Some (a, b)) h = one_class (class_of (Some (a, b))) q.invalid q.invalid_sender q.invalid_reflector q.invalid_both h
 
-pub played_adds_up : (es : List Estimates) → AddsUp (played es)
+pub played_adds_up : (es : List (Option (ErrorEstimate × ErrorEstimate))) → AddsUp (played es)
 unfolding played
 played_adds_up [] = fresh_adds_up
 played_adds_up (e ∷ es) = recorded_adds_up (played es) e (played_adds_up es)

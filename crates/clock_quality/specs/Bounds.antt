@@ -1,12 +1,11 @@
 -- When a sample is refused, and what the answer is. Assumes nothing.
-use Rattle.std.specs.Prelude.{◌≡◌, Bool, true, false, ◌&&◌, cond, ℕ, zero, suc, ◌<◌, T, ltb}
+use Rattle.std.specs.Prelude.{◌≡◌, Bool, true, false, ◌&&◌, cond, ◌<◌, T, ltb, Option, Some, None, Result, Ok, Err}
 use Rattle.std.proofs.Common.{sym, subst, ltb→lt}
 use Rattle.std.specs.Float.Ieee.Fits.{and_l, and_r}
-use Rattle.limits.specs.Refusals.{counts_full}
+use Rattle.limits.specs.declared.Refusal.{Refusal}
+use Rattle.limits.specs.declared.Refusal.TheVariants as refusal
 use Rattle.limits.specs.Limits.{count_bound}
 use Rattle.clock_quality.specs.declared.ClockQuality.{ClockQuality}
-use Rattle.clock_quality.specs.declared.Recorded.{Recorded}
-use Rattle.clock_quality.specs.declared.Recorded.TheVariants as recorded
 
 -- every count is below its bound
 pub record Bounded (q : ClockQuality) : Type 0 where
@@ -31,19 +30,19 @@ counts_fit q =
     && ltb q.invalid_reflector count_bound
     && ltb q.invalid_both count_bound
 
--- the number of the refusal, 0 where there is none: a count at its bound or beyond
-abbrev pub refusal_of : ClockQuality → ℕ
-refusal_of q = cond (counts_fit q) 0 counts_full
+-- the refusal, if there is one: a count at its bound or beyond
+abbrev pub refusal_of : ClockQuality → Option Refusal
+refusal_of q = cond (counts_fit q) None (Some refusal.CountsFull)
 
--- the answer by its number: at 0 the quality as it then stands, and otherwise the number alone
-abbrev pub answer : ℕ → ClockQuality → Recorded
-answer zero next = recorded.Quality next
-answer (suc n) next = recorded.Refused (suc n)
+-- the answer by its refusal: the quality as it then stands where there is none, and otherwise the refusal alone
+abbrev pub answer : Option Refusal → ClockQuality → Result ClockQuality Refusal
+answer None next = Ok next
+answer (Some why) next = Err why
 
 -- what the host has after a call: a refusal leaves what it had
-abbrev pub state_after : ClockQuality → Recorded → ClockQuality
-state_after q (recorded.Quality next) = next
-state_after q (recorded.Refused n) = q
+abbrev pub state_after : ClockQuality → Result ClockQuality Refusal → ClockQuality
+state_after q (Ok next) = next
+state_after q (Err why) = q
 
 -- ---- laws
 
@@ -76,11 +75,11 @@ fit_bounded q h =
       invalid_both = ltb→lt q.invalid_both count_bound (and_r (a && b && c && d && e && f && g) i all);
     }
 
--- a sample is served where the counts fit, and otherwise refused with the number alone
-pub served : (q next : ClockQuality) → counts_fit q ≡ true → answer (refusal_of q) next ≡ recorded.Quality next
+-- a sample is served where the counts fit, and otherwise refused with the refusal alone
+pub served : (q next : ClockQuality) → counts_fit q ≡ true → answer (refusal_of q) next ≡ Ok next
 served q next h = rw h
 
-pub refused : (q next : ClockQuality) → counts_fit q ≡ false → answer (refusal_of q) next ≡ recorded.Refused counts_full
+pub refused : (q next : ClockQuality) → counts_fit q ≡ false → answer (refusal_of q) next ≡ Err refusal.CountsFull
 refused q next h = rw h
 
 -- a refusal changes nothing

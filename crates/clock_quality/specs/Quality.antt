@@ -1,19 +1,13 @@
 -- What a sample leaves of a clock quality: a pair of estimates or none. Assumes nothing.
-use Rattle.std.specs.Prelude.{Bool, true, false, ◌&&◌, cond, ℕ, ◌+◌, Float}
+use Rattle.std.specs.Prelude.{Bool, true, false, ◌&&◌, cond, ℕ, ◌+◌, Float, Option, Some, None}
 use Rattle.std.specs.Float.{binary64}
 use Rattle.std.specs.Float.Ieee.{add, le}
 use Rattle.estimate.specs.declared.ErrorEstimate.{ErrorEstimate}
 use Rattle.estimate.specs.declared.Reading.{Reading}
 use Rattle.estimate.specs.declared.Reading.TheVariants.{Known, Invalid}
-use Rattle.estimate.specs.declared.Estimates.{Estimates}
-use Rattle.estimate.specs.declared.Estimates.TheVariants as estimates
 use Rattle.estimate.specs.Make.{format_of}
 use Rattle.estimate.specs.Error.{reading_of}
 use Rattle.clock_quality.specs.declared.ClockEstimate.{ClockEstimate}
-use Rattle.clock_quality.specs.declared.LastEstimate.{LastEstimate}
-use Rattle.clock_quality.specs.declared.LastEstimate.TheVariants as last
-use Rattle.clock_quality.specs.declared.LargestError.{LargestError}
-use Rattle.clock_quality.specs.declared.LargestError.TheVariants as largest
 use Rattle.clock_quality.specs.declared.ClockQuality.{ClockQuality}
 
 -- an estimate with all its fields, and its reading
@@ -37,9 +31,9 @@ fresh = record {
   invalid_sender = 0;
   invalid_reflector = 0;
   invalid_both = 0;
-  sender = last.Absent;
-  reflector = last.Absent;
-  largest = largest.Absent;
+  sender = None;
+  reflector = None;
+  largest = None;
 }
 
 -- each sample is of one class: no estimates; invalid at the sender alone, at the reflector alone, at both; both errors known, and both clocks
@@ -137,18 +131,18 @@ counted true n = n + 1
 counted false n = n
 
 -- the larger of two errors, the second where there was none. A combined error is above 0 and finite (`combined_positive`), so this is Rust's `max`
-abbrev pub larger_of : LargestError → Float → LargestError
-larger_of largest.Absent combined = largest.Ms combined
-larger_of (largest.Ms most) combined = largest.Ms (cond (le combined most) most combined)
+abbrev pub larger_of : Option Float → Float → Option Float
+larger_of None combined = Some combined
+larger_of (Some most) combined = Some (cond (le combined most) most combined)
 
 -- the sum of two known errors, rounded once, counts for the largest
-abbrev pub largest_of : LargestError → Reading → Reading → LargestError
+abbrev pub largest_of : Option Float → Reading → Reading → Option Float
 largest_of m (Known x) (Known y) = larger_of m (add binary64 x y)
 largest_of m (Known x) (Invalid bits) = m
 largest_of m (Invalid bits) e = m
 
 -- one sample more, of a class, with the estimates and the largest error that then stand
-abbrev pub classed : ClockQuality → Class → LastEstimate → LastEstimate → LargestError → ClockQuality
+abbrev pub classed : ClockQuality → Class → Option ClockEstimate → Option ClockEstimate → Option Float → ClockQuality
 classed q c s r l = record {
   samples = q.samples + 1;
   both = counted (is_both c) q.both;
@@ -168,11 +162,11 @@ abbrev pub paired_of : ClockQuality → ClockEstimate → ClockEstimate → Cloc
 paired_of q s r =
     classed q
     (pair_class (is_known s.error) (is_known r.error) (s.synchronized && r.synchronized))
-    (last.Seen s)
-    (last.Seen r)
+    (Some s)
+    (Some r)
     (largest_of q.largest s.error r.error)
 
 -- what `record` leaves
-abbrev pub recorded_of : ClockQuality → Estimates → ClockQuality
-recorded_of q estimates.Absent = classed q unknown last.Absent last.Absent q.largest
-recorded_of q (estimates.Pair s r) = paired_of q (clock_estimate_of s) (clock_estimate_of r)
+abbrev pub recorded_of : ClockQuality → Option (ErrorEstimate × ErrorEstimate) → ClockQuality
+recorded_of q None = classed q unknown None None q.largest
+recorded_of q (Some (s, r)) = paired_of q (clock_estimate_of s) (clock_estimate_of r)

@@ -1,74 +1,70 @@
 -- What a clock quality shows, from the plain list of its samples, the newest first. Assumes nothing.
-use Rattle.std.specs.Prelude.{◌≡◌, Bool, ◌&&◌, ◌⊎◌, List, [], ◌∷◌, ℕ, ◌+◌, ◌<◌, length, T, Float}
+use Rattle.clock_quality.specs.declared.ClockEstimate.{ClockEstimate}
+use Rattle.estimate.specs.declared.ErrorEstimate.{ErrorEstimate}
+use Rattle.std.specs.Prelude.{◌≡◌, Bool, ◌&&◌, ◌⊎◌, List, [], ◌∷◌, ℕ, ◌+◌, ◌<◌, length, T, Float, Option, Some, None}
 use Rattle.std.specs.Float.Ieee.{le}
-use Rattle.estimate.specs.declared.Estimates.{Estimates}
-use Rattle.estimate.specs.declared.Estimates.TheVariants as estimates
 use Rattle.estimate.specs.Error.{reading_of}
-use Rattle.clock_quality.specs.declared.LastEstimate.{LastEstimate}
-use Rattle.clock_quality.specs.declared.LastEstimate.TheVariants as last
-use Rattle.clock_quality.specs.declared.LargestError.{LargestError}
-use Rattle.clock_quality.specs.declared.LargestError.TheVariants as largest
 use Rattle.clock_quality.specs.declared.ClockQuality.{ClockQuality}
 use Rattle.clock_quality.specs.Quality.{Class, unknown, pair_class, is_known, is_both, is_unsynchronized, is_invalid, is_unknown, is_invalid_sender, is_invalid_reflector, is_invalid_both, counted, largest_of, clock_estimate_of, fresh, recorded_of}
 
 -- the class of a sample
-abbrev pub class_of : Estimates → Class
-class_of estimates.Absent = unknown
-class_of (estimates.Pair s r) = pair_class (is_known (reading_of s)) (is_known (reading_of r)) (s.synchronized && r.synchronized)
+abbrev pub class_of : Option (ErrorEstimate × ErrorEstimate) → Class
+class_of None = unknown
+class_of (Some (s, r)) = pair_class (is_known (reading_of s)) (is_known (reading_of r)) (s.synchronized && r.synchronized)
 
 -- how many samples have a class that passes a test
-unfoldable pub count : (Class → Bool) → List Estimates → ℕ
+unfoldable pub count : (Class → Bool) → List (Option (ErrorEstimate × ErrorEstimate)) → ℕ
 count test [] = 0
 count test (e ∷ es) = counted (test (class_of e)) (count test es)
 
 -- the first of a sample's two estimates, absent where it had none
-abbrev pub sender_of : Estimates → LastEstimate
-sender_of estimates.Absent = last.Absent
-sender_of (estimates.Pair s r) = last.Seen (clock_estimate_of s)
+abbrev pub sender_of : Option (ErrorEstimate × ErrorEstimate) → Option ClockEstimate
+sender_of None = None
+sender_of (Some (s, r)) = Some (clock_estimate_of s)
 
 -- the second, likewise
-abbrev pub reflector_of : Estimates → LastEstimate
-reflector_of estimates.Absent = last.Absent
-reflector_of (estimates.Pair s r) = last.Seen (clock_estimate_of r)
+abbrev pub reflector_of : Option (ErrorEstimate × ErrorEstimate) → Option ClockEstimate
+reflector_of None = None
+reflector_of (Some (s, r)) = Some (clock_estimate_of r)
 
 -- what the newest sample says, and nothing where there is none
-abbrev pub newest : (Estimates → LastEstimate) → List Estimates → LastEstimate
-newest of [] = last.Absent
+abbrev pub newest : (Option (ErrorEstimate × ErrorEstimate) → Option ClockEstimate) → List (Option (ErrorEstimate × ErrorEstimate)) → Option ClockEstimate
+newest of [] = None
 newest of (e ∷ es) = of e
 
 -- with the combined error of one sample
-abbrev pub largest_with : LargestError → Estimates → LargestError
-largest_with m estimates.Absent = m
-largest_with m (estimates.Pair s r) = largest_of m (reading_of s) (reading_of r)
+abbrev pub largest_with : Option Float → Option (ErrorEstimate × ErrorEstimate) → Option Float
+largest_with m None = m
+largest_with m (Some (s, r)) = largest_of m (reading_of s) (reading_of r)
 
 -- the largest combined error of the samples whose two errors are known
-unfoldable pub largest_among : List Estimates → LargestError
-largest_among [] = largest.Absent
+unfoldable pub largest_among : List (Option (ErrorEstimate × ErrorEstimate)) → Option Float
+largest_among [] = None
 largest_among (e ∷ es) = largest_with (largest_among es) e
 
 -- t is the combined error of one of the samples
-abbrev pub Combined : Float → List Estimates → Type 0
+abbrev pub Combined : Float → List (Option (ErrorEstimate × ErrorEstimate)) → Type 0
 Combined t [] = ⊥
-Combined t (e ∷ es) = (largest_with largest.Absent e ≡ largest.Ms t) ⊎ Combined t es
+Combined t (e ∷ es) = (largest_with None e ≡ Some t) ⊎ Combined t es
 
 -- the largest of them, and none where there is none
-abbrev pub Largest : List Estimates → LargestError → Type 0
-Largest es largest.Absent = (t : Float) → Combined t es → ⊥
-Largest es (largest.Ms m) = Combined m es × ((t : Float) → Combined t es → T (le t m))
+abbrev pub Largest : List (Option (ErrorEstimate × ErrorEstimate)) → Option Float → Type 0
+Largest es None = (t : Float) → Combined t es → ⊥
+Largest es (Some m) = Combined m es × ((t : Float) → Combined t es → T (le t m))
 
 -- multipliers are words of eight bits
-abbrev pub InRange : List Estimates → Type 0
+abbrev pub InRange : List (Option (ErrorEstimate × ErrorEstimate)) → Type 0
 InRange [] = Unit {0}
-InRange (estimates.Absent ∷ es) = InRange es
-InRange (estimates.Pair s r ∷ es) = (s.multiplier < 256) × (r.multiplier < 256) × InRange es
+InRange (None ∷ es) = InRange es
+InRange (Some (s, r) ∷ es) = (s.multiplier < 256) × (r.multiplier < 256) × InRange es
 
 -- the quality that recording the samples leaves
-unfoldable pub played : List Estimates → ClockQuality
+unfoldable pub played : List (Option (ErrorEstimate × ErrorEstimate)) → ClockQuality
 played [] = fresh
 played (e ∷ es) = recorded_of (played es) e
 
 -- each field, from the samples alone
-pub record Shows (es : List Estimates) (q : ClockQuality) : Type 0 where
+pub record Shows (es : List (Option (ErrorEstimate × ErrorEstimate))) (q : ClockQuality) : Type 0 where
   pub samples : q.samples ≡ length es
   pub both : q.both ≡ count is_both es
   pub unsynchronized : q.unsynchronized ≡ count is_unsynchronized es

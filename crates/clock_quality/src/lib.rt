@@ -6,7 +6,8 @@ ghost use Rattle.clock_quality.specs.Quality.{clock_estimate_of, fresh, known_cl
 ghost use Rattle.clock_quality.specs.Quality.Class.{unknown, invalid_sender, invalid_reflector, invalid_both};
 ghost use Rattle.clock_quality.specs.Bounds.{Bounded, counts_fit, refusal_of, answer};
 
-use estimate::{ClockFormat, ErrorEstimate, Estimates, Reading};
+use estimate::{ClockFormat, ErrorEstimate, Reading};
+use limits::Refusal;
 
 // An estimate with all its fields, and its reading.
 #[derive(Clone, Copy)]
@@ -16,20 +17,6 @@ pub struct ClockEstimate {
     pub scale: u8,
     pub multiplier: u8,
     pub error: Reading,
-}
-
-// The estimate of the last sample, or none.
-#[derive(Clone, Copy)]
-pub enum LastEstimate {
-    Absent,
-    Seen(ClockEstimate),
-}
-
-// The largest sum of two usable errors in ms, or none.
-#[derive(Clone, Copy)]
-pub enum LargestError {
-    Absent,
-    Ms(f64),
 }
 
 // How many samples there are, how many of each class, at whose end the invalid ones are invalid, the last two estimates and the largest
@@ -44,45 +31,31 @@ pub struct ClockQuality {
     pub invalid_sender: u64,
     pub invalid_reflector: u64,
     pub invalid_both: u64,
-    pub sender: LastEstimate,
-    pub reflector: LastEstimate,
-    pub largest: LargestError,
-}
-
-// What recording a sample answers: the quality as it then stands, or the number of the refusal.
-#[derive(Clone, Copy)]
-pub enum Recorded {
-    Quality(ClockQuality),
-    Refused(u8),
+    pub sender: Option<ClockEstimate>,
+    pub reflector: Option<ClockEstimate>,
+    pub largest: Option<f64>,
 }
 
 // `ClockEstimate::from`.
 pub fn clock_estimate(estimate: ErrorEstimate) -> ClockEstimate
     ensures { result ≡ clock_estimate_of estimate }
 {
-    let format = estimate.clock_format();
-    let error = estimate.reading();
     ClockEstimate {
         synchronized: estimate.synchronized,
-        format,
+        format: estimate.clock_format(),
         scale: estimate.scale,
         multiplier: estimate.multiplier,
-        error,
+        error: estimate.reading(),
     }
 }
 
 // The larger of two errors; the second where there was none.
-fn larger(largest: LargestError, combined: f64) -> LargestError
+pub fn larger(largest: Option<f64>, combined: f64) -> Option<f64>
     ensures { result ≡ larger_of largest combined }
 {
     match largest {
-        LargestError::Ms(most) => {
-            if most >= combined {
-                return LargestError::Ms(most);
-            }
-            LargestError::Ms(combined)
-        }
-        LargestError::Absent => LargestError::Ms(combined),
+        Some(most) if most >= combined => Some(most),
+        _ => Some(combined),
     }
 }
 
@@ -100,9 +73,9 @@ impl ClockQuality {
             invalid_sender: 0,
             invalid_reflector: 0,
             invalid_both: 0,
-            sender: LastEstimate::Absent,
-            reflector: LastEstimate::Absent,
-            largest: LargestError::Absent,
+            sender: None,
+            reflector: None,
+            largest: None,
         }
     }
 
@@ -110,188 +83,78 @@ impl ClockQuality {
     pub fn counts_fit(self) -> bool
         ensures { result ≡ counts_fit self }
     {
-        (self.samples < limits::COUNT_BOUND)
-            & (self.both < limits::COUNT_BOUND)
-            & (self.unsynchronized < limits::COUNT_BOUND)
-            & (self.invalid < limits::COUNT_BOUND)
-            & (self.unknown < limits::COUNT_BOUND)
-            & (self.invalid_sender < limits::COUNT_BOUND)
-            & (self.invalid_reflector < limits::COUNT_BOUND)
-            & (self.invalid_both < limits::COUNT_BOUND)
+        self.samples < limits::COUNT_BOUND
+            && self.both < limits::COUNT_BOUND
+            && self.unsynchronized < limits::COUNT_BOUND
+            && self.invalid < limits::COUNT_BOUND
+            && self.unknown < limits::COUNT_BOUND
+            && self.invalid_sender < limits::COUNT_BOUND
+            && self.invalid_reflector < limits::COUNT_BOUND
+            && self.invalid_both < limits::COUNT_BOUND
     }
 
     // The host's call: refused where a count is at its bound.
-    pub fn record(self, estimates: Estimates) -> Recorded
+    pub fn record(
+        self,
+        estimates: Option<(ErrorEstimate, ErrorEstimate)>,
+    ) -> Result<ClockQuality, Refusal>
         ensures { result ≡ answer (refusal_of self) (recorded_of self estimates) }
     {
         if self.counts_fit() {
-            let next = self.recorded(estimates);
-            return Recorded::Quality(next);
+            return Ok(self.recorded(estimates));
         }
-        Recorded::Refused(limits::COUNTS_FULL)
+        Err(Refusal::CountsFull)
     }
 
     // One sample more, for a caller that has tested the counts.
-    pub fn recorded(self, estimates: Estimates) -> ClockQuality
+    pub fn recorded(mut self, estimates: Option<(ErrorEstimate, ErrorEstimate)>) -> ClockQuality
         requires { Bounded self }
         ensures { result ≡ recorded_of self estimates }
     {
         match estimates {
-            Estimates::Absent => self.without_estimates(),
-            Estimates::Pair(first, second) => {
-                let sender = clock_estimate(first);
-                let reflector = clock_estimate(second);
-                self.with_estimates(sender, reflector)
+            None => {
+                self.samples += 1;
+                self.unknown += 1;
+                self.sender = None;
+                self.reflector = None;
+                self
+            }
+            Some((sender, reflector)) => {
+                self.with_estimates(clock_estimate(sender), clock_estimate(reflector))
             }
         }
     }
 
-    fn without_estimates(self) -> ClockQuality
-        requires { Bounded self }
-        ensures { result ≡ classed self unknown LastEstimate.Absent LastEstimate.Absent self.largest }
-    {
-        let largest = self.largest;
-        ClockQuality {
-            samples: self.samples + 1,
-            both: self.both,
-            unsynchronized: self.unsynchronized,
-            invalid: self.invalid,
-            unknown: self.unknown + 1,
-            invalid_sender: self.invalid_sender,
-            invalid_reflector: self.invalid_reflector,
-            invalid_both: self.invalid_both,
-            sender: LastEstimate::Absent,
-            reflector: LastEstimate::Absent,
-            largest,
-        }
-    }
-
-    fn with_estimates(self, sender: ClockEstimate, reflector: ClockEstimate) -> ClockQuality
+    // A sample with two estimates. Where both errors are known, their sum is rounded once.
+    fn with_estimates(mut self, sender: ClockEstimate, reflector: ClockEstimate) -> ClockQuality
         requires { Bounded self }
         ensures { result ≡ paired_of self sender reflector }
     {
-        let first = sender.error;
-        let second = reflector.error;
-        let Reading::Known(x) = first else {
-            return self.without_sender(sender, reflector);
-        };
-        let Reading::Known(y) = second else {
-            return self.invalid_at_reflector(sender, reflector);
-        };
-        self.with_errors(sender, reflector, x + y)
-    }
-
-    // The sender's estimate is invalid, and the reflector's too or not.
-    fn without_sender(self, sender: ClockEstimate, reflector: ClockEstimate) -> ClockQuality
-        requires { Bounded self }
-        ensures { result ≡ classed self (invalid_with (is_known reflector.error)) (LastEstimate.Seen sender) (LastEstimate.Seen reflector) self.largest }
-    {
-        let second = reflector.error;
-        let Reading::Known(_) = second else {
-            return self.invalid_at_both(sender, reflector);
-        };
-        self.invalid_at_sender(sender, reflector)
-    }
-
-    fn invalid_at_sender(self, sender: ClockEstimate, reflector: ClockEstimate) -> ClockQuality
-        requires { Bounded self }
-        ensures { result ≡ classed self invalid_sender (LastEstimate.Seen sender) (LastEstimate.Seen reflector) self.largest }
-    {
-        let largest = self.largest;
-        ClockQuality {
-            samples: self.samples + 1,
-            both: self.both,
-            unsynchronized: self.unsynchronized,
-            invalid: self.invalid + 1,
-            unknown: self.unknown,
-            invalid_sender: self.invalid_sender + 1,
-            invalid_reflector: self.invalid_reflector,
-            invalid_both: self.invalid_both,
-            sender: LastEstimate::Seen(sender),
-            reflector: LastEstimate::Seen(reflector),
-            largest,
+        self.samples += 1;
+        self.sender = Some(sender);
+        self.reflector = Some(reflector);
+        match (sender.error, reflector.error) {
+            (Reading::Known(x), Reading::Known(y)) => {
+                self.largest = larger(self.largest, x + y);
+                if sender.synchronized && reflector.synchronized {
+                    self.both += 1;
+                } else {
+                    self.unsynchronized += 1;
+                }
+            }
+            (Reading::Known(_), Reading::Invalid(_)) => {
+                self.invalid += 1;
+                self.invalid_reflector += 1;
+            }
+            (Reading::Invalid(_), Reading::Known(_)) => {
+                self.invalid += 1;
+                self.invalid_sender += 1;
+            }
+            (Reading::Invalid(_), Reading::Invalid(_)) => {
+                self.invalid += 1;
+                self.invalid_both += 1;
+            }
         }
-    }
-
-    fn invalid_at_reflector(self, sender: ClockEstimate, reflector: ClockEstimate) -> ClockQuality
-        requires { Bounded self }
-        ensures { result ≡ classed self invalid_reflector (LastEstimate.Seen sender) (LastEstimate.Seen reflector) self.largest }
-    {
-        let largest = self.largest;
-        ClockQuality {
-            samples: self.samples + 1,
-            both: self.both,
-            unsynchronized: self.unsynchronized,
-            invalid: self.invalid + 1,
-            unknown: self.unknown,
-            invalid_sender: self.invalid_sender,
-            invalid_reflector: self.invalid_reflector + 1,
-            invalid_both: self.invalid_both,
-            sender: LastEstimate::Seen(sender),
-            reflector: LastEstimate::Seen(reflector),
-            largest,
-        }
-    }
-
-    fn invalid_at_both(self, sender: ClockEstimate, reflector: ClockEstimate) -> ClockQuality
-        requires { Bounded self }
-        ensures { result ≡ classed self invalid_both (LastEstimate.Seen sender) (LastEstimate.Seen reflector) self.largest }
-    {
-        let largest = self.largest;
-        ClockQuality {
-            samples: self.samples + 1,
-            both: self.both,
-            unsynchronized: self.unsynchronized,
-            invalid: self.invalid + 1,
-            unknown: self.unknown,
-            invalid_sender: self.invalid_sender,
-            invalid_reflector: self.invalid_reflector,
-            invalid_both: self.invalid_both + 1,
-            sender: LastEstimate::Seen(sender),
-            reflector: LastEstimate::Seen(reflector),
-            largest,
-        }
-    }
-
-    // Both errors are known, and their sum is rounded once.
-    fn with_errors(
-        self,
-        sender: ClockEstimate,
-        reflector: ClockEstimate,
-        combined: f64,
-    ) -> ClockQuality
-        requires { Bounded self }
-        ensures { result ≡ classed self (known_class (sender.synchronized && reflector.synchronized)) (LastEstimate.Seen sender) (LastEstimate.Seen reflector) (larger_of self.largest combined) }
-    {
-        let before = self.largest;
-        let largest = larger(before, combined);
-        if sender.synchronized & reflector.synchronized {
-            return ClockQuality {
-                samples: self.samples + 1,
-                both: self.both + 1,
-                unsynchronized: self.unsynchronized,
-                invalid: self.invalid,
-                unknown: self.unknown,
-                invalid_sender: self.invalid_sender,
-                invalid_reflector: self.invalid_reflector,
-                invalid_both: self.invalid_both,
-                sender: LastEstimate::Seen(sender),
-                reflector: LastEstimate::Seen(reflector),
-                largest,
-            };
-        }
-        ClockQuality {
-            samples: self.samples + 1,
-            both: self.both,
-            unsynchronized: self.unsynchronized + 1,
-            invalid: self.invalid,
-            unknown: self.unknown,
-            invalid_sender: self.invalid_sender,
-            invalid_reflector: self.invalid_reflector,
-            invalid_both: self.invalid_both,
-            sender: LastEstimate::Seen(sender),
-            reflector: LastEstimate::Seen(reflector),
-            largest,
-        }
+        self
     }
 }

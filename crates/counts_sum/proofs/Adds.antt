@@ -1,5 +1,5 @@
 -- The sum of counts, none of which is large: modulo 2^64 it is the sum itself. Assumes nothing.
-use Rattle.std.proofs.Common.{◌≡◌, ℕ, ◌+◌, ◌*◌, ◌%◌, ◌^◌, ◌<◌, ◌≤◌, eqb, sym, ap, ◌∙◌, le_trans, mul-le-mul_right, mod-eq_of_lt, mul-le-mul_left, arith}
+use Rattle.std.proofs.Common.{◌≡◌, ℕ, ◌+◌, ◌*◌, ◌%◌, ◌^◌, ◌<◌, ◌≤◌, eqb, ap, ◌∙◌, le_trans, mul-le-mul_right, mod-eq_of_lt, mul-le-mul_left, arith}
 use lib.Bits.{bit_or, bit_and, or_add_and, and_le_l, and_le_r}
 
 -- one count more: each is at most the digits that any of them has

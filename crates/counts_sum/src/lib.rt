@@ -1,4 +1,6 @@
 // Whether counts add up to a number, which `percentiles` asks of every block that it reads: `histogram::total_is` by one addition a count.
+#![tactic(auto)]
+
 ghost use Rattle.std.specs.Prelude.{◌≡◌, ◌≤◌, length, ◌==◌};
 ghost use Rattle.histogram.specs.Histogram.{total};
 
@@ -9,12 +11,9 @@ pub fn add_up(counts: &[u64], number: u64) -> bool
 {
     let mut sum: u64 = 0;
     let mut any: u64 = 0;
-    let mut i = 0;
-    while i < counts.len() {
-        let here = counts[i];
-        sum = std::num::wrapping_add_u64(sum, here);
-        any = any | here;
-        i += 1;
+    for here in counts {
+        sum = sum.wrapping_add(*here);
+        any |= *here;
     }
     if any < 281474976710656 {
         return sum == number;

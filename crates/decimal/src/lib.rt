@@ -9,6 +9,7 @@ fn digits_of(n: u64) -> usize
 {
     let mut digits: usize = 1;
     let mut rest = n;
+    // What is left of the number decides when it ends: there is no row to go over.
     while rest >= 10 {
         rest = rest / 10;
         digits = digits + 1;
@@ -23,6 +24,7 @@ fn put_digits(bytes: &mut [u8], at: usize, n: u64, digits: usize)
 {
     let mut place = at + digits - 1;
     let mut rest = n;
+    // The rest and the place go down together, and the rest decides when it ends.
     while rest >= 10 {
         bytes[place] = 48 + (rest % 10) as u8;
         rest = rest / 10;

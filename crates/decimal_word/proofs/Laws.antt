@@ -1,4 +1,5 @@
 -- What the proofs of this crate's functions need of the definitions. Assumes nothing.
+use Rattle.std.specs.Prelude.{Option, Some, None}
 use mathlib.Core.Path.{◌≡◌, refl, sym, ap, ap₂, ◌∙◌, subst}
 use mathlib.Core.Bool.{Bool, true, false, ◌&&◌, cond}
 use mathlib.Core.List.{List, [], ◌∷◌}
@@ -11,8 +12,6 @@ use lib.ListN.{length, get_or, drop, drop_of_length-le}
 use lib.Seq.{drop-cons}
 use borrow.Author.Tests.{le-leb, lt-leb, leb-true, eq-eqb, ne_eqb}
 use Rattle.decimal.specs.Decimal.{value_after, value_of}
-use Rattle.decimal_word.specs.declared.Word.{Word}
-use Rattle.decimal_word.specs.declared.Word.TheVariants as word'
 use Rattle.decimal_word.specs.Words.{all_digits, within, word_of, small_by, small_of}
 
 next_of : (w : List ℕ) (i : ℕ) → i < length w → drop i w ≡ get_or w i 0 ∷ drop (i + 1) w
@@ -64,28 +63,28 @@ grows v (b ∷ bs) = le_trans (more v (b - 48)) (grows (v * 10 + (b - 48)) bs)
     more v d = omega arith
 
 pub past : (w : List ℕ) (most i v : ℕ) → i < length w → value_of w ≡ value_after v (drop i w) → most < v * 10 + (get_or w i 0 - 48)
-    → word'.Wrong ≡ within w most
+    → None ≡ within w most
 unfolding within
 past w most i v h e l =
-    sym (ap (λ (b : Bool). cond b (word'.Number (value_of w)) word'.Wrong) (lt-leb (value_of w) most (le_trans l above)))
+    sym (ap (λ (b : Bool). cond b (Some (value_of w)) None) (lt-leb (value_of w) most (le_trans l above)))
   where
     above : v * 10 + (get_or w i 0 - 48) ≤ value_of w
     above = subst (λ (n : ℕ). v * 10 + (get_or w i 0 - 48) ≤ n) (sym (e ∙ value-step w i v h)) (grows (v * 10 + (get_or w i 0 - 48)) (drop (i + 1) w))
 
-pub reached : (w : List ℕ) (most i v : ℕ) → length w ≤ i → v ≤ most → value_of w ≡ value_after v (drop i w) → word'.Number v ≡ within w most
+pub reached : (w : List ℕ) (most i v : ℕ) → length w ≤ i → v ≤ most → value_of w ≡ value_after v (drop i w) → Some v ≡ within w most
 unfolding within
 reached w most i v h l e =
     let q : value_of w ≡ v = e ∙ ap (value_after v) (drop_of_length-le w h) in
-    ap word'.Number (sym q)
-    ∙ sym (ap (λ (b : Bool). cond b (word'.Number (value_of w)) word'.Wrong) (le-leb (value_of w) most (subst (λ (n : ℕ). n ≤ most) (sym q) l)))
+    ap Some (sym q)
+    ∙ sym (ap (λ (b : Bool). cond b (Some (value_of w)) None) (le-leb (value_of w) most (subst (λ (n : ℕ). n ≤ most) (sym q) l)))
 
 -- ---- the word
 
-abbrev word_by : List ℕ → ℕ → Bool → Bool → Word
-word_by w most none digits = cond none word'.Wrong (cond digits (within w most) word'.Wrong)
+abbrev word_by : List ℕ → ℕ → Bool → Bool → Option ℕ
+word_by w most none digits = cond none None (cond digits (within w most) None)
 
 module _ (w : List ℕ) (most : ℕ) where
-  pub word-empty : length w ≡ 0 → word'.Wrong ≡ word_of w most
+  pub word-empty : length w ≡ 0 → None ≡ word_of w most
   unfolding word_of
   word-empty h = sym (ap (λ (b : Bool). word_by w most b (all_digits w)) (eq-eqb (length w) 0 h))
 
@@ -93,24 +92,24 @@ module _ (w : List ℕ) (most : ℕ) where
   unfolding word_of
   word-digits n h = sym (ap₂ (word_by w most) (ne_eqb (length w) 0 n) h)
 
-  pub word-other : (length w ≡ 0 → ⊥) → all_digits w ≡ false → word'.Wrong ≡ word_of w most
+  pub word-other : (length w ≡ 0 → ⊥) → all_digits w ≡ false → None ≡ word_of w most
   unfolding word_of
   word-other n h = sym (ap₂ (word_by w most) (ne_eqb (length w) 0 n) h)
 
 -- a number that a word says is not above the bound
-pub word_fits : (w : List ℕ) (most n : ℕ) → word_of w most ≡ word'.Number n → n ≤ most
+pub word_fits : (w : List ℕ) (most n : ℕ) → word_of w most ≡ Some n → n ≤ most
 unfolding word_of within
 word_fits w most n e = by (eqb (length w) 0) (all_digits w) (leb (value_of w) most) refl e
   where
-    no : word'.Wrong ≡ word'.Number n → ⊥
+    no : None ≡ Some n → ⊥
     no q = let z : ◌≡◌ {A = ℕ} 0 1 = cc in omega arith
 
-    by : (a b c : Bool) → leb (value_of w) most ≡ c → cond a word'.Wrong (cond b (cond c (word'.Number (value_of w)) word'.Wrong) word'.Wrong) ≡ word'.Number n → n ≤ most
+    by : (a b c : Bool) → leb (value_of w) most ≡ c → cond a None (cond b (cond c (Some (value_of w)) None) None) ≡ Some n → n ≤ most
     by true b c f q = absurd (no q)
     by false false c f q = absurd (no q)
     by false true false f q = absurd (no q)
     by false true true f q = let s : value_of w ≡ n = cc in subst (λ (m : ℕ). m ≤ most) s (leb-true (value_of w) most f)
 
-pub small_by_lem : (w : List ℕ) (l k : Word) → l ≡ word_of w 65535 → l ≡ k → small_by k ≡ small_of w
+pub small_by_lem : (w : List ℕ) (l k : Option ℕ) → l ≡ word_of w 65535 → l ≡ k → small_by k ≡ small_of w
 unfolding small_of
 small_by_lem w l k e n = ap small_by (sym n ∙ e)

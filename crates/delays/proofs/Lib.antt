@@ -1,4 +1,3 @@
 pub mod Signs
 pub mod Steps
-pub mod Wide
 pub mod Determined

@@ -38,17 +38,6 @@ sum_signed false n = refl
 sum_signed true zero = refl
 sum_signed true (suc n) = refl
 
--- ---- two words are the digits of their magnitude
-pub zero_words : (s : Bool) (high low : ℕ) → high ≡ 0 → low ≡ 0 → record { negative = false; high = 0; low = 0 } ≡ sum_from s (magnitude high low)
-zero_words s high low h l = go s ∙ ap (λ (n : ℕ). sum_from s n) (sym (nothing high low h l))
-  where
-    nothing : (high low : ℕ) → high ≡ 0 → low ≡ 0 → magnitude high low ≡ 0
-    nothing high low h l = omega arith
-
-    go : (s : Bool) → record { negative = false; high = 0; low = 0 } ≡ sum_from s 0
-    go true = refl
-    go false = refl
-
 pub some_words : (s : Bool) (high low : ℕ) → low < 2 ^ 64 → (magnitude high low ≡ 0 → ⊥) → record { negative = s; high = high; low = low } ≡ sum_from s (magnitude high low)
 some_words s high low l h =
     λ i. record { negative = sign s (magnitude high low) (above (magnitude high low) h) i; high = sym (digits_div high l) i; low = sym (digits_mod high l) i }
@@ -59,12 +48,6 @@ some_words s high low l h =
     sign : (s : Bool) (n : ℕ) → 0 < n → s ≡ s && ltb 0 n
     sign true n h = sym (lt-ltb 0 n h)
     sign false n h = refl
-
-pub high_some : (high low : ℕ) → (high ≡ 0 → ⊥) → magnitude high low ≡ 0 → ⊥
-high_some high low h e = omega arith
-
-pub low_some : (high low : ℕ) → (low ≡ 0 → ⊥) → magnitude high low ≡ 0 → ⊥
-low_some high low h e = omega arith
 
 -- ---- what `enlarged` and `lessened` hand on
 pub carried : (high low more room : ℕ) → low < 2 ^ 64 → more < 2 ^ 64 → room ≡ 18446744073709551615 - low → room < more → magnitude (high + 1) (more - room - 1) ≡ magnitude high low + more
@@ -78,18 +61,6 @@ not_borrowed high low less h = omega arith
 
 pub borrowed : (high low less : ℕ) → less < 2 ^ 64 → less ≤ magnitude high low → low < less → magnitude (high - 1) (18446744073709551615 - less + low + 1) ≡ magnitude high low - less
 borrowed high low less l m h = omega arith
-
-pub some_high : (high low less : ℕ) → less ≤ magnitude high low → low < less → 1 ≤ high
-some_high high low less m h = omega arith
-
-pub word_at-most : (n : ℕ) → n < 2 ^ 64 → n ≤ 18446744073709551615
-word_at-most n h = omega arith
-
-pub borrow_fits : (low less : ℕ) → low < less → less < 2 ^ 64 → 18446744073709551615 - less + low < 2 ^ 64
-borrow_fits low less h l = omega arith
-
-pub borrow_fits_too : (low less : ℕ) → low < less → less < 2 ^ 64 → 18446744073709551615 - less + low + 1 < 2 ^ 64
-borrow_fits_too low less h l = omega arith
 
 -- ---- the three ways through `added`
 like : (s t : Bool) → beq s t ≡ true → s ≡ t
@@ -116,18 +87,6 @@ module _ (s t : Bool) (a b : ℕ) where
       sum_signed t (b - a)
       ∙ ap (λ (x : Bool). sum_of (signed x (b - a))) (unlike s t h)
       ∙ ap sum_of (sym (larger-second s a b l) ∙ ap (λ (x : Bool). signed s a +ℤ signed x b) (sym (unlike s t h)))
-
-pub one_word : (high low more : ℕ) → high ≡ 0 → magnitude 0 (more - low) ≡ more - magnitude high low
-one_word high low more h = omega arith
-
-pub small_sum : (high low more : ℕ) → high ≡ 0 → low < more → magnitude high low < more
-small_sum high low more h l = omega arith
-
-pub high_enough : (high low more : ℕ) → more < 2 ^ 64 → (high ≡ 0 → ⊥) → more ≤ magnitude high low
-high_enough high low more m h = omega arith
-
-pub low_enough : (high low more : ℕ) → more ≤ low → more ≤ magnitude high low
-low_enough high low more h = omega arith
 
 -- ---- a magnitude is below 2 ^ 126 where its high word is below 2 ^ 62
 pub high_bound : (high low : ℕ) → low < 2 ^ 64 → ltb (magnitude high low) (2 ^ 126) ≡ ltb high (2 ^ 62)

@@ -1,4 +1,5 @@
 -- What the proofs of the other functions cite: on each way, what is answered is what the definition says. Assumes nothing.
+use Rattle.std.specs.Prelude.{Option, Some, None}
 use mathlib.Core.Path.{◌≡◌, refl, sym, ap, ◌∙◌}
 use mathlib.Core.Bool.{Bool, true, false, ◌&&◌, true≢false, false≢true}
 use Prim.Native.Nat.{ℕ, zero, suc, ◌+◌, ◌≤◌, ◌<◌}
@@ -13,14 +14,10 @@ use Rattle.floats.specs.Whole.{magnitude, signed}
 use Rattle.floats.proofs.Negative.{million}
 use Rattle.delays.specs.declared.Nanoseconds.{Nanoseconds}
 use Rattle.delays.specs.declared.Sum.{Sum}
-use Rattle.delays.specs.declared.Extreme.{Extreme}
-use Rattle.delays.specs.declared.Extreme.TheVariants as extreme
-use Rattle.delays.specs.declared.Milliseconds.{Milliseconds}
-use Rattle.delays.specs.declared.Milliseconds.TheVariants as milliseconds
 use Rattle.delays.specs.declared.Delays.{Delays}
 use Rattle.delays.specs.Sums.{value_of, total_of, sum_of}
 use Rattle.delays.specs.Delays.{lesser, greater, recorded_of}
-use Rattle.delays.specs.Summary.{in_ms, extreme_ms, quotient_ms, average_ms, summary_of}
+use Rattle.delays.specs.Summary.{in_ms, quotient_ms, average_ms}
 
 -- ---- `below`
 is_negative : (s : Bool) (n : ℕ) → s && ltb 0 n ≡ true → (k : ℕ) × (signed s n ≡ negsuc k) × (n ≡ suc k)
@@ -66,27 +63,27 @@ module _ (s t : Bool) (m n : ℕ) where
   none-under h k = sym (ap (λ (z : ℤ). lt_z z (signed t n)) (not_negative s m h) ∙ ap (lt_z (pos m)) (not_negative t n k))
 
 -- ---- `lesser_of` and `greater_of`
-module _ (e : Extreme) (ns m : Nanoseconds) where
-  pub now_least : e ≡ extreme.At m → lt_z (value_of ns) (value_of m) ≡ true → extreme.At ns ≡ lesser e ns
+module _ (e : Option Nanoseconds) (ns m : Nanoseconds) where
+  pub now_least : e ≡ Some m → lt_z (value_of ns) (value_of m) ≡ true → Some ns ≡ lesser e ns
   now_least h t = rw (h, t)
 
-  pub still-least : e ≡ extreme.At m → lt_z (value_of ns) (value_of m) ≡ false → extreme.At m ≡ lesser e ns
+  pub still-least : e ≡ Some m → lt_z (value_of ns) (value_of m) ≡ false → Some m ≡ lesser e ns
   still-least h t = rw (h, t)
 
-  pub now_most : e ≡ extreme.At m → lt_z (value_of m) (value_of ns) ≡ true → extreme.At ns ≡ greater e ns
+  pub now_most : e ≡ Some m → lt_z (value_of m) (value_of ns) ≡ true → Some ns ≡ greater e ns
   now_most h t = rw (h, t)
 
-  pub still-most : e ≡ extreme.At m → lt_z (value_of m) (value_of ns) ≡ false → extreme.At m ≡ greater e ns
+  pub still-most : e ≡ Some m → lt_z (value_of m) (value_of ns) ≡ false → Some m ≡ greater e ns
   still-most h t = rw (h, t)
 
-pub first-least : (e : Extreme) (ns : Nanoseconds) → e ≡ extreme.Absent → extreme.At ns ≡ lesser e ns
+pub first-least : (e : Option Nanoseconds) (ns : Nanoseconds) → e ≡ None → Some ns ≡ lesser e ns
 first-least e ns h = rw h
 
-pub first-most : (e : Extreme) (ns : Nanoseconds) → e ≡ extreme.Absent → extreme.At ns ≡ greater e ns
+pub first-most : (e : Option Nanoseconds) (ns : Nanoseconds) → e ≡ None → Some ns ≡ greater e ns
 first-most e ns h = rw h
 
 -- ---- `recorded`
-pub together : (d : Delays) (ns : Nanoseconds) (s : Sum) (l m : Extreme) → s ≡ sum_of (total_of d.sum +ℤ value_of ns) → l ≡ lesser d.min ns → m ≡ greater d.max ns
+pub together : (d : Delays) (ns : Nanoseconds) (s : Sum) (l m : Option Nanoseconds) → s ≡ sum_of (total_of d.sum +ℤ value_of ns) → l ≡ lesser d.min ns → m ≡ greater d.max ns
     → record { count = d.count + 1; sum = s; min = l; max = m } ≡ recorded_of d ns
 together d ns s l m p q r = λ i. record { count = d.count + 1; sum = p i; min = q i; max = r i }
 
@@ -99,23 +96,15 @@ spanned s n x e =
     one_word : (n : ℕ) → magnitude 0 n ≡ n
     one_word n = omega arith
 
-pub shown : (e : Extreme) (ns : Nanoseconds) (x : Float) → e ≡ extreme.At ns → x ≡ in_ms (value_of ns) → milliseconds.Known x ≡ extreme_ms e
-shown e ns x h k = ap milliseconds.Known k ∙ sym (ap extreme_ms h)
-
 pub divided : (z : ℤ) (count : ℕ) (x y : Float) → (count ≡ 0 → ⊥) → x ≡ of_int binary64 z → y ≡ of_int binary64 (pos count)
-    → milliseconds.Known (div binary64 (div binary64 x y) (of_bits binary64 0x412e_8480_0000_0000)) ≡ average_ms z count
+    → Some (div binary64 (div binary64 x y) (of_bits binary64 0x412e_8480_0000_0000)) ≡ average_ms z count
 divided z count x y h p q =
-    ap milliseconds.Known
+    ap Some
     (ap (λ (v : Float). div binary64 (div binary64 v y) (of_bits binary64 0x412e_8480_0000_0000)) p
     ∙ ap (λ (v : Float). div binary64 (div binary64 (of_int binary64 z) v) (of_bits binary64 0x412e_8480_0000_0000)) q
     ∙ ap (div binary64 (div binary64 (of_int binary64 z) (of_int binary64 (pos count)))) million)
     ∙ go count h
   where
-    go : (count : ℕ) → (count ≡ 0 → ⊥) → milliseconds.Known (quotient_ms z count) ≡ average_ms z count
+    go : (count : ℕ) → (count ≡ 0 → ⊥) → Some (quotient_ms z count) ≡ average_ms z count
     go zero h = absurd (h refl)
     go (suc n) h = refl
-
--- ---- `summary`
-pub summarized : (d : Delays) (a b m : Milliseconds) → a ≡ extreme_ms d.min → b ≡ average_ms (total_of d.sum) d.count → m ≡ extreme_ms d.max
-    → record { samples = d.count; min = a; average = b; max = m } ≡ summary_of d
-summarized d a b m p q r = λ i. record { samples = d.count; min = p i; average = q i; max = r i }

@@ -1,25 +1,23 @@
 -- What a sample leaves of the delays, over the integers. Assumes nothing.
-use Rattle.std.specs.Prelude.{cond, ◌+◌, pos, ◌+ℤ◌}
+use Rattle.std.specs.Prelude.{cond, ◌+◌, pos, ◌+ℤ◌, Option, Some, None}
 use Rattle.std.specs.Int.Signed.{lt_z}
 use Rattle.delays.specs.declared.Nanoseconds.{Nanoseconds}
-use Rattle.delays.specs.declared.Extreme.{Extreme}
-use Rattle.delays.specs.declared.Extreme.TheVariants as extreme
 use Rattle.delays.specs.declared.Delays.{Delays}
 use Rattle.delays.specs.Sums.{value_of, total_of, sum_of}
 
 -- the sample where it is below the smallest, or the first
-abbrev pub lesser : Extreme → Nanoseconds → Extreme
-lesser extreme.Absent ns = extreme.At ns
-lesser (extreme.At least) ns = extreme.At (cond (lt_z (value_of ns) (value_of least)) ns least)
+abbrev pub lesser : Option Nanoseconds → Nanoseconds → Option Nanoseconds
+lesser None ns = Some ns
+lesser (Some least) ns = Some (cond (lt_z (value_of ns) (value_of least)) ns least)
 
 -- the sample where it is above the largest, or the first
-abbrev pub greater : Extreme → Nanoseconds → Extreme
-greater extreme.Absent ns = extreme.At ns
-greater (extreme.At most) ns = extreme.At (cond (lt_z (value_of most) (value_of ns)) ns most)
+abbrev pub greater : Option Nanoseconds → Nanoseconds → Option Nanoseconds
+greater None ns = Some ns
+greater (Some most) ns = Some (cond (lt_z (value_of most) (value_of ns)) ns most)
 
 -- no sample yet
 abbrev pub fresh : Delays
-fresh = record { count = 0; sum = sum_of (pos 0); min = extreme.Absent; max = extreme.Absent }
+fresh = record { count = 0; sum = sum_of (pos 0); min = None; max = None }
 
 -- what `record` leaves
 abbrev pub recorded_of : Delays → Nanoseconds → Delays

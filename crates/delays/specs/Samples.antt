@@ -1,8 +1,6 @@
 -- What the delays show, from the plain list of their samples, the newest first: count, sum, least and greatest. Assumes nothing.
-use Rattle.std.specs.Prelude.{◌≡◌, ◌⊎◌, List, [], ◌∷◌, length, ℤ, pos, ◌+ℤ◌, ◌≤ℤ◌}
+use Rattle.std.specs.Prelude.{◌≡◌, ◌⊎◌, List, [], ◌∷◌, length, ℤ, pos, ◌+ℤ◌, ◌≤ℤ◌, Option, Some, None}
 use Rattle.delays.specs.declared.Nanoseconds.{Nanoseconds}
-use Rattle.delays.specs.declared.Extreme.{Extreme}
-use Rattle.delays.specs.declared.Extreme.TheVariants as extreme
 use Rattle.delays.specs.declared.Delays.{Delays}
 use Rattle.delays.specs.Sums.{value_of, sum_of}
 use Rattle.delays.specs.Delays.{fresh, recorded_of}
@@ -28,14 +26,14 @@ AtLeastAll m [] = Unit {0}
 AtLeastAll m (s ∷ ss) = (value_of s ≤ℤ value_of m) × AtLeastAll m ss
 
 -- the least sample, and none where there is none
-abbrev pub Least : List Nanoseconds → Extreme → Type 0
-Least ss extreme.Absent = ss ≡ []
-Least ss (extreme.At m) = Among m ss × AtMostAll m ss
+abbrev pub Least : List Nanoseconds → Option Nanoseconds → Type 0
+Least ss None = ss ≡ []
+Least ss (Some m) = Among m ss × AtMostAll m ss
 
 -- the greatest sample, and none where there is none
-abbrev pub Greatest : List Nanoseconds → Extreme → Type 0
-Greatest ss extreme.Absent = ss ≡ []
-Greatest ss (extreme.At m) = Among m ss × AtLeastAll m ss
+abbrev pub Greatest : List Nanoseconds → Option Nanoseconds → Type 0
+Greatest ss None = ss ≡ []
+Greatest ss (Some m) = Among m ss × AtLeastAll m ss
 
 -- the delays that recording the samples leaves
 unfoldable pub played : List Nanoseconds → Delays

@@ -1,11 +1,9 @@
 -- The delays after recording any list of samples from fresh show that list, and so does their summary. Assumes nothing.
-use Rattle.std.specs.Prelude.{◌≡◌, refl, Bool, true, false, not, ◌&&◌, cond, List, [], ◌∷◌, ℕ, suc, ◌/◌, ◌%◌, ◌^◌, length, ℤ, pos, negsuc, neg_ℤ, ◌+ℤ◌, ◌≤ℤ◌, T}
+use Rattle.std.specs.Prelude.{◌≡◌, refl, Bool, true, false, not, ◌&&◌, cond, List, [], ◌∷◌, ℕ, suc, ◌/◌, ◌%◌, ◌^◌, length, ℤ, pos, negsuc, neg_ℤ, ◌+ℤ◌, ◌≤ℤ◌, T, Option, Some, None}
 use Rattle.std.proofs.Common.{sym, ap, ◌∙◌, subst, inl, inr, zero-lt-suc, le_trans, le_antisymm, le_of_lt, div-add-mod', add-one, leb→le, le→leb, ltb→lt, lt-ltb}
 use Rattle.std.specs.Int.Signed.{lt_z, le_z, lt_z_no, ≤ℤ_refl}
 use Rattle.floats.specs.Whole.{magnitude, signed}
 use Rattle.delays.specs.declared.Nanoseconds.{Nanoseconds}
-use Rattle.delays.specs.declared.Extreme.{Extreme}
-use Rattle.delays.specs.declared.Extreme.TheVariants as extreme
 use Rattle.delays.specs.declared.Delays.{Delays}
 use Rattle.delays.specs.Sums.{value_of, nanoseconds_of, total_of, sum_of}
 use Rattle.delays.specs.Delays.{lesser, greater, fresh, recorded_of}
@@ -57,19 +55,19 @@ higher : (a m : Nanoseconds) (ss : List Nanoseconds) → value_of m ≤ℤ value
 higher a m [] l h = tt
 higher a m (s ∷ ss) l h = (at_most h.0 l, higher a m ss l h.1)
 
-least_more : (e : Extreme) (s : Nanoseconds) (ss : List Nanoseconds) → Least ss e → Least (s ∷ ss) (lesser e s)
-least_more extreme.Absent s ss h = subst (λ (l : List Nanoseconds). Among s (s ∷ l) × AtMostAll s (s ∷ l)) (sym h) (inl refl, (≤ℤ_refl (value_of s), tt))
-least_more (extreme.At m) s ss h = go (lt_z (value_of s) (value_of m)) refl
+least_more : (e : Option Nanoseconds) (s : Nanoseconds) (ss : List Nanoseconds) → Least ss e → Least (s ∷ ss) (lesser e s)
+least_more None s ss h = subst (λ (l : List Nanoseconds). Among s (s ∷ l) × AtMostAll s (s ∷ l)) (sym h) (inl refl, (≤ℤ_refl (value_of s), tt))
+least_more (Some m) s ss h = go (lt_z (value_of s) (value_of m)) refl
   where
-    go : (b : Bool) → lt_z (value_of s) (value_of m) ≡ b → Least (s ∷ ss) (extreme.At (cond b s m))
+    go : (b : Bool) → lt_z (value_of s) (value_of m) ≡ b → Least (s ∷ ss) (Some (cond b s m))
     go true e = (inl refl, (≤ℤ_refl (value_of s), lower s m ss (record { le = below (value_of s) (value_of m) (yes e) }) h.1))
     go false e = (inr h.0, (lt_z_no (no e), h.1))
 
-greatest_more : (e : Extreme) (s : Nanoseconds) (ss : List Nanoseconds) → Greatest ss e → Greatest (s ∷ ss) (greater e s)
-greatest_more extreme.Absent s ss h = subst (λ (l : List Nanoseconds). Among s (s ∷ l) × AtLeastAll s (s ∷ l)) (sym h) (inl refl, (≤ℤ_refl (value_of s), tt))
-greatest_more (extreme.At m) s ss h = go (lt_z (value_of m) (value_of s)) refl
+greatest_more : (e : Option Nanoseconds) (s : Nanoseconds) (ss : List Nanoseconds) → Greatest ss e → Greatest (s ∷ ss) (greater e s)
+greatest_more None s ss h = subst (λ (l : List Nanoseconds). Among s (s ∷ l) × AtLeastAll s (s ∷ l)) (sym h) (inl refl, (≤ℤ_refl (value_of s), tt))
+greatest_more (Some m) s ss h = go (lt_z (value_of m) (value_of s)) refl
   where
-    go : (b : Bool) → lt_z (value_of m) (value_of s) ≡ b → Greatest (s ∷ ss) (extreme.At (cond b s m))
+    go : (b : Bool) → lt_z (value_of m) (value_of s) ≡ b → Greatest (s ∷ ss) (Some (cond b s m))
     go true e = (inl refl, (≤ℤ_refl (value_of s), higher s m ss (record { le = below (value_of m) (value_of s) (yes e) }) h.1))
     go false e = (inr h.0, (lt_z_no (no e), h.1))
 
@@ -109,10 +107,10 @@ both_ways (pos a) (negsuc b) h k = absurd h.le
 both_ways (negsuc a) (pos b) h k = absurd k.le
 both_ways (negsuc a) (negsuc b) h k = ap negsuc (le_antisymm (leb→le a b k.le) (leb→le b a h.le))
 
-pub least-value : (ss : List Nanoseconds) (m n : Nanoseconds) → Least ss (extreme.At m) → Least ss (extreme.At n) → value_of m ≡ value_of n
+pub least-value : (ss : List Nanoseconds) (m n : Nanoseconds) → Least ss (Some m) → Least ss (Some n) → value_of m ≡ value_of n
 least-value ss m n h k = both_ways (value_of m) (value_of n) (from_all m n ss h.1 k.0) (from_all n m ss k.1 h.0)
 
-pub greatest-value : (ss : List Nanoseconds) (m n : Nanoseconds) → Greatest ss (extreme.At m) → Greatest ss (extreme.At n) → value_of m ≡ value_of n
+pub greatest-value : (ss : List Nanoseconds) (m n : Nanoseconds) → Greatest ss (Some m) → Greatest ss (Some n) → value_of m ≡ value_of n
 greatest-value ss m n h k = both_ways (value_of m) (value_of n) (to_all n m ss k.1 h.0) (to_all m n ss h.1 k.0)
 
 -- ---- and the summary divides the sum of the samples by their number

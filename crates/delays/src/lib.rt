@@ -1,5 +1,7 @@
 // A port of `Delays` and `DelaySummary` of src/sender/measurements.rs. An i128 is a sign and two words, and a sample a sign and one word:
 // a round trip is at most 2^64 - 1 ns, and a follow-up delay at most 8 * 10^18 + 8.64 * 10^13 ns either way.
+#![tactic(auto)]
+
 ghost use Rattle.std.specs.Prelude.{◌≡◌, ◌+◌, ◌-◌, ◌^◌, ◌≤◌, ◌<◌, pos, ◌+ℤ◌};
 ghost use Rattle.std.specs.Int.Signed.{lt_z};
 ghost use Rattle.floats.specs.Whole.{magnitude};
@@ -7,6 +9,8 @@ ghost use Rattle.delays.specs.Sums.{nanoseconds_of, value_of, total_of, sum_from
 ghost use Rattle.delays.specs.Delays.{lesser, greater, fresh, recorded_of};
 ghost use Rattle.delays.specs.Bounds.{Bounded, counts_fit, refusal_of, answer};
 ghost use Rattle.delays.specs.Summary.{in_ms, extreme_ms, average_ms, summary_of};
+
+use limits::Refusal;
 
 // A time span in ns. Zero is not negative.
 #[derive(Clone, Copy)]
@@ -23,41 +27,20 @@ pub struct Sum {
     pub low: u64,
 }
 
-// The smallest or largest sample, or none.
-#[derive(Clone, Copy)]
-pub enum Extreme {
-    Absent,
-    At(Nanoseconds),
-}
-
 #[derive(Clone, Copy)]
 pub struct Delays {
     pub count: u64,
     pub sum: Sum,
-    pub min: Extreme,
-    pub max: Extreme,
-}
-
-// What recording a sample answers: the delays as they then stand, or the number of the refusal.
-#[derive(Clone, Copy)]
-pub enum Recorded {
-    Delays(Delays),
-    Refused(u8),
-}
-
-// A time span in ms, or none.
-#[derive(Clone, Copy)]
-pub enum Milliseconds {
-    Absent,
-    Known(f64),
+    pub min: Option<Nanoseconds>,
+    pub max: Option<Nanoseconds>,
 }
 
 #[derive(Clone, Copy)]
 pub struct DelaySummary {
     pub samples: u64,
-    pub min: Milliseconds,
-    pub average: Milliseconds,
-    pub max: Milliseconds,
+    pub min: Option<f64>,
+    pub average: Option<f64>,
+    pub max: Option<f64>,
 }
 
 // A sum's high word at this is a magnitude of 2^126.
@@ -77,15 +60,9 @@ pub fn from_u64(ns: u64) -> Nanoseconds
 pub fn from_i64(ns: i64) -> Nanoseconds
     ensures { result ≡ nanoseconds_of ns }
 {
-    if ns < 0 {
-        return Nanoseconds {
-            negative: true,
-            magnitude: ((-(ns + 1)) as u64) + 1,
-        };
-    }
     Nanoseconds {
-        negative: false,
-        magnitude: ns as u64,
+        negative: ns < 0,
+        magnitude: ns.unsigned_abs(),
     }
 }
 
@@ -93,17 +70,8 @@ pub fn from_i64(ns: i64) -> Nanoseconds
 fn canonical(negative: bool, high: u64, low: u64) -> Sum
     ensures { result ≡ sum_from negative (magnitude high low) }
 {
-    if high == 0 {
-        if low == 0 {
-            return Sum {
-                negative: false,
-                high: 0,
-                low: 0,
-            };
-        }
-    }
     Sum {
-        negative,
+        negative: negative && (high > 0 || low > 0),
         high,
         low,
     }
@@ -137,62 +105,42 @@ fn added(sum: Sum, ns: Nanoseconds) -> Sum
     requires { sum.high < 2 ^ 62 }
     ensures { result ≡ sum_of (total_of sum +ℤ value_of ns) }
 {
-    let high = sum.high;
-    let low = sum.low;
     if sum.negative == ns.negative {
-        return enlarged(sum.negative, high, low, ns.magnitude);
+        return enlarged(sum.negative, sum.high, sum.low, ns.magnitude);
     }
-    if high == 0 {
-        if low < ns.magnitude {
-            return canonical(ns.negative, 0, ns.magnitude - low);
-        }
+    if sum.high == 0 && sum.low < ns.magnitude {
+        return canonical(ns.negative, 0, ns.magnitude - sum.low);
     }
-    lessened(sum.negative, high, low, ns.magnitude)
+    lessened(sum.negative, sum.high, sum.low, ns.magnitude)
 }
 
 // a is below b.
 fn below(a: Nanoseconds, b: Nanoseconds) -> bool
     ensures { result ≡ lt_z (value_of a) (value_of b) }
 {
-    let under = a.negative & (a.magnitude > 0);
-    let above = b.negative & (b.magnitude > 0);
-    if under {
-        if above {
-            return b.magnitude < a.magnitude;
-        }
-        return true;
+    let a_under = a.negative && a.magnitude > 0;
+    let b_under = b.negative && b.magnitude > 0;
+    if a_under && b_under {
+        return b.magnitude < a.magnitude;
     }
-    if above {
-        return false;
-    }
-    a.magnitude < b.magnitude
+    a_under || !b_under && a.magnitude < b.magnitude
 }
 
-fn lesser_of(extreme: Extreme, ns: Nanoseconds) -> Extreme
+fn lesser_of(extreme: Option<Nanoseconds>, ns: Nanoseconds) -> Option<Nanoseconds>
     ensures { result ≡ lesser extreme ns }
 {
     match extreme {
-        Extreme::At(least) => {
-            if below(ns, least) {
-                return Extreme::At(ns);
-            }
-            Extreme::At(least)
-        }
-        Extreme::Absent => Extreme::At(ns),
+        Some(least) if !below(ns, least) => Some(least),
+        _ => Some(ns),
     }
 }
 
-fn greater_of(extreme: Extreme, ns: Nanoseconds) -> Extreme
+fn greater_of(extreme: Option<Nanoseconds>, ns: Nanoseconds) -> Option<Nanoseconds>
     ensures { result ≡ greater extreme ns }
 {
     match extreme {
-        Extreme::At(most) => {
-            if below(most, ns) {
-                return Extreme::At(ns);
-            }
-            Extreme::At(most)
-        }
-        Extreme::Absent => Extreme::At(ns),
+        Some(most) if !below(most, ns) => Some(most),
+        _ => Some(ns),
     }
 }
 
@@ -203,24 +151,21 @@ fn in_ms(ns: Nanoseconds) -> f64
     floats::nearest_signed(ns.negative, 0, ns.magnitude) / 1000000.0
 }
 
-fn extreme_ms(extreme: Extreme) -> Milliseconds
+fn extreme_ms(extreme: Option<Nanoseconds>) -> Option<f64>
     ensures { result ≡ extreme_ms extreme }
 {
-    match extreme {
-        Extreme::At(ns) => Milliseconds::Known(in_ms(ns)),
-        Extreme::Absent => Milliseconds::Absent,
-    }
+    extreme.map(in_ms)
 }
 
-fn average_ms(sum: Sum, count: u64) -> Milliseconds
+fn average_ms(sum: Sum, count: u64) -> Option<f64>
     ensures { result ≡ average_ms (total_of sum) count }
 {
     if count == 0 {
-        return Milliseconds::Absent;
+        return None;
     }
     let total = floats::nearest_signed(sum.negative, sum.high, sum.low);
     let divisor = floats::nearest(count);
-    Milliseconds::Known(total / divisor / 1000000.0)
+    Some(total / divisor / 1000000.0)
 }
 
 impl Delays {
@@ -235,8 +180,8 @@ impl Delays {
                 high: 0,
                 low: 0,
             },
-            min: Extreme::Absent,
-            max: Extreme::Absent,
+            min: None,
+            max: None,
         }
     }
 
@@ -244,19 +189,17 @@ impl Delays {
     pub fn counts_fit(self) -> bool
         ensures { result ≡ counts_fit self }
     {
-        let sum = self.sum;
-        (self.count < limits::COUNT_BOUND) & (sum.high < HIGH_BOUND)
+        self.count < limits::COUNT_BOUND && self.sum.high < HIGH_BOUND
     }
 
     // Refused where the count or the sum is at its bound.
-    pub fn record(self, ns: Nanoseconds) -> Recorded
+    pub fn record(self, ns: Nanoseconds) -> Result<Delays, Refusal>
         ensures { result ≡ answer (refusal_of self) (recorded_of self ns) }
     {
         if self.counts_fit() {
-            let next = self.recorded(ns);
-            return Recorded::Delays(next);
+            return Ok(self.recorded(ns));
         }
-        Recorded::Refused(limits::COUNTS_FULL)
+        Err(Refusal::CountsFull)
     }
 
     // One sample more, for a caller that has tested the count and the sum.
@@ -264,17 +207,11 @@ impl Delays {
         requires { Bounded self }
         ensures { result ≡ recorded_of self ns }
     {
-        let before = self.sum;
-        let least = self.min;
-        let most = self.max;
-        let sum = added(before, ns);
-        let min = lesser_of(least, ns);
-        let max = greater_of(most, ns);
         Delays {
             count: self.count + 1,
-            sum,
-            min,
-            max,
+            sum: added(self.sum, ns),
+            min: lesser_of(self.min, ns),
+            max: greater_of(self.max, ns),
         }
     }
 
@@ -282,17 +219,11 @@ impl Delays {
     pub fn summary(self) -> DelaySummary
         ensures { result ≡ summary_of self }
     {
-        let sum = self.sum;
-        let least = self.min;
-        let most = self.max;
-        let min = extreme_ms(least);
-        let average = average_ms(sum, self.count);
-        let max = extreme_ms(most);
         DelaySummary {
             samples: self.count,
-            min,
-            average,
-            max,
+            min: extreme_ms(self.min),
+            average: average_ms(self.sum, self.count),
+            max: extreme_ms(self.max),
         }
     }
 }

@@ -1,2 +1,1 @@
-pub mod Wraps
 pub mod Room

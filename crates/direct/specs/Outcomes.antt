@@ -1,14 +1,10 @@
 -- What one reply's counters make of the direct measurement: an outcome for each sentence of document 01, 'Direct loss', in its order.
 -- N is how many offsets are remembered.
-use Rattle.std.specs.Prelude.{ℕ, ◌+◌, ◌<◌, max, Bool, true, false, cond, ◌&&◌, ◌==◌, nat_lt}
+use Rattle.std.specs.Prelude.{ℕ, ◌+◌, ◌<◌, max, Bool, true, false, cond, ◌&&◌, ◌==◌, nat_lt, Option, Some, None}
 use Rattle.limits.specs.Limits.{count_bound}
 use Rattle.call_types.specs.declared.CounterPoint.{CounterPoint}
-use Rattle.call_types.specs.declared.Ordinal.{Ordinal}
-use Rattle.call_types.specs.declared.Ordinal.TheVariants as ordinal
 use Rattle.direct.specs.declared.Counts.{Counts}
 use Rattle.direct.specs.declared.Epoch.{Epoch}
-use Rattle.direct.specs.declared.Window.{Window}
-use Rattle.direct.specs.declared.Window.TheVariants.{Closed, Open}
 use Rattle.direct.specs.declared.Direct.{Direct}
 use Rattle.direct.specs.declared.Offsets.{Offsets}
 use Rattle.direct.specs.declared.Offsets.TheVariants.{Kept, Begun, Added, Cleared}
@@ -103,42 +99,42 @@ moved_by true e c = below e c
 moved_by false e c = above e c
 
 -- these counts and this window, and what becomes of the seen offsets
-abbrev pub step : Counts → Window → Offsets → Step
+abbrev pub step : Counts → Option Epoch → Offsets → Step
 step n w o = record { direct = record { counts = n; window = w }; offsets = o }
 
 -- ---- the outcomes
 
 -- "Sender count other than the ordinal: unavailable, and its offsets are not seen." Also where there is no ordinal
-abbrev pub mismatched : Counts → Window → Step
+abbrev pub mismatched : Counts → Option Epoch → Step
 mismatched n w = step (one_unavailable n) w Kept
 
 -- "Without an anchor: both reflector counts 0, unavailable"
 abbrev pub zeros : Counts → Step
-zeros n = step (one_unavailable (one_observed n)) Closed Kept
+zeros n = step (one_unavailable (one_observed n)) None Kept
 
 -- "else it becomes the anchor, offset 0 is seen and no missing is shown"
 abbrev pub anchored : Counts → CounterPoint → Step
-anchored n c = step (one_observed n) (Open (anchored_at c)) Begun
+anchored n c = step (one_observed n) (Some (anchored_at c)) Begun
 
 -- "discontinuity; anchor and estimates go. This packet doesn't become the anchor."
 abbrev pub broken : Counts → Step
-broken n = step (one_discontinuity (one_observed n)) Closed Cleared
+broken n = step (one_discontinuity (one_observed n)) None Cleared
 
 -- "Seen transmit offset: unavailable and discontinuity, cleared likewise."
 abbrev pub seen_again : Counts → Step
-seen_again n = step (one_discontinuity (one_unavailable (one_observed n))) Closed Cleared
+seen_again n = step (one_discontinuity (one_unavailable (one_observed n))) None Cleared
 
 -- "4,096 offsets seen: history exceeded (stays set), cleared likewise."
 abbrev pub full : Counts → Step
-full n = step (history_exceeded (one_observed n)) Closed Cleared
+full n = step (history_exceeded (one_observed n)) None Cleared
 
 -- "Else an offset below the highest is reordered": it is an observation, and its offset is seen
 abbrev pub was_reordered : Counts → Epoch → CounterPoint → Step
-was_reordered n e c = step (one_reordered (one_observed n)) (Open (below e c)) (Added (transmit_offset e.anchor c))
+was_reordered n e c = step (one_reordered (one_observed n)) (Some (below e c)) (Added (transmit_offset e.anchor c))
 
 -- "one above": it is an observation, the latest point, and its offset is seen
 abbrev pub advanced : Counts → Epoch → CounterPoint → Step
-advanced n e c = step (one_observed n) (Open (above e c)) (Added (transmit_offset e.anchor c))
+advanced n e c = step (one_observed n) (Some (above e c)) (Added (transmit_offset e.anchor c))
 
 -- ---- which of them
 
@@ -161,31 +157,31 @@ both_zero c = c.received.0 == 0 && c.transmitted.0 == 0
 
 module _ (N : ℕ) where
   -- by whether there is an anchor, for a sender count that is the ordinal; again: its offset was seen
-  abbrev pub in_window : Counts → Window → CounterPoint → Bool → Step
-  in_window n Closed c again = without_anchor (both_zero c) n c
-  in_window n (Open e) c again =
+  abbrev pub in_window : Counts → Option Epoch → CounterPoint → Bool → Step
+  in_window n None c again = without_anchor (both_zero c) n c
+  in_window n (Some e) c again =
       with_anchor (jumps e.anchor c) again (e.seen == N) (nat_lt (transmit_offset e.anchor c) (highest e)) n e c
 
   -- by whether the sender count is the ordinal
-  abbrev pub by_ordinal : Bool → Counts → Window → CounterPoint → Bool → Step
+  abbrev pub by_ordinal : Bool → Counts → Option Epoch → CounterPoint → Bool → Step
   by_ordinal true n w c again = in_window n w c again
   by_ordinal false n w c again = mismatched n w
 
   -- the counters c of a reply whose probe has the ordinal; again: whether their transmit offset was seen
-  unfoldable pub recorded : Direct → CounterPoint → Ordinal → Bool → Step
-  recorded d c ordinal.Absent again = mismatched d.counts d.window
-  recorded d c (ordinal.Number m) again = by_ordinal (c.sender.0 == m) d.counts d.window c again
+  unfoldable pub recorded : Direct → CounterPoint → Option ℕ → Bool → Step
+  recorded d c None again = mismatched d.counts d.window
+  recorded d c (Some m) again = by_ordinal (c.sender.0 == m) d.counts d.window c again
 
 -- the transmit offset that is looked for among those seen: without an anchor none is seen, and any will do
-abbrev pub sought_in : Window → CounterPoint → ℕ
-sought_in Closed c = 0
-sought_in (Open e) c = transmit_offset e.anchor c
+abbrev pub sought_in : Option Epoch → CounterPoint → ℕ
+sought_in None c = 0
+sought_in (Some e) c = transmit_offset e.anchor c
 
 -- a fresh measurement
 abbrev pub fresh_direct : Direct
 fresh_direct = record {
   counts = record { observations = 0; unavailable = 0; discontinuities = 0; reordered = 0; exceeded = false };
-  window = Closed;
+  window = None;
 }
 
 -- refusal 4: no count is at 2^63 or beyond
@@ -201,6 +197,6 @@ pub record InBounds (n : Counts) : Type 0 where
   pub reordered : n.reordered < count_bound
 
 -- how many offsets are seen
-abbrev pub seen_in : Window → ℕ
-seen_in Closed = 0
-seen_in (Open e) = e.seen
+abbrev pub seen_in : Option Epoch → ℕ
+seen_in None = 0
+seen_in (Some e) = e.seen

@@ -11,7 +11,7 @@ ghost use Rattle.direct.specs.Outcomes.{fresh_direct, InBounds, seen_in};
 
 pub mod summary;
 
-use call_types::{CounterPoint, Ordinal, ReflectorRx, ReflectorTx, SenderTx};
+use call_types::{CounterPoint, ReflectorRx, ReflectorTx, SenderTx};
 
 // The counts of `DirectSummary`. `exceeded` is its `history_exceeded`.
 #[derive(Clone, Copy)]
@@ -34,17 +34,10 @@ pub struct Epoch {
     pub seen: usize,
 }
 
-// `anchor: Option<..>` of `Direct`, with what goes when it goes.
-#[derive(Clone, Copy)]
-pub enum Window {
-    Closed,
-    Open(Epoch),
-}
-
 #[derive(Clone, Copy)]
 pub struct Direct {
     pub counts: Counts,
-    pub window: Window,
+    pub window: Option<Epoch>,
 }
 
 // What becomes of the set of seen offsets.
@@ -64,10 +57,11 @@ pub struct Step {
 }
 
 // How far `now` is from `then`, modulo 2^32. Below it has a function for each counter, so that only like counters are subtracted.
+#[tactic(auto, unfolding(crate::specs::Offsets::offset))]
 fn since(then: u32, now: u32) -> u32
     ensures { result ≡ offset then now }
 {
-    std::num::wrapping_sub_u32(now, then)
+    now.wrapping_sub(then)
 }
 
 pub fn sender_since(then: SenderTx, now: SenderTx) -> u32
@@ -92,25 +86,19 @@ pub fn transmitted_since(then: ReflectorTx, now: ReflectorTx) -> u32
 fn sender_offset(anchor: CounterPoint, point: CounterPoint) -> u32
     ensures { result ≡ sender_offset anchor point }
 {
-    let then = anchor.sender;
-    let now = point.sender;
-    sender_since(then, now)
+    sender_since(anchor.sender, point.sender)
 }
 
 fn received_offset(anchor: CounterPoint, point: CounterPoint) -> u32
     ensures { result ≡ received_offset anchor point }
 {
-    let then = anchor.received;
-    let now = point.received;
-    received_since(then, now)
+    received_since(anchor.received, point.received)
 }
 
 pub fn transmit_offset(anchor: CounterPoint, point: CounterPoint) -> u32
     ensures { result ≡ transmit_offset anchor point }
 {
-    let then = anchor.transmitted;
-    let now = point.transmitted;
-    transmitted_since(then, now)
+    transmitted_since(anchor.transmitted, point.transmitted)
 }
 
 // A delta of 2^31 or more is a backwards step in serial-number arithmetic: a reset or data from before the anchor.
@@ -120,13 +108,13 @@ fn breaks(anchor: CounterPoint, point: CounterPoint) -> bool
     let transmitted = transmit_offset(anchor, point);
     let sender = sender_offset(anchor, point);
     let received = received_offset(anchor, point);
-    (2147483648 <= transmitted) | (2147483648 <= sender) | (2147483648 <= received)
+    transmitted >= 2147483648 || sender >= 2147483648 || received >= 2147483648
 }
 
 fn larger(a: u32, b: u32) -> u32
     ensures { result ≡ max a b }
 {
-    if a < b { b } else { a }
+    a.max(b)
 }
 
 impl Counts {
@@ -134,7 +122,7 @@ impl Counts {
         requires { self.unavailable ≤ 2 ^ 63 }
         ensures { result ≡ one_unavailable self }
     {
-        self.unavailable = self.unavailable + 1;
+        self.unavailable += 1;
         self
     }
 
@@ -142,7 +130,7 @@ impl Counts {
         requires { self.observations ≤ 2 ^ 63 }
         ensures { result ≡ one_observed self }
     {
-        self.observations = self.observations + 1;
+        self.observations += 1;
         self
     }
 
@@ -150,7 +138,7 @@ impl Counts {
         requires { self.discontinuities ≤ 2 ^ 63 }
         ensures { result ≡ one_discontinuity self }
     {
-        self.discontinuities = self.discontinuities + 1;
+        self.discontinuities += 1;
         self
     }
 
@@ -158,7 +146,7 @@ impl Counts {
         requires { self.reordered ≤ 2 ^ 63 }
         ensures { result ≡ one_reordered self }
     {
-        self.reordered = self.reordered + 1;
+        self.reordered += 1;
         self
     }
 
@@ -170,7 +158,7 @@ impl Counts {
     }
 }
 
-fn step_of(counts: Counts, window: Window, offsets: Offsets) -> Step
+fn step_of(counts: Counts, window: Option<Epoch>, offsets: Offsets) -> Step
     ensures { result ≡ step counts window offsets }
 {
     Step {
@@ -180,7 +168,7 @@ fn step_of(counts: Counts, window: Window, offsets: Offsets) -> Step
 }
 
 // The sender count is not the probe's ordinal, or the probe has none.
-fn mismatch(counts: Counts, window: Window) -> Step
+fn mismatch(counts: Counts, window: Option<Epoch>) -> Step
     requires { InBounds counts }
     ensures { result ≡ mismatched counts window }
 {
@@ -193,10 +181,8 @@ fn anchor_at(counts: Counts, point: CounterPoint) -> Step
     ensures { result ≡ without_anchor (both_zero point) counts point }
 {
     let observed = counts.one_observed();
-    let received = point.received;
-    let transmitted = point.transmitted;
-    if (received.0 == 0) & (transmitted.0 == 0) {
-        return step_of(observed.one_unavailable(), Window::Closed, Offsets::Kept);
+    if point.received.0 == 0 && point.transmitted.0 == 0 {
+        return step_of(observed.one_unavailable(), None, Offsets::Kept);
     }
     let epoch = Epoch {
         anchor: point,
@@ -205,7 +191,7 @@ fn anchor_at(counts: Counts, point: CounterPoint) -> Step
         received: 0,
         seen: 1,
     };
-    step_of(observed, Window::Open(epoch), Offsets::Begun)
+    step_of(observed, Some(epoch), Offsets::Begun)
 }
 
 // An offset below the highest moves the sender maximum alone; one above moves the received maximum and the latest transmit point too.
@@ -248,38 +234,34 @@ fn go_on(lower: bool, counts: Counts, epoch: Epoch, point: CounterPoint) -> Step
     if lower {
         return step_of(
             observed.one_reordered(),
-            Window::Open(next),
+            Some(next),
             Offsets::Added(transmitted),
         );
     }
-    step_of(observed, Window::Open(next), Offsets::Added(transmitted))
+    step_of(observed, Some(next), Offsets::Added(transmitted))
 }
 
 // The first outcome that holds. What breaks the window off does not become the anchor of the next.
 fn follow(counts: Counts, epoch: Epoch, point: CounterPoint, again: bool) -> Step
     requires { InBounds counts × (epoch.seen ≤ 4096) }
-    ensures { result ≡ in_window capacity counts (Window.Open epoch) point again }
+    ensures { result ≡ in_window capacity counts (Some epoch) point again }
 {
     let anchor = epoch.anchor;
     let latest = epoch.latest;
     if breaks(anchor, point) {
         let observed = counts.one_observed();
         let discontinued = observed.one_discontinuity();
-        return step_of(discontinued, Window::Closed, Offsets::Cleared);
+        return step_of(discontinued, None, Offsets::Cleared);
     }
     if again {
         let observed = counts.one_observed();
         let unavailable = observed.one_unavailable(); // distinct replies must advance R_TxC
         let seen_again = unavailable.one_discontinuity();
-        return step_of(seen_again, Window::Closed, Offsets::Cleared);
+        return step_of(seen_again, None, Offsets::Cleared);
     }
     if epoch.seen == limits::CAPACITY {
         let observed = counts.one_observed();
-        return step_of(
-            observed.history_exceeded(),
-            Window::Closed,
-            Offsets::Cleared,
-        );
+        return step_of(observed.history_exceeded(), None, Offsets::Cleared);
     }
     let lower = transmit_offset(anchor, point) < transmit_offset(anchor, latest);
     go_on(lower, counts, epoch, point)
@@ -297,51 +279,43 @@ impl Direct {
                 reordered: 0,
                 exceeded: false,
             },
-            window: Window::Closed,
+            window: None,
         }
     }
 }
 
 // The transmit offset that is to be looked for among those seen.
-pub fn sought(window: Window, point: CounterPoint) -> u32
+pub fn sought(window: Option<Epoch>, point: CounterPoint) -> u32
     ensures { result ≡ sought_in window point }
 {
     match window {
-        Window::Closed => 0,
-        Window::Open(epoch) => {
-            let anchor = epoch.anchor;
-            transmit_offset(anchor, point)
-        }
+        None => 0,
+        Some(epoch) => transmit_offset(epoch.anchor, point),
     }
 }
 
 // How many offsets are seen: the length of their room's list.
-pub fn seen_in(window: Window) -> usize
+pub fn seen_in(window: Option<Epoch>) -> usize
     ensures { result ≡ seen_in window }
 {
     match window {
-        Window::Closed => 0,
-        Window::Open(epoch) => epoch.seen,
+        None => 0,
+        Some(epoch) => epoch.seen,
     }
 }
 
 // `Direct::record`, and the `unavailable` of `observe` where the probe has no ordinal. `again` says whether the offset that `sought` gives
 // is among those seen.
-pub fn record_point(direct: Direct, point: CounterPoint, ordinal: Ordinal, again: bool) -> Step
+#[tactic(auto, unfolding(crate::specs::Outcomes::recorded))]
+pub fn record_point(direct: Direct, point: CounterPoint, ordinal: Option<u32>, again: bool) -> Step
     requires { InBounds direct.counts × (seen_in direct.window ≤ 4096) }
     ensures { result ≡ recorded capacity direct point ordinal again }
 {
-    let counts = direct.counts;
-    let window = direct.window;
-    let Ordinal::Number(number) = ordinal else {
-        return mismatch(counts, window);
-    };
-    let sender = point.sender;
-    if sender.0 != number {
-        return mismatch(counts, window);
+    if ordinal != Some(point.sender.0) {
+        return mismatch(direct.counts, direct.window);
     }
-    match window {
-        Window::Closed => anchor_at(counts, point),
-        Window::Open(epoch) => follow(counts, epoch, point, again),
+    match direct.window {
+        None => anchor_at(direct.counts, point),
+        Some(epoch) => follow(direct.counts, epoch, point, again),
     }
 }

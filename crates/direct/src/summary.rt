@@ -2,51 +2,41 @@
 ghost use Rattle.std.specs.Prelude.{◌≡◌, ◌-◌};
 ghost use Rattle.direct.specs.Shown.{less, no_spans, epoch_spans, spans_by, spans_of, anchor_of, latest_of, summary_of};
 
-use crate::{Counts, Direct, Epoch, Window};
-use call_types::Counters;
-
-// A number of packets, or none.
-#[derive(Clone, Copy)]
-pub enum Packets {
-    Absent,
-    Number(u64),
-}
+use crate::{Counts, Direct, Epoch};
+use call_types::CounterPoint;
 
 // `sender_packets`, `reflector_received`, `forward_missing`, `reflector_transmitted`, `replies_received`, `reverse_missing`.
 #[derive(Clone, Copy)]
 pub struct Spans {
-    pub sent: Packets,
-    pub received: Packets,
-    pub forward: Packets,
-    pub transmitted: Packets,
-    pub replies: Packets,
-    pub reverse: Packets,
+    pub sent: Option<u64>,
+    pub received: Option<u64>,
+    pub forward: Option<u64>,
+    pub transmitted: Option<u64>,
+    pub replies: Option<u64>,
+    pub reverse: Option<u64>,
 }
 
 // `DirectSummary`; `latest` is its `latest_transmit`.
 #[derive(Clone, Copy)]
 pub struct DirectSummary {
     pub counts: Counts,
-    pub anchor: Counters,
-    pub latest: Counters,
+    pub anchor: Option<CounterPoint>,
+    pub latest: Option<CounterPoint>,
     pub spans: Spans,
 }
 
 // `checked_sub`: a less b, absent if negative.
-fn less_than(a: u64, b: u64) -> Packets
+fn less_than(a: u64, b: u64) -> Option<u64>
     ensures { result ≡ less a b }
 {
-    if a < b {
-        return Packets::Absent;
-    }
-    Packets::Number(a - b)
+    a.checked_sub(b)
 }
 
 // The seen offsets above 0.
 fn replies_received(seen: usize) -> u64
     ensures { result ≡ seen - 1 }
 {
-    if seen == 0 { 0 } else { (seen - 1) as u64 }
+    seen.saturating_sub(1) as u64
 }
 
 fn epoch_spans(epoch: Epoch) -> Spans
@@ -59,11 +49,11 @@ fn epoch_spans(epoch: Epoch) -> Spans
     let highest = crate::transmit_offset(anchor, latest) as u64;
     let replies = replies_received(epoch.seen);
     Spans {
-        sent: Packets::Number(sender),
-        received: Packets::Number(received),
+        sent: Some(sender),
+        received: Some(received),
         forward: less_than(sender, received),
-        transmitted: Packets::Number(highest),
-        replies: Packets::Number(replies),
+        transmitted: Some(highest),
+        replies: Some(replies),
         reverse: less_than(highest, replies),
     }
 }
@@ -72,21 +62,21 @@ fn no_spans() -> Spans
     ensures { result ≡ no_spans }
 {
     Spans {
-        sent: Packets::Absent,
-        received: Packets::Absent,
-        forward: Packets::Absent,
-        transmitted: Packets::Absent,
-        replies: Packets::Absent,
-        reverse: Packets::Absent,
+        sent: None,
+        received: None,
+        forward: None,
+        transmitted: None,
+        replies: None,
+        reverse: None,
     }
 }
 
-fn spans_shown(window: Window) -> Spans
+fn spans_shown(window: Option<Epoch>) -> Spans
     ensures { result ≡ spans_of window }
 {
     match window {
-        Window::Closed => no_spans(),
-        Window::Open(epoch) => {
+        None => no_spans(),
+        Some(epoch) => {
             if epoch.seen > 1 {
                 return epoch_spans(epoch);
             }
@@ -95,27 +85,21 @@ fn spans_shown(window: Window) -> Spans
     }
 }
 
-fn anchor_shown(window: Window) -> Counters
+fn anchor_shown(window: Option<Epoch>) -> Option<CounterPoint>
     ensures { result ≡ anchor_of window }
 {
     match window {
-        Window::Closed => Counters::Absent,
-        Window::Open(epoch) => {
-            let anchor = epoch.anchor;
-            Counters::Point(anchor)
-        }
+        None => None,
+        Some(epoch) => Some(epoch.anchor),
     }
 }
 
-fn latest_shown(window: Window) -> Counters
+fn latest_shown(window: Option<Epoch>) -> Option<CounterPoint>
     ensures { result ≡ latest_of window }
 {
     match window {
-        Window::Closed => Counters::Absent,
-        Window::Open(epoch) => {
-            let latest = epoch.latest;
-            Counters::Point(latest)
-        }
+        None => None,
+        Some(epoch) => Some(epoch.latest),
     }
 }
 
@@ -123,12 +107,10 @@ fn latest_shown(window: Window) -> Counters
 pub fn summary_of(direct: Direct) -> DirectSummary
     ensures { result ≡ summary_of direct }
 {
-    let counts = direct.counts;
-    let window = direct.window;
     DirectSummary {
-        counts,
-        anchor: anchor_shown(window),
-        latest: latest_shown(window),
-        spans: spans_shown(window),
+        counts: direct.counts,
+        anchor: anchor_shown(direct.window),
+        latest: latest_shown(direct.window),
+        spans: spans_shown(direct.window),
     }
 }

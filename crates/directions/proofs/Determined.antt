@@ -4,22 +4,21 @@ use mathlib.Core.Path.{◌≡◌, refl, sym, ap, ◌∙◌}
 use mathlib.Core.Bool.{Bool, true, false, cond, true≢false}
 use mathlib.Core.List.{List}
 use Prim.Native.Nat.{ℕ, ◌+◌, ◌<◌}
-use native.Mathlib.Omega.{arith}
+use Rattle.std.specs.Prelude.{Option, Some, None, Result, Ok, Err}
+use Rattle.limits.specs.declared.Refusal.{Refusal}
+use Rattle.limits.proofs.Numbers.{number_of_unique}
+use Rattle.quantiles.proofs.Numbers.{some_number}
 use contract.Lifetimes.{Lfts}
 use borrow.Fn.World as World
 use borrow.Fn.Kinds as Kinds'
 use denote.Triple.Clauses as Clauses
-use lib.ListN.{get_or, take, drop}
+use lib.ListN.{get_or}
 use lib.Seq.{get_or-take, get_or-drop}
 use Rattle.floats.proofs.Determined.{OneAnswer}
 use Rattle.series.specs.Series.{sum_fits, recorded_beside}
 use Rattle.series.proofs.Determined.{false_changes_nothing-beside}
 use Rattle.directions.specs.declared.OwdDirection.{OwdDirection}
 use Rattle.directions.specs.declared.Directions.{Directions}
-use Rattle.directions.specs.declared.Recording.{Recording}
-use Rattle.directions.specs.declared.Recording.TheVariants as recording
-use Rattle.directions.specs.declared.Measuring.{Measuring}
-use Rattle.directions.specs.declared.Measuring.TheVariants as measuring
 use Rattle.directions.specs.Direction as direction
 use Rattle.directions.specs.Directions.{part_size, start_of, Untouched, Outcome, outcome_both}
 use Rattle.directions.proofs.OwdDirection.new.Kinds as new
@@ -59,93 +58,41 @@ false_changes_nothing d room v h =
 
 -- ---- one outcome
 
-same_answer : (s : OwdDirection) (a b : Recording) (l k : List ℕ) → direction.outcome s a l ≡ direction.outcome s b k → a ≡ b
+same_answer : (s : OwdDirection) (a b : Result (Option OwdDirection) Refusal) (l k : List ℕ) → direction.outcome s a l ≡ direction.outcome s b k → a ≡ b
 unfolding direction.outcome
-same_answer s recording.Refused recording.Refused l k e = refl
-same_answer s recording.Refused recording.SumsFull l k e = absurd (no (ap (λ (o : direction.Outcome). o.number) e))
-  where
-    no : ◌≡◌ {A = ℕ} 5 4 → ⊥
-    no e = omega arith
-same_answer s recording.Refused recording.Full l k e = absurd (no (ap (λ (o : direction.Outcome). o.number) e))
-  where
-    no : ◌≡◌ {A = ℕ} 5 0 → ⊥
-    no e = omega arith
-same_answer s recording.Refused (recording.Counted n) l k e = absurd (true≢false (sym (ap (λ (o : direction.Outcome). o.answer) e)))
-same_answer s recording.SumsFull recording.Refused l k e = absurd (no (ap (λ (o : direction.Outcome). o.number) e))
-  where
-    no : ◌≡◌ {A = ℕ} 4 5 → ⊥
-    no e = omega arith
-same_answer s recording.SumsFull recording.SumsFull l k e = refl
-same_answer s recording.SumsFull recording.Full l k e = absurd (no (ap (λ (o : direction.Outcome). o.number) e))
-  where
-    no : ◌≡◌ {A = ℕ} 4 0 → ⊥
-    no e = omega arith
-same_answer s recording.SumsFull (recording.Counted n) l k e = absurd (true≢false (sym (ap (λ (o : direction.Outcome). o.answer) e)))
-same_answer s recording.Full recording.Refused l k e = absurd (no (ap (λ (o : direction.Outcome). o.number) e))
-  where
-    no : ◌≡◌ {A = ℕ} 0 5 → ⊥
-    no e = omega arith
-same_answer s recording.Full recording.SumsFull l k e = absurd (no (ap (λ (o : direction.Outcome). o.number) e))
-  where
-    no : ◌≡◌ {A = ℕ} 0 4 → ⊥
-    no e = omega arith
-same_answer s recording.Full recording.Full l k e = refl
-same_answer s recording.Full (recording.Counted n) l k e = absurd (true≢false (sym (ap (λ (o : direction.Outcome). o.answer) e)))
-same_answer s (recording.Counted m) recording.Refused l k e = absurd (true≢false (ap (λ (o : direction.Outcome). o.answer) e))
-same_answer s (recording.Counted m) recording.SumsFull l k e = absurd (true≢false (ap (λ (o : direction.Outcome). o.answer) e))
-same_answer s (recording.Counted m) recording.Full l k e = absurd (true≢false (ap (λ (o : direction.Outcome). o.answer) e))
-same_answer s (recording.Counted m) (recording.Counted n) l k e = ap recording.Counted (ap (λ (o : direction.Outcome). o.state) e)
+same_answer s (Err x) (Err y) l k e = ap Err (number_of_unique x y (ap (λ (o : direction.Outcome). o.number) e))
+same_answer s (Err x) (Ok None) l k e = absurd (some_number x (ap (λ (o : direction.Outcome). o.number) e))
+same_answer s (Err x) (Ok (Some n)) l k e = absurd (some_number x (ap (λ (o : direction.Outcome). o.number) e))
+same_answer s (Ok None) (Err y) l k e = absurd (some_number y (sym (ap (λ (o : direction.Outcome). o.number) e)))
+same_answer s (Ok None) (Ok None) l k e = refl
+same_answer s (Ok None) (Ok (Some n)) l k e = absurd (true≢false (sym (ap (λ (o : direction.Outcome). o.answer) e)))
+same_answer s (Ok (Some m)) (Err y) l k e = absurd (some_number y (sym (ap (λ (o : direction.Outcome). o.number) e)))
+same_answer s (Ok (Some m)) (Ok None) l k e = absurd (true≢false (ap (λ (o : direction.Outcome). o.answer) e))
+same_answer s (Ok (Some m)) (Ok (Some n)) l k e = ap (λ (x : OwdDirection). Ok (Some x)) (ap (λ (o : direction.Outcome). o.state) e)
 
-room_of : (s : OwdDirection) (r : Recording) (l : List ℕ) → (direction.outcome s r l).room ≡ l
+room_of : (s : OwdDirection) (r : Result (Option OwdDirection) Refusal) (l : List ℕ) → (direction.outcome s r l).room ≡ l
 unfolding direction.outcome
-room_of s recording.Refused l = refl
-room_of s recording.SumsFull l = refl
-room_of s recording.Full l = refl
-room_of s (recording.Counted n) l = refl
+room_of s (Err x) l = refl
+room_of s (Ok None) l = refl
+room_of s (Ok (Some n)) l = refl
 
-same_measuring : (s : Directions) (a b : Measuring) (l k : List ℕ) → outcome_both s a l ≡ outcome_both s b k → a ≡ b
+same_measuring : (s : Directions) (a b : Result (Option Directions) Refusal) (l k : List ℕ) → outcome_both s a l ≡ outcome_both s b k → a ≡ b
 unfolding outcome_both
-same_measuring s measuring.Refused measuring.Refused l k e = refl
-same_measuring s measuring.Refused measuring.SumsFull l k e = absurd (no (ap (λ (o : Outcome). o.number) e))
-  where
-    no : ◌≡◌ {A = ℕ} 5 4 → ⊥
-    no e = omega arith
-same_measuring s measuring.Refused measuring.Full l k e = absurd (no (ap (λ (o : Outcome). o.number) e))
-  where
-    no : ◌≡◌ {A = ℕ} 5 0 → ⊥
-    no e = omega arith
-same_measuring s measuring.Refused (measuring.Counted n) l k e = absurd (true≢false (sym (ap (λ (o : Outcome). o.answer) e)))
-same_measuring s measuring.SumsFull measuring.Refused l k e = absurd (no (ap (λ (o : Outcome). o.number) e))
-  where
-    no : ◌≡◌ {A = ℕ} 4 5 → ⊥
-    no e = omega arith
-same_measuring s measuring.SumsFull measuring.SumsFull l k e = refl
-same_measuring s measuring.SumsFull measuring.Full l k e = absurd (no (ap (λ (o : Outcome). o.number) e))
-  where
-    no : ◌≡◌ {A = ℕ} 4 0 → ⊥
-    no e = omega arith
-same_measuring s measuring.SumsFull (measuring.Counted n) l k e = absurd (true≢false (sym (ap (λ (o : Outcome). o.answer) e)))
-same_measuring s measuring.Full measuring.Refused l k e = absurd (no (ap (λ (o : Outcome). o.number) e))
-  where
-    no : ◌≡◌ {A = ℕ} 0 5 → ⊥
-    no e = omega arith
-same_measuring s measuring.Full measuring.SumsFull l k e = absurd (no (ap (λ (o : Outcome). o.number) e))
-  where
-    no : ◌≡◌ {A = ℕ} 0 4 → ⊥
-    no e = omega arith
-same_measuring s measuring.Full measuring.Full l k e = refl
-same_measuring s measuring.Full (measuring.Counted n) l k e = absurd (true≢false (sym (ap (λ (o : Outcome). o.answer) e)))
-same_measuring s (measuring.Counted m) measuring.Refused l k e = absurd (true≢false (ap (λ (o : Outcome). o.answer) e))
-same_measuring s (measuring.Counted m) measuring.SumsFull l k e = absurd (true≢false (ap (λ (o : Outcome). o.answer) e))
-same_measuring s (measuring.Counted m) measuring.Full l k e = absurd (true≢false (ap (λ (o : Outcome). o.answer) e))
-same_measuring s (measuring.Counted m) (measuring.Counted n) l k e = ap measuring.Counted (ap (λ (o : Outcome). o.state) e)
+same_measuring s (Err x) (Err y) l k e = ap Err (number_of_unique x y (ap (λ (o : Outcome). o.number) e))
+same_measuring s (Err x) (Ok None) l k e = absurd (some_number x (ap (λ (o : Outcome). o.number) e))
+same_measuring s (Err x) (Ok (Some n)) l k e = absurd (some_number x (ap (λ (o : Outcome). o.number) e))
+same_measuring s (Ok None) (Err y) l k e = absurd (some_number y (sym (ap (λ (o : Outcome). o.number) e)))
+same_measuring s (Ok None) (Ok None) l k e = refl
+same_measuring s (Ok None) (Ok (Some n)) l k e = absurd (true≢false (sym (ap (λ (o : Outcome). o.answer) e)))
+same_measuring s (Ok (Some m)) (Err y) l k e = absurd (some_number y (sym (ap (λ (o : Outcome). o.number) e)))
+same_measuring s (Ok (Some m)) (Ok None) l k e = absurd (true≢false (ap (λ (o : Outcome). o.answer) e))
+same_measuring s (Ok (Some m)) (Ok (Some n)) l k e = ap (λ (x : Directions). Ok (Some x)) (ap (λ (o : Outcome). o.state) e)
 
-slice_of : (s : Directions) (r : Measuring) (l : List ℕ) → (outcome_both s r l).slice ≡ l
+slice_of : (s : Directions) (r : Result (Option Directions) Refusal) (l : List ℕ) → (outcome_both s r l).slice ≡ l
 unfolding outcome_both
-slice_of s measuring.Refused l = refl
-slice_of s measuring.SumsFull l = refl
-slice_of s measuring.Full l = refl
-slice_of s (measuring.Counted n) l = refl
+slice_of s (Err x) l = refl
+slice_of s (Ok None) l = refl
+slice_of s (Ok (Some n)) l = refl
 
 pub new-unique : OneAnswer new.ps new.r new'.Post
 new-unique κs a x y s t p q = p ∙ sym q

@@ -12,6 +12,9 @@ use lib.ListN.{length, take, drop, length-drop, take-append-drop}
 use lib.Seq.{length-take-le, take_at, drop_at, drop-drop}
 use mir.Syntax.{w64}
 use mir.Val.{to_z}
+use Rattle.std.specs.Prelude.{Option, Some, None, Result, Ok, Err}
+use Rattle.limits.specs.declared.Refusal.{Refusal}
+use Rattle.limits.specs.Numbers.{number_of}
 use Rattle.limits.specs.Refusals.{wrong_room}
 use Rattle.limits.specs.Limits.{sum_bound}
 use Rattle.floats.specs.Whole.{magnitude}
@@ -20,21 +23,14 @@ use Rattle.delays.specs.declared.Sum.{Sum}
 use Rattle.delays.specs.Sums.{value_of, nanoseconds_of, total_of, sum_of}
 use Rattle.delays.specs.Shown.{value-back}
 use Rattle.quantiles.specs.declared.Quantiles.{Quantiles}
-use Rattle.quantiles.specs.declared.Recording.TheVariants as quantile-answer
 use Rattle.quantiles.specs.Record as quantile-record
 use Rattle.quantiles.specs.Record.{taken, recorded}
 use Rattle.quantiles.specs.Between.{one_more, Tried}
-use Rattle.series.specs.declared.Sampling.{Sampling}
-use Rattle.series.specs.declared.Sampling.TheVariants as sampling
 use Rattle.series.specs.Series as series
 use Rattle.series.proofs.Determined.{taken-fits}
 use Rattle.series.proofs.Ways.{way_fits}
 use Rattle.directions.specs.declared.OwdDirection.{OwdDirection}
 use Rattle.directions.specs.declared.Directions.{Directions}
-use Rattle.directions.specs.declared.Recording.{Recording}
-use Rattle.directions.specs.declared.Recording.TheVariants as recording
-use Rattle.directions.specs.declared.Measuring.{Measuring}
-use Rattle.directions.specs.declared.Measuring.TheVariants as measuring
 use Rattle.directions.specs.Direction.{grown_of, left, Outcome, outcome, record_to}
 use Rattle.directions.specs.Directions as both
 use Rattle.directions.specs.Directions.{part_size, start_of, put_at, Untouched, record_part, record_own, own, outcome_both, in_both, record_in}
@@ -63,35 +59,31 @@ module _ (d : OwdDirection) (room : List ℕ) (v : ℕ) where
   by_quantiles : quantile-record.Outcome → Outcome
   by_quantiles o = left o.number o.answer (cond o.answer (grown_of d o.state v) d) o.room
 
-  module _ (after : List ℕ) (fit : Bool) (a : Sampling) (is : fit ≡ series.sum_fits d.sum) (got : series.outcome d.quantiles a after ≡ series.recorded_beside fit d.quantiles room v) where
-    from_answer : (b : Sampling) → a ≡ b → series.outcome d.quantiles b after ≡ series.recorded_beside (series.sum_fits d.sum) d.quantiles room v
+  module _ (after : List ℕ) (fit : Bool) (a : Result (Option Quantiles) Refusal) (is : fit ≡ series.sum_fits d.sum) (got : quantile-record.outcome d.quantiles a after ≡ series.recorded_beside fit d.quantiles room v) where
+    from_answer : (b : Result (Option Quantiles) Refusal) → a ≡ b → quantile-record.outcome d.quantiles b after ≡ series.recorded_beside (series.sum_fits d.sum) d.quantiles room v
     from_answer b told =
-        ap (λ (x : Sampling). series.outcome d.quantiles x after) (sym told) ∙ got ∙ ap (λ (f : Bool). series.recorded_beside f d.quantiles room v) is
+        ap (λ (x : Result (Option Quantiles) Refusal). quantile-record.outcome d.quantiles x after) (sym told) ∙ got ∙ ap (λ (f : Bool). series.recorded_beside f d.quantiles room v) is
 
-    answered : (b : Sampling) → a ≡ b → by_quantiles (series.outcome d.quantiles b after) ≡ record_to d room v
+    answered : (b : Result (Option Quantiles) Refusal) → a ≡ b → by_quantiles (quantile-record.outcome d.quantiles b after) ≡ record_to d room v
     unfolding record_to by_quantiles
     answered b told = ap by_quantiles (from_answer b told)
 
-    pub way_refused : a ≡ sampling.Refused → left 5 false d after ≡ record_to d room v
-    unfolding by_quantiles series.outcome quantile-record.still
-    way_refused told = answered sampling.Refused told
+    pub way_refused : (r : Refusal) → a ≡ Err r → left (number_of r) false d after ≡ record_to d room v
+    unfolding by_quantiles quantile-record.outcome quantile-record.still
+    way_refused r told = answered (Err r) told
 
-    pub way_sums : a ≡ sampling.SumsFull → left 4 false d after ≡ record_to d room v
-    unfolding by_quantiles series.outcome quantile-record.still
-    way_sums told = answered sampling.SumsFull told
+    pub way_full : a ≡ Ok None → left 0 false d after ≡ record_to d room v
+    unfolding by_quantiles quantile-record.outcome quantile-record.still
+    way_full told = answered (Ok None) told
 
-    pub way_full : a ≡ sampling.Full → left 0 false d after ≡ record_to d room v
-    unfolding by_quantiles series.outcome quantile-record.still
-    way_full told = answered sampling.Full told
-
-    pub counted-fits : (next : Quantiles) → a ≡ sampling.Counted next → series.sum_fits d.sum ≡ true
-    unfolding series.outcome quantile-record.taken
+    pub counted-fits : (next : Quantiles) → a ≡ Ok (Some next) → series.sum_fits d.sum ≡ true
+    unfolding quantile-record.outcome quantile-record.taken
     counted-fits next told =
-        taken-fits (series.sum_fits d.sum) d.quantiles room v (sym (ap (λ (o : quantile-record.Outcome). o.answer) (from_answer (sampling.Counted next) told)))
+        taken-fits (series.sum_fits d.sum) d.quantiles room v (sym (ap (λ (o : quantile-record.Outcome). o.answer) (from_answer (Ok (Some next)) told)))
 
-    pub way_counted : (next : Quantiles) (t : OwdDirection) → a ≡ sampling.Counted next → t ≡ grown_of d next v → left 0 true t after ≡ record_to d room v
-    unfolding by_quantiles series.outcome quantile-record.taken
-    way_counted next t told e = ap (λ (x : OwdDirection). left 0 true x after) e ∙ answered (sampling.Counted next) told
+    pub way_counted : (next : Quantiles) (t : OwdDirection) → a ≡ Ok (Some next) → t ≡ grown_of d next v → left 0 true t after ≡ record_to d room v
+    unfolding by_quantiles quantile-record.outcome quantile-record.taken
+    way_counted next t told e = ap (λ (x : OwdDirection). left 0 true x after) e ∙ answered (Ok (Some next)) told
 
 -- ---- a part of the slice, lent on and back
 
@@ -137,14 +129,13 @@ module _ (d : OwdDirection) (slice : List ℕ) (start v : ℕ) where
   in_slice : Outcome → Outcome
   in_slice o = left o.number o.answer o.state (put_at start slice o.room)
 
-  put-outcome : (r : Recording) (part : List ℕ) → outcome d r (put_at start slice part) ≡ in_slice (outcome d r part)
+  put-outcome : (r : Result (Option OwdDirection) Refusal) (part : List ℕ) → outcome d r (put_at start slice part) ≡ in_slice (outcome d r part)
   unfolding outcome in_slice
-  put-outcome recording.Refused part = refl
-  put-outcome recording.SumsFull part = refl
-  put-outcome recording.Full part = refl
-  put-outcome (recording.Counted next) part = refl
+  put-outcome (Err x) part = refl
+  put-outcome (Ok None) part = refl
+  put-outcome (Ok (Some next)) part = refl
 
-  pub part_left : (k : ℕ) (r : Recording) (part : List ℕ) → k ≡ part_size → outcome d r part ≡ record_to d (take k (drop start slice)) v
+  pub part_left : (k : ℕ) (r : Result (Option OwdDirection) Refusal) (part : List ℕ) → k ≡ part_size → outcome d r part ≡ record_to d (take k (drop start slice)) v
       → outcome d r (take start slice ++ (part ++ drop k (drop start slice))) ≡ record_part d slice start v
   unfolding record_part in_slice
   part_left k r part is got =
@@ -169,7 +160,7 @@ module _ (d : OwdDirection) (slice : List ℕ) (reverse : Bool) (v : ℕ) where
     untouched_all (start_of reverse) slice,
   )
 
-  pub way_part : (size start : ℕ) (r : Recording) (after : List ℕ) → size ≡ part_size → start ≡ start_of reverse → size + size ≤ length slice
+  pub way_part : (size start : ℕ) (r : Result (Option OwdDirection) Refusal) (after : List ℕ) → size ≡ part_size → start ≡ start_of reverse → size + size ≤ length slice
       → (outcome d r after ≡ record_part d slice start v) × Untouched start slice after
       → (outcome d r after ≡ record_own d slice reverse v) × Untouched (start_of reverse) slice after
   unfolding record_own
@@ -201,8 +192,8 @@ module _ (d : OwdDirection) (slice : List ℕ) (reverse : Bool) (v size start k 
       → left 0 true (grown_of d (one_more d.quantiles) v) part ≡ record_to d (take k (drop start slice)) v
   unfolding quantile-record.outcome
   took got =
-      way_counted d (take k (drop start slice)) v part true (sampling.Counted (one_more d.quantiles)) (sym fit)
-      (way_fits d.quantiles (take k (drop start slice)) v (quantile-answer.Counted (one_more d.quantiles)) (quantile-answer.Counted (one_more d.quantiles)) part true refl got refl)
+      way_counted d (take k (drop start slice)) v part true (Ok (Some (one_more d.quantiles))) (sym fit)
+      (way_fits d.quantiles (take k (drop start slice)) v (Ok (Some (one_more d.quantiles))) part true refl got)
       (one_more d.quantiles) (grown_of d (one_more d.quantiles) v) refl refl
 
   pub tried_own : (t : Bool) → Tried t d.quantiles (take k (drop start slice)) v part
@@ -210,30 +201,27 @@ module _ (d : OwdDirection) (slice : List ℕ) (reverse : Bool) (v size start k 
   unfolding outcome
   tried_own false e = back_again start k slice part e
   tried_own true e =
-      let w = way_part d slice reverse v size start (recording.Counted (grown_of d (one_more d.quantiles) v)) (take start slice ++ (part ++ drop k (drop start slice))) sized from long
-      (part_left d slice start v k (recording.Counted (grown_of d (one_more d.quantiles) v)) part is (took e.1), put_untouched start k slice part is (part-fits reverse size start (length slice) sized from long) same) in
+      let w = way_part d slice reverse v size start (Ok (Some (grown_of d (one_more d.quantiles) v))) (take start slice ++ (part ++ drop k (drop start slice))) sized from long
+      (part_left d slice start v k (Ok (Some (grown_of d (one_more d.quantiles) v))) part is (took e.1), put_untouched start k slice part is (part-fits reverse size start (length slice) sized from long) same) in
       (e.0, w.0, w.1)
 
 -- ---- and of both
 
 module _ (ds : Directions) (slice : List ℕ) (v : ℕ) where
   -- the answer of both, by that of the sample's own direction
-  abbrev pub answer-both : Bool → Recording → Measuring
-  answer-both reverse recording.Refused = measuring.Refused
-  answer-both reverse recording.SumsFull = measuring.SumsFull
-  answer-both reverse recording.Full = measuring.Full
-  answer-both reverse (recording.Counted next) = measuring.Counted (both.with_own ds reverse next)
+  abbrev pub answer-both : Bool → Result (Option OwdDirection) Refusal → Result (Option Directions) Refusal
+  answer-both reverse (Err x) = Err x
+  answer-both reverse (Ok None) = Ok None
+  answer-both reverse (Ok (Some next)) = Ok (Some (both.with_own ds reverse next))
 
-  same_outcome : (reverse : Bool) (b : Recording) (after : List ℕ) → outcome_both ds (answer-both reverse b) after ≡ in_both ds reverse (outcome (own ds reverse) b after)
+  same_outcome : (reverse : Bool) (b : Result (Option OwdDirection) Refusal) (after : List ℕ) → outcome_both ds (answer-both reverse b) after ≡ in_both ds reverse (outcome (own ds reverse) b after)
   unfolding outcome_both outcome
-  same_outcome false recording.Refused after = refl
-  same_outcome false recording.SumsFull after = refl
-  same_outcome false recording.Full after = refl
-  same_outcome false (recording.Counted next) after = refl
-  same_outcome true recording.Refused after = refl
-  same_outcome true recording.SumsFull after = refl
-  same_outcome true recording.Full after = refl
-  same_outcome true (recording.Counted next) after = refl
+  same_outcome false (Err x) after = refl
+  same_outcome false (Ok None) after = refl
+  same_outcome false (Ok (Some next)) after = refl
+  same_outcome true (Err x) after = refl
+  same_outcome true (Ok None) after = refl
+  same_outcome true (Ok (Some next)) after = refl
 
   -- what a sample leaves of both is what it leaves of its own
   pub own_in-both : (reverse : Bool) → in_both ds reverse (record_own (own ds reverse) slice reverse v) ≡ record_in ds slice reverse v
@@ -247,20 +235,20 @@ module _ (ds : Directions) (slice : List ℕ) (v : ℕ) where
       by false false = refl
       by true false = refl
 
-  pub way_own : (reverse : Bool) (d : OwdDirection) (a b : Recording) (after : List ℕ) → d ≡ own ds reverse
+  pub way_own : (reverse : Bool) (d : OwdDirection) (a b : Result (Option OwdDirection) Refusal) (after : List ℕ) → d ≡ own ds reverse
       → (outcome d a after ≡ record_own d slice reverse v) × Untouched (start_of reverse) slice after → a ≡ b
       → (outcome_both ds (answer-both reverse b) after ≡ record_in ds slice reverse v) × Untouched (start_of reverse) slice after
   way_own reverse d a b after is got told = (
     same_outcome reverse b after
         ∙ ap (in_both ds reverse)
-        (ap (λ (x : Recording). outcome (own ds reverse) x after) (sym told) ∙ ap (λ (x : OwdDirection). outcome x a after) (sym is) ∙ got.0 ∙ ap (λ (x : OwdDirection). record_own x slice reverse v) is)
+        (ap (λ (x : Result (Option OwdDirection) Refusal). outcome (own ds reverse) x after) (sym told) ∙ ap (λ (x : OwdDirection). outcome x a after) (sym is) ∙ got.0 ∙ ap (λ (x : OwdDirection). record_own x slice reverse v) is)
         ∙ own_in-both reverse,
     got.1,
   )
 
-  pub way_own-counted : (reverse : Bool) (d next : OwdDirection) (ds' : Directions) (a : Recording) (after : List ℕ) → d ≡ own ds reverse
-      → (outcome d a after ≡ record_own d slice reverse v) × Untouched (start_of reverse) slice after → a ≡ recording.Counted next → ds' ≡ both.with_own ds reverse next
-      → (outcome_both ds (measuring.Counted ds') after ≡ record_in ds slice reverse v) × Untouched (start_of reverse) slice after
+  pub way_own-counted : (reverse : Bool) (d next : OwdDirection) (ds' : Directions) (a : Result (Option OwdDirection) Refusal) (after : List ℕ) → d ≡ own ds reverse
+      → (outcome d a after ≡ record_own d slice reverse v) × Untouched (start_of reverse) slice after → a ≡ Ok (Some next) → ds' ≡ both.with_own ds reverse next
+      → (outcome_both ds (Ok (Some ds')) after ≡ record_in ds slice reverse v) × Untouched (start_of reverse) slice after
   way_own-counted reverse d next ds' a after is got told e =
-      let w = way_own reverse d a (recording.Counted next) after is got told in
-      (ap (λ (x : Directions). outcome_both ds (measuring.Counted x) after) e ∙ w.0, w.1)
+      let w = way_own reverse d a (Ok (Some next)) after is got told in
+      (ap (λ (x : Directions). outcome_both ds (Ok (Some x)) after) e ∙ w.0, w.1)

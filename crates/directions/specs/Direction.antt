@@ -1,15 +1,14 @@
 -- `OwdDirection::record`: what a call answers and leaves, for every state, room and value. A value is the two's complement word of an i64.
 -- Assumes nothing.
-use Rattle.std.specs.Prelude.{Bool, true, false, cond, List, ℕ, pos, ◌+ℤ◌}
+use Rattle.std.specs.Prelude.{Bool, true, false, cond, List, ℕ, pos, ◌+ℤ◌, Option, Some, None, Result, Ok, Err}
 use Rattle.std.specs.Int.{w64}
 use Rattle.std.proofs.Common.{to_z}
-use Rattle.limits.specs.Refusals.{wrong_room, counts_full}
+use Rattle.limits.specs.declared.Refusal.{Refusal}
+use Rattle.limits.specs.Numbers.{number_of}
 use Rattle.delays.specs.Sums.{total_of, sum_of}
 use Rattle.quantiles.specs.declared.Quantiles.{Quantiles}
 use Rattle.series.specs.Series.{sum_fits, recorded_beside}
 use Rattle.directions.specs.declared.OwdDirection.{OwdDirection}
-use Rattle.directions.specs.declared.Recording.{Recording}
-use Rattle.directions.specs.declared.Recording.TheVariants.{Refused, SumsFull, Full, Counted}
 
 -- no samples yet
 abbrev pub fresh : OwdDirection
@@ -31,11 +30,10 @@ abbrev pub left : ℕ → Bool → OwdDirection → List ℕ → Outcome
 left n b d room = record { number = n; answer = b; state = d; room = room }
 
 -- the number and values of each answer to a call at the direction d
-unfoldable pub outcome : OwdDirection → Recording → List ℕ → Outcome
-outcome d Refused room = left wrong_room false d room
-outcome d SumsFull room = left counts_full false d room
-outcome d Full room = left 0 false d room
-outcome d (Counted next) room = left 0 true next room
+unfoldable pub outcome : OwdDirection → Result (Option OwdDirection) Refusal → List ℕ → Outcome
+outcome d (Err refusal) room = left (number_of refusal) false d room
+outcome d (Ok None) room = left 0 false d room
+outcome d (Ok (Some next)) room = left 0 true next room
 
 -- what becomes of the quantiles and their room; where they took the sample, the sum has it too, and else nothing changes
 unfoldable pub record_to : OwdDirection → List ℕ → ℕ → Outcome

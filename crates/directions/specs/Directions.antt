@@ -1,11 +1,11 @@
 -- Both directions, whose rooms lie in one lent slice: the reverse part begins where the forward part ends. Assumes nothing.
-use Rattle.std.specs.Prelude.{◌≡◌, Bool, true, false, cond, List, ◌++◌, ℕ, ◌+◌, ltb, length, take, drop}
-use Rattle.limits.specs.Refusals.{wrong_room, counts_full}
+use Rattle.std.specs.Prelude.{◌≡◌, Bool, true, false, cond, List, ◌++◌, ℕ, ◌+◌, ltb, length, take, drop, Option, Some, None, Result, Ok, Err}
+use Rattle.limits.specs.declared.Refusal.{Refusal}
+use Rattle.limits.specs.Numbers.{number_of}
+use Rattle.limits.specs.Refusals.{wrong_room}
 use Rattle.quantile_room.specs.Room.{room_size}
 use Rattle.directions.specs.declared.OwdDirection.{OwdDirection}
 use Rattle.directions.specs.declared.Directions.{Directions}
-use Rattle.directions.specs.declared.Measuring.{Measuring}
-use Rattle.directions.specs.declared.Measuring.TheVariants.{Refused, SumsFull, Full, Counted}
 use Rattle.directions.specs.Direction as direction
 
 -- how many words a part has: those of a signed room
@@ -66,11 +66,10 @@ abbrev pub left : ℕ → Bool → Directions → List ℕ → Outcome
 left n b ds slice = record { number = n; answer = b; state = ds; slice = slice }
 
 -- the number and values of each answer to a call at both directions
-unfoldable pub outcome_both : Directions → Measuring → List ℕ → Outcome
-outcome_both ds Refused slice = left wrong_room false ds slice
-outcome_both ds SumsFull slice = left counts_full false ds slice
-outcome_both ds Full slice = left 0 false ds slice
-outcome_both ds (Counted next) slice = left 0 true next slice
+unfoldable pub outcome_both : Directions → Result (Option Directions) Refusal → List ℕ → Outcome
+outcome_both ds (Err refusal) slice = left (number_of refusal) false ds slice
+outcome_both ds (Ok None) slice = left 0 false ds slice
+outcome_both ds (Ok (Some next)) slice = left 0 true next slice
 
 -- what a sample of a direction leaves of both, by what it leaves of its own
 abbrev pub in_both : Directions → Bool → direction.Outcome → Outcome

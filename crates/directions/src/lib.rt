@@ -1,5 +1,7 @@
 // `OwdDirection` of src/stats.rs, forward and reverse, each with its quantiles and its sum. Their two rooms lie in one lent slice: the reverse
 // part begins where the forward part ends. Its smallest and largest sample are the quantiles' own. An i64 is its two's complement word.
+#![tactic(auto)]
+
 ghost use Rattle.std.specs.Prelude.{◌≡◌, true, ◌+◌, ◌≤◌, length};
 ghost use Rattle.series.specs.Series.{sum_fits};
 ghost use Rattle.directions.specs.Direction.{fresh, grown_of, outcome, record_to};
@@ -7,22 +9,13 @@ ghost use Rattle.directions.specs.Directions.{part_size, start_of, own, with_own
 ghost use Rattle.directions.specs.Tried.{TriedOwn};
 
 use delays::Sum;
+use limits::Refusal;
 use quantiles::Quantiles;
-use series::Sampling;
 
 #[derive(Clone, Copy)]
 pub struct OwdDirection {
     pub quantiles: Quantiles,
     pub sum: Sum,
-}
-
-// What recording a sample answers: refusal 5; refusal 4; Rust's false; or true, with the direction as it then stands.
-#[derive(Clone, Copy)]
-pub enum Recording {
-    Refused,
-    SumsFull,
-    Full,
-    Counted(OwdDirection),
 }
 
 impl OwdDirection {
@@ -59,28 +52,27 @@ impl OwdDirection {
         }
     }
 
-    // `record`: one sample more, in the room that holds the others.
-    pub fn record(self, room: &mut [u64], value: u64) -> Recording
+    // `record`: one sample more, in the room that holds the others: refusal 5; refusal 4; none, Rust's false; or the direction as it then stands.
+    pub fn record(self, room: &mut [u64], value: u64) -> Result<Option<OwdDirection>, Refusal>
         ensures { outcome self result room.new ≡ record_to self room.old value }
     {
         let quantiles = self.quantiles;
         let sum = self.sum;
         let fits = series::sum_fits(sum);
-        let answer = series::record_beside(fits, quantiles, room, value);
-        match answer {
-            Sampling::Refused => Recording::Refused,
-            Sampling::SumsFull => Recording::SumsFull,
-            Sampling::Full => Recording::Full,
-            Sampling::Counted(next) => {
-                let after = self.grown(next, value);
-                Recording::Counted(after)
-            }
+        match series::record_beside(fits, quantiles, room, value)? {
+            None => Ok(None),
+            Some(next) => Ok(Some(self.grown(next, value))),
         }
     }
 }
 
 // A sample of the direction whose part begins at `start`: that part is lent on.
-fn record_part(direction: OwdDirection, slice: &mut [u64], start: usize, value: u64) -> Recording
+fn record_part(
+    direction: OwdDirection,
+    slice: &mut [u64],
+    start: usize,
+    value: u64,
+) -> Result<Option<OwdDirection>, Refusal>
     requires { start + part_size ≤ length slice.old }
     ensures { (outcome direction result slice.new ≡ record_part direction slice.old start value) × Untouched start slice.old slice.new }
 {
@@ -100,12 +92,17 @@ fn start_of(reverse: bool) -> usize
 }
 
 // A sample of the one direction or the other, in its part of the slice. The other's part is left untouched.
-pub fn record_own(own: OwdDirection, slice: &mut [u64], reverse: bool, value: u64) -> Recording
+pub fn record_own(
+    own: OwdDirection,
+    slice: &mut [u64],
+    reverse: bool,
+    value: u64,
+) -> Result<Option<OwdDirection>, Refusal>
     ensures { (outcome own result slice.new ≡ record_own own slice.old reverse value) × Untouched (start_of reverse) slice.old slice.new }
 {
     let size = quantile_room::room_size(true);
     if slice.len() < size + size {
-        return Recording::Refused;
+        return Err(Refusal::WrongRoom);
     }
     let start = start_of(reverse);
     record_part(own, slice, start, value)
@@ -132,15 +129,6 @@ pub fn try_own(own: OwdDirection, slice: &mut [u64], reverse: bool, value: u64) 
 pub struct Directions {
     pub forward: OwdDirection,
     pub reverse: OwdDirection,
-}
-
-// What a sample of one direction answers: refusal 5; refusal 4; Rust's false; or true, with both as they then stand.
-#[derive(Clone, Copy)]
-pub enum Measuring {
-    Refused,
-    SumsFull,
-    Full,
-    Counted(Directions),
 }
 
 // The one direction or the other.
@@ -181,20 +169,20 @@ impl Directions {
         Directions { forward, reverse }
     }
 
-    // A sample of the one direction or the other, in its part of the slice. The other's part is left untouched.
-    pub fn record(self, slice: &mut [u64], reverse: bool, value: u64) -> Measuring
+    // A sample of the one direction or the other, in its part of the slice: refusal 5; refusal 4; none, Rust's false; or both as they then stand.
+    // The other's part is left untouched.
+    pub fn record(
+        self,
+        slice: &mut [u64],
+        reverse: bool,
+        value: u64,
+    ) -> Result<Option<Directions>, Refusal>
         ensures { (outcome_both self result slice.new ≡ record_in self slice.old reverse value) × Untouched (start_of reverse) slice.old slice.new }
     {
         let own = own_of(self, reverse);
-        let answer = record_own(own, slice, reverse, value);
-        match answer {
-            Recording::Refused => Measuring::Refused,
-            Recording::SumsFull => Measuring::SumsFull,
-            Recording::Full => Measuring::Full,
-            Recording::Counted(next) => {
-                let after = with_own(self, reverse, next);
-                Measuring::Counted(after)
-            }
+        match record_own(own, slice, reverse, value)? {
+            None => Ok(None),
+            Some(next) => Ok(Some(with_own(self, reverse, next))),
         }
     }
 }

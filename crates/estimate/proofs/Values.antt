@@ -1,21 +1,20 @@
 -- What the proofs of `error_seconds` and `reading` cite. Assumes nothing.
-use mathlib.Core.Path.{◌≡◌, refl, sym, ap, ◌∙◌}
-use mathlib.Core.Bool.{Bool, true, false, ◌&&◌}
+use mathlib.Core.Path.{◌≡◌, refl, ap}
+use mathlib.Core.Bool.{false}
 use Prim.Native.Nat.{ℕ, ◌+◌, ◌*◌, ◌^◌, ◌≤◌, ◌<◌}
 use native.Mathlib.Nat.{zero-lt-suc, mul_right_comm}
 use native.Mathlib.Omega.{arith}
 use lib.IntN.{pos}
-use lib.Dec.{ltb, leb, lit≤}
+use lib.Dec.{lit≤}
 use lib.Pow.{pow_pos}
 use lib.Ieee.{Float, binary64, mul, of_int, of_bits}
 use lib.Ieee.Exact.{HasValue}
-use borrow.Author.Tests.{le-ltb, lt-ltb, le-leb, lt-leb}
+use borrow.Author.Tests.{lt-ltb, le-leb}
 use Rattle.floats.specs.Exact.{Exactly}
 use Rattle.floats.proofs.Values.{whole_val, power_at, exact_product}
 use Rattle.estimate.specs.declared.ErrorEstimate.{ErrorEstimate}
-use Rattle.estimate.specs.declared.Reading.TheVariants.{Known, Invalid}
-use Rattle.estimate.specs.Wire.{wire_of}
-use Rattle.estimate.specs.Error.{known_if, error_known, ms_of, InMs}
+use Rattle.estimate.specs.declared.Reading.TheVariants.{Known}
+use Rattle.estimate.specs.Error.{InMs}
 
 pub seconds_val : (m s : ℕ) (p : Float) → m < 256 → s < 256 → HasValue p false (2 ^ (s + 991)) (2 ^ 1023) → Exactly (mul binary64 (of_int binary64 (pos m)) p) (m * 2 ^ s) (2 ^ 32)
 seconds_val m s p M S h =
@@ -41,21 +40,6 @@ ms_val m s x M S h =
   where
     small : (m : ℕ) → m < 256 → m * 1000 < 2 ^ 53
     small m h = omega arith
-
--- ---- the three ways through `reading`
--- invalid, with the bits that `to_wire` gave
-unknown : (e : ErrorEstimate) (bits : ℕ) → bits ≡ wire_of e → error_known e ≡ false → InMs e (Invalid bits)
-unknown e bits w h = record { is = ap Invalid w ∙ sym (ap (λ (b : Bool). known_if b (ms_of e) (wire_of e)) h); exact = tt }
-
-pub is_zero : (e : ErrorEstimate) (bits : ℕ) → bits ≡ wire_of e → e.multiplier ≡ 0 → InMs e (Invalid bits)
-is_zero e bits w h = unknown e bits w (ap (λ (b : Bool). b && leb e.scale 63) (le-ltb 0 e.multiplier (omega arith)))
-
-pub is_high : (e : ErrorEstimate) (bits : ℕ) → bits ≡ wire_of e → 63 < e.scale → InMs e (Invalid bits)
-is_high e bits w h = unknown e bits w (both (ltb 0 e.multiplier) (leb e.scale 63) (lt-leb e.scale 63 h))
-  where
-    both : (a b : Bool) → b ≡ false → a && b ≡ false
-    both true b h = h
-    both false b h = refl
 
 pub is_known : (e : ErrorEstimate) (x : Float) → (e.multiplier ≡ 0 → ⊥) → e.scale ≤ 63 → Exactly x (e.multiplier * 1000 * 2 ^ e.scale) (2 ^ 32) → InMs e (Known x)
 is_known e x h k v = record { is = simp (lt-ltb 0 e.multiplier (omega arith), le-leb e.scale 63 k) (ap Known v.Only); exact = v }

@@ -1,9 +1,13 @@
 // A port of src/error_estimate.rs and src/clock_format.rs: the 16-bit error estimate of a STAMP timestamp.
 // Its reading has `ClockEstimate::error_ms` of src/stats/clock_quality.rs.
+#![tactic(auto)]
+
 ghost use Rattle.std.specs.Prelude.{◌≡◌, false, ◌<◌};
 ghost use Rattle.estimate.specs.Wire.{bit, estimate_of, wire_of};
 ghost use Rattle.estimate.specs.Make.{is_ptp, format_of, made_of, smallest};
 ghost use Rattle.estimate.specs.Error.{InSeconds, InMs};
+
+use limits::Refusal;
 
 // Which format a 64-bit timestamp has.
 #[derive(Clone, Copy)]
@@ -21,20 +25,6 @@ pub struct ErrorEstimate {
     pub multiplier: u8,
 }
 
-// The sender's and the reflector's estimate of one reply, or none.
-#[derive(Clone, Copy)]
-pub enum Estimates {
-    Absent,
-    Pair(ErrorEstimate, ErrorEstimate),
-}
-
-// What making an estimate answers: the estimate, or the number of the refusal.
-#[derive(Clone, Copy)]
-pub enum Made {
-    Estimate(ErrorEstimate),
-    Refused(u8),
-}
-
 // The reading of one estimate: known with its error in ms, or invalid with its 16 bits, so that what came can be seen.
 // RFC 4656, section 4.1.2: the multiplier 0 is invalid, not an error of zero.
 #[derive(Clone, Copy)]
@@ -46,13 +36,18 @@ pub enum Reading {
 impl ErrorEstimate {
     // A scale above 63 is refused.
     #[tactic(auto, using(crate::specs::Make::in_range_lem, crate::specs::Make::above_range))]
-    pub fn new(synchronized: bool, ptp: bool, scale: u8, multiplier: u8) -> Made
+    pub fn new(
+        synchronized: bool,
+        ptp: bool,
+        scale: u8,
+        multiplier: u8,
+    ) -> Result<ErrorEstimate, Refusal>
         ensures { result ≡ made_of synchronized ptp scale multiplier }
     {
         if scale > 63 {
-            return Made::Refused(limits::OUT_OF_RANGE);
+            return Err(Refusal::OutOfRange);
         }
-        Made::Estimate(ErrorEstimate {
+        Ok(ErrorEstimate {
             synchronized,
             ptp,
             scale,
@@ -66,11 +61,10 @@ impl ErrorEstimate {
         format: ClockFormat,
         scale: u8,
         multiplier: u8,
-    ) -> Made
+    ) -> Result<ErrorEstimate, Refusal>
         ensures { result ≡ made_of synchronized (is_ptp format) scale multiplier }
     {
-        let ptp = is_ptp(format);
-        ErrorEstimate::new(synchronized, ptp, scale, multiplier)
+        ErrorEstimate::new(synchronized, is_ptp(format), scale, multiplier)
     }
 
     // The smallest error that is not invalid, of a clock that is not synchronized, in NTP format.
@@ -89,10 +83,9 @@ impl ErrorEstimate {
     pub fn unsynchronized_with_format(format: ClockFormat) -> ErrorEstimate
         ensures { result ≡ smallest (is_ptp format) }
     {
-        let ptp = is_ptp(format);
         ErrorEstimate {
             synchronized: false,
-            ptp,
+            ptp: is_ptp(format),
             scale: 0,
             multiplier: 1,
         }
@@ -102,10 +95,7 @@ impl ErrorEstimate {
     pub fn clock_format(self) -> ClockFormat
         ensures { result ≡ format_of self.ptp }
     {
-        if self.ptp {
-            return ClockFormat::PTP;
-        }
-        ClockFormat::NTP
+        format_of(self.ptp)
     }
 
     // The estimate that the 16 bits of a word say.
@@ -143,14 +133,10 @@ impl ErrorEstimate {
     pub fn reading(self) -> Reading
         ensures { InMs self result }
     {
-        if self.multiplier == 0 {
+        if self.multiplier == 0 || self.scale > 63 {
             return Reading::Invalid(self.to_wire());
         }
-        if self.scale > 63 {
-            return Reading::Invalid(self.to_wire());
-        }
-        let seconds = self.error_seconds();
-        Reading::Known(seconds * 1000.0)
+        Reading::Known(self.error_seconds() * 1000.0)
     }
 }
 
@@ -161,6 +147,17 @@ pub fn is_ptp(format: ClockFormat) -> bool
     match format {
         ClockFormat::PTP => true,
         ClockFormat::NTP => false,
+    }
+}
+
+// The format that this flag says.
+pub fn format_of(ptp: bool) -> ClockFormat
+    ensures { result ≡ format_of ptp }
+{
+    if ptp {
+        ClockFormat::PTP
+    } else {
+        ClockFormat::NTP
     }
 }
 

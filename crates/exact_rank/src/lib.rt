@@ -253,7 +253,7 @@ fn narrowed(samples: &[u64], count: usize, bias: u64, four: Four) -> Four
     if held <= FEW {
         return picked(samples, count, bias, four);
     }
-    let guess = sample_guess::guessed(
+    match sample_guess::guessed(
         samples,
         count,
         bias,
@@ -261,12 +261,13 @@ fn narrowed(samples: &[u64], count: usize, bias: u64, four: Four) -> Four
         node.high,
         node.rank - node.before,
         held,
-    );
-    if guess.pays {
-        let value = within(guess.value, node.low, node.high);
-        return parted(samples, count, bias, value, four);
+    ) {
+        Some(guess) => {
+            let value = within(guess, node.low, node.high);
+            parted(samples, count, bias, value, four)
+        }
+        None => divided(samples, count, bias, four),
     }
-    divided(samples, count, bias, four)
 }
 
 // One step of the first search. The first and the last rank of a range are read off in one pass.

@@ -7,10 +7,9 @@ ghost use Rattle.follow_ups.specs.Bounds.{CountsIn};
 pub mod summary;
 
 use clock_quality::ClockQuality;
-use correlation::Wires;
-use correlation::follow::Class;
+use correlation::follow::{Match, Miss};
 use delays::Delays;
-use estimate::{ErrorEstimate, Estimates};
+use estimate::ErrorEstimate;
 
 // The counts of `FollowUpSummary`.
 #[derive(Clone, Copy)]
@@ -32,48 +31,33 @@ pub struct FollowUps {
 }
 
 // The estimates that the wires of a record say.
-pub fn estimates_of(wires: Wires) -> Estimates
+pub fn estimates_of(wires: Option<(u16, u16)>) -> Option<(ErrorEstimate, ErrorEstimate)>
     ensures { result ≡ estimates_of wires }
 {
     match wires {
-        Wires::Absent => Estimates::Absent,
-        Wires::Pair(sender, reflector) => {
+        None => None,
+        Some((sender, reflector)) => {
             let first = ErrorEstimate::from_wire(sender);
             let second = ErrorEstimate::from_wire(reflector);
-            Estimates::Pair(first, second)
+            Some((first, second))
         }
     }
 }
 
 // One follow-up more, of a class.
-pub fn count(class: Class, counts: FollowCounts) -> FollowCounts
+pub fn count(class: Result<Match, Miss>, mut counts: FollowCounts) -> FollowCounts
     requires { CountsIn counts }
     ensures { result ≡ counted class counts }
 {
-    let mut next = counts;
-    next.observations = next.observations + 1;
+    counts.observations += 1;
     match class {
-        Class::Unavailable => {
-            next.unavailable = next.unavailable + 1;
-            next
-        }
-        Class::Ambiguous => {
-            next.ambiguous = next.ambiguous + 1;
-            next
-        }
-        Class::Unmatched => {
-            next.unmatched = next.unmatched + 1;
-            next
-        }
-        Class::Repeated => {
-            next.repeated = next.repeated + 1;
-            next
-        }
-        Class::Matched(_) => {
-            next.matched = next.matched + 1;
-            next
-        }
+        Err(Miss::Unavailable) => counts.unavailable += 1,
+        Err(Miss::Ambiguous) => counts.ambiguous += 1,
+        Err(Miss::Unmatched) => counts.unmatched += 1,
+        Err(Miss::Repeated) => counts.repeated += 1,
+        Ok(_) => counts.matched += 1,
     }
+    counts
 }
 
 impl FollowUps {

@@ -2,17 +2,17 @@
 -- blocks. Assumes nothing.
 use mathlib.Core.Path.{◌≡◌, refl, sym, ◌∙◌, ap, subst}
 use mathlib.Core.Bool.{Bool, true, false}
-use mathlib.Core.List.{List, [], ◌∷◌, ◌++◌}
+use mathlib.Core.List.{List, [], ◌∷◌}
 use mathlib.Core.Logic.{◌⊎◌, inl, inr, ⊎_elim}
 use Prim.Native.Nat.{ℕ, zero, suc, ◌+◌, ◌-◌, ◌*◌, ◌≤◌, ◌<◌}
 use native.Mathlib.Omega.{arith}
 use native.Mathlib.Nat.{not-suc-le-zero, zero-add}
 use borrow.Author.Tests.{ltb-true, ltb-false}
-use lib.ListN.{length, get_or, take, drop, take-append-drop}
+use lib.ListN.{length, get_or, take, drop}
 use lib.Seq.{take-add}
 use lib.Dec.{ltb}
 use Rattle.histogram.specs.Histogram.{total, bucket_at, left_at}
-use Rattle.histogram.proofs.Sums.{total-append, total_split, total-next, at_first, at_later, at-past, at-below, left-first, left_later}
+use Rattle.histogram.proofs.Sums.{total-append, total-next, at_first, at_later, at-past, at-below, left-first, left_later}
 
 below_or_not : (r n : ℕ) → (r < n) ⊎ (n ≤ r)
 below_or_not r n = by (ltb r n) refl

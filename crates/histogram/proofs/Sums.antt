@@ -1,15 +1,15 @@
 -- Laws of sums of buckets, and of the bucket of a rank. Assumes nothing.
-use mathlib.Core.Path.{◌≡◌, refl, sym, ◌∙◌, ap, ap₂, subst}
+use mathlib.Core.Path.{◌≡◌, refl, sym, ◌∙◌, ap, ap₂}
 use mathlib.Core.Bool.{Bool, true, false, ◌&&◌}
-use mathlib.Core.List.{List, [], ◌∷◌, ◌++◌, append_assoc, append-nil}
+use mathlib.Core.List.{List, [], ◌∷◌, ◌++◌}
 use mathlib.Core.Logic.{◌⊎◌, inl, inr, ⊎_elim}
-use Prim.Native.Nat.{ℕ, zero, suc, ◌+◌, ◌-◌, ◌*◌, ◌/◌, ◌%◌, ◌^◌, ◌≤◌, ◌<◌, zero-le}
-use native.Mathlib.Nat.{le_refl, le_antisymm, le_trans, le_of_eq, add-zero, add_assoc, le-add_right, le_of_suc-le-suc, not-suc-le-zero}
+use Prim.Native.Nat.{ℕ, zero, suc, ◌+◌, ◌-◌, ◌*◌, ◌/◌, ◌%◌, ◌^◌, ◌≤◌, ◌<◌}
+use native.Mathlib.Nat.{le_trans, le_of_eq, add-zero, add_assoc, le-add_right, le_of_suc-le-suc, not-suc-le-zero}
 use native.Mathlib.Numerals.{add-one}
 use native.Mathlib.Omega.{arith}
 use borrow.Author.Tests.{lt-ltb, le-ltb, ltb-true, ltb-false, eq-eqb, eqb-true, eqb-false}
-use lib.ListN.{length, get_or, take, drop, set, replicate, take-append-drop, length-replicate, replicate-append-replicate, drop_of_length-le}
-use lib.Seq.{take-suc, drop-cons, set_at}
+use lib.ListN.{length, get_or, take, drop, take-append-drop, drop_of_length-le}
+use lib.Seq.{take-suc, drop-cons}
 use lib.Dec.{ltb, eqb}
 use Rattle.histogram.specs.Histogram.{total, either, bucket_at, left_at}
 
@@ -125,16 +125,6 @@ pub left_end : (b : List ℕ) (i left : ℕ) → length b ≤ i → left_at (dro
 unfolding left_at
 left_end b i left h = ap (λ (x : List ℕ). left_at x left) (drop_of_length-le b h)
 
--- one more bucket cleared
-pub cleared_next : (b : List ℕ) (i : ℕ) → i < length b → set (replicate i 0 ++ drop i b) i 0 ≡ replicate (i + 1) 0 ++ drop (i + 1) b
-cleared_next b i h =
-    ap (λ (x : List ℕ). set (replicate i 0 ++ x) i 0) (drop-cons b i 0 h) ∙ set_at (replicate i 0) (get_or b i 0) (drop (suc i) b) 0 i (length-replicate i 0)
-    ∙ sym (append_assoc (replicate i 0) (replicate 1 0) (drop (suc i) b))
-    ∙ ap₂ (λ (x y : List ℕ). x ++ y) (replicate-append-replicate i 1 0) (ap (λ (x : ℕ). drop x b) (sym (add-one i)))
-
-pub cleared_all : (b : List ℕ) (i : ℕ) → length b ≤ i → i ≤ length b → replicate i 0 ++ drop i b ≡ replicate (length b) 0
-cleared_all b i h l = ap (λ (x : List ℕ). replicate i 0 ++ x) (drop_of_length-le b h) ∙ append-nil (replicate i 0) ∙ ap (λ (x : ℕ). replicate x 0) (le_antisymm l h)
-
 -- a sum is the count exactly where its halves are the count's
 pub halves : (low high t count : ℕ) → low + high * 2 ^ 32 ≡ t → eqb (high + low / 2 ^ 32) (count / 2 ^ 32) && eqb (low % 2 ^ 32) (count % 2 ^ 32) ≡ eqb t count
 halves low high t count e = whole (eqb t count) refl
@@ -168,7 +158,3 @@ total-none = refl
 pub halves_next : (i low high x : ℕ) → low ≤ i * 4294967295 → high ≤ i * 4294967295 → x < 2 ^ 64
     → (low + x % 2 ^ 32 + (high + x / 2 ^ 32) * 2 ^ 32 ≡ low + high * 2 ^ 32 + x) × (low + x % 2 ^ 32 ≤ (i + 1) * 4294967295) × (high + x / 2 ^ 32 ≤ (i + 1) * 4294967295)
 halves_next i low high x a b h = (omega arith, omega arith, omega arith)
-
--- and neither sum wraps
-pub halves_fit : (i n low x : ℕ) → i < n → n ≤ 65536 → low ≤ i * 4294967295 → x ≤ 4294967295 → low + x < 2 ^ 64
-halves_fit i n low x h l a b = omega arith

@@ -1,5 +1,7 @@
 // Counts in a row: the buckets of a quantile room, which are what `Storage::Histogram` of src/stats/quantiles.rs is, those of one block, or
 // the totals of all blocks.
+#![tactic(auto)]
+
 ghost use Rattle.std.specs.Prelude.{◌≡◌, ◌≤◌, length, replicate, eqb};
 ghost use Rattle.histogram.specs.Histogram.{total, bucket_at, left_at};
 
@@ -7,11 +9,7 @@ ghost use Rattle.histogram.specs.Histogram.{total, bucket_at, left_at};
 pub fn clear(buckets: &mut [u64])
     ensures { buckets.new ≡ replicate (length buckets.old) 0 }
 {
-    let mut i = 0;
-    while i < buckets.len() {
-        buckets[i] = 0;
-        i += 1;
-    }
+    buckets.fill(0);
 }
 
 // Whether the buckets have `count` samples, all together. Halves of 32 bits are summed, so that nothing wraps: a sum that
@@ -22,11 +20,9 @@ pub fn total_is(buckets: &[u64], count: u64) -> bool
 {
     let mut low: u64 = 0;
     let mut high: u64 = 0;
-    let mut i = 0;
-    while i < buckets.len() {
-        low += buckets[i] % 4294967296;
-        high += buckets[i] / 4294967296;
-        i += 1;
+    for here in buckets {
+        low += *here % 4294967296;
+        high += *here / 4294967296;
     }
     let carried = high + low / 4294967296;
     (carried == count / 4294967296) & (low % 4294967296 == count % 4294967296)
@@ -44,14 +40,14 @@ pub fn find(buckets: &[u64], rank: u64) -> Found
     ensures { (result.place ≡ bucket_at buckets.now rank) × (result.left ≡ left_at buckets.now rank) }
 {
     let mut left = rank;
-    let mut i = 0;
-    while i < buckets.len() {
-        let here = buckets[i];
-        if left < here {
-            return Found { place: i, left };
+    for (place, here) in buckets.iter().enumerate() {
+        if left < *here {
+            return Found { place, left };
         }
-        left -= here;
-        i += 1;
+        left -= *here;
     }
-    Found { place: i, left }
+    Found {
+        place: buckets.len(),
+        left,
+    }
 }

@@ -1,6 +1,5 @@
 -- ONE PLAIN RECORD of all that a ledger shows: numbers and options, from its served calls, newest first. N is how many keys, probes and offsets are held.
-use Rattle.std.specs.Prelude.{Bool, not, ◌&&◌, List, map, ℕ, eqb, ltb}
-use Rattle.std.proofs.Math.Option.{Option}
+use Rattle.std.specs.Prelude.{Bool, not, ◌&&◌, List, map, ℕ, eqb, ltb, Option}
 use Rattle.call_types.specs.declared.CounterPoint.{CounterPoint}
 use Rattle.call_types.specs.declared.Reply.{Reply}
 use Rattle.call_types.specs.declared.Call.{Call}

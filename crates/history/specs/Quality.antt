@@ -1,7 +1,6 @@
 -- Clock quality from the plain list of samples, newest first: the estimates of the reply that each matched follow-up corrects, or none.
 -- Assumes nothing.
-use Rattle.std.specs.Prelude.{Bool, false, ◌&&◌, cond, List, [], ◌∷◌, ℕ, ◌+◌, ◌*◌, ◌^◌, eqb, leb, ltb, Float, length}
-use Rattle.std.proofs.Math.Option.{Option, none, some}
+use Rattle.std.specs.Prelude.{Bool, false, ◌&&◌, cond, List, [], ◌∷◌, ℕ, ◌+◌, ◌*◌, ◌^◌, eqb, leb, ltb, Float, length, Option, None, Some}
 use Rattle.std.specs.Float.{binary64}
 use Rattle.std.specs.Float.Ieee.{round, add, le}
 use Rattle.estimate.specs.declared.ErrorEstimate.{ErrorEstimate}
@@ -14,19 +13,19 @@ Sample = Option EstimatePair
 
 -- the error in ms: multiplier·2^(scale-32) s (RFC 4656, section 4.1.2); none for multiplier 0, which is invalid
 abbrev pub error_ms : ErrorEstimate → Option Float
-error_ms e = cond (ltb 0 e.multiplier && leb e.scale 63) (some (round binary64 false (e.multiplier * 1000 * 2 ^ e.scale) (2 ^ 32))) none
+error_ms e = cond (ltb 0 e.multiplier && leb e.scale 63) (Some (round binary64 false (e.multiplier * 1000 * 2 ^ e.scale) (2 ^ 32))) None
 
 -- 1 invalid at the sender alone, 2 at the reflector alone, 3 at both; with both errors 4 where a clock is not synchronized, else 5
 abbrev pub pair_class : Option Float → Option Float → (synchronized : Bool) → ℕ
-pair_class none none s = 3
-pair_class none (some y) s = 1
-pair_class (some x) none s = 2
-pair_class (some x) (some y) s = cond s 5 4
+pair_class None None s = 3
+pair_class None (Some y) s = 1
+pair_class (Some x) None s = 2
+pair_class (Some x) (Some y) s = cond s 5 4
 
 -- of a sample, 0 where it has no estimates
 abbrev pub class_of : Sample → ℕ
-class_of none = 0
-class_of (some p) = pair_class (error_ms p.sender) (error_ms p.reflector) (p.sender.synchronized && p.reflector.synchronized)
+class_of None = 0
+class_of (Some p) = pair_class (error_ms p.sender) (error_ms p.reflector) (p.sender.synchronized && p.reflector.synchronized)
 
 -- how many samples are of the class n
 unfoldable pub of_class : ℕ → List Sample → ℕ
@@ -35,24 +34,24 @@ of_class n (q ∷ qs) = tally (eqb n (class_of q)) (of_class n qs)
 
 -- the larger of two errors, where there are two; the combined error is the sum of both, rounded once
 abbrev pub larger_with : Option Float → Option Float → Option Float → Option Float
-larger_with m none y = m
-larger_with m (some x) none = m
-larger_with none (some x) (some y) = some (add binary64 x y)
-larger_with (some m) (some x) (some y) = some (cond (le (add binary64 x y) m) m (add binary64 x y))
+larger_with m None y = m
+larger_with m (Some x) None = m
+larger_with None (Some x) (Some y) = Some (add binary64 x y)
+larger_with (Some m) (Some x) (Some y) = Some (cond (le (add binary64 x y) m) m (add binary64 x y))
 
 -- with one sample more
 abbrev pub largest_with : Option Float → Sample → Option Float
-largest_with m none = m
-largest_with m (some p) = larger_with m (error_ms p.sender) (error_ms p.reflector)
+largest_with m None = m
+largest_with m (Some p) = larger_with m (error_ms p.sender) (error_ms p.reflector)
 
 -- the largest combined error of the samples that have both
 unfoldable pub largest_error : List Sample → Option Float
-largest_error [] = none
+largest_error [] = None
 largest_error (q ∷ qs) = largest_with (largest_error qs) q
 
 -- the estimates of the newest sample
 abbrev pub newest : List Sample → Sample
-newest [] = none
+newest [] = None
 newest (q ∷ qs) = q
 
 -- what is shown: how many samples, how many of each kind, the newest estimates, the largest combined error

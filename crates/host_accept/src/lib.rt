@@ -32,10 +32,12 @@ pub extern "C" fn ambrulicciu_accept(
         & (slots.len() == CAPACITY)
         & (probes.len() == CAPACITY)
         & (links.len() == CAPACITY);
-    let refused = host_ledger_checks::refusal(ledger, sized);
-    if refused == 0 {
-        let reply = host_calls::reply_of(sender, reflector, t3, pending, time, tag);
-        served(ledger, keys, slots, probes, links, reply, answer);
+    match host_ledger_checks::refusal(ledger, sized) {
+        Some(refusal) => u8::from(refusal),
+        None => {
+            let reply = host_calls::reply_of(sender, reflector, t3, pending, time, tag);
+            served(ledger, keys, slots, probes, links, reply, answer);
+            0
+        }
     }
-    refused
 }

@@ -33,15 +33,15 @@ fn serve_entry(
         & (slots.len() == CAPACITY)
         & (probes.len() == CAPACITY)
         & (links.len() == CAPACITY);
-    let refused = refusal_unless(sure, ledger, sized);
-    if refused == 0 {
-        let reply = reply_at(entries, i);
-        let mut words = [0, 0, 0, 0, 0, 0];
-        served(ledger, keys, slots, probes, links, reply, &mut words);
-        put_served(answers, i, words);
-        return;
+    match refusal_unless(sure, ledger, sized) {
+        Some(refusal) => put_refused(answers, i, refusal),
+        None => {
+            let reply = reply_at(entries, i);
+            let mut words = [0; 6];
+            served(ledger, keys, slots, probes, links, reply, &mut words);
+            put_served(answers, i, words);
+        }
     }
-    put_refused(answers, i, refused);
 }
 
 // The first `count` entries.
@@ -65,12 +65,10 @@ fn serve(
         & (probes.len() == CAPACITY)
         & (links.len() == CAPACITY);
     let sure = host_burst_bounds::lasts(ledger, sized, count);
-    let mut i = 0;
-    while i < count {
+    for i in 0..count {
         serve_entry(
             ledger, keys, slots, probes, links, sure, entries, answers, i,
         );
-        i = i + 1;
     }
 }
 
@@ -90,8 +88,8 @@ pub extern "C" fn ambrulicciu_accept_burst(
         let after = lent ledger.new keys.new slots.new probes.new links.new in
         listed result (left after answers.new) ≡ accept_burst before entries.now answers.old }
 {
-    let refusal = refusal_of_list(entries.len(), answers.len());
-    let count = served_of_list(refusal, entries.len());
+    let refused = refusal_of_list(entries.len(), answers.len());
+    let count = served_of_list(refused, entries.len());
     serve(ledger, keys, slots, probes, links, entries, count, answers);
-    refusal
+    limits::number(refused)
 }

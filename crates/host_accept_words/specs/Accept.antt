@@ -1,10 +1,10 @@
 -- What `ambrulicciu_accept` returns and leaves: the library's `accept` on the ledger that the words say. Assumes nothing.
-use Rattle.std.specs.Prelude.{true, List, ℕ, ◌+◌, get_or, set}
+use Rattle.ledger_state.specs.declared.Ledger.{Ledger}
+use Rattle.ledger_steps.specs.declared.Accepted.{Accepted}
+use Rattle.std.specs.Prelude.{true, List, ℕ, ◌+◌, get_or, set, Result, Ok, Err}
 use Rattle.std.proofs.lemmas.List.Edits.{sets}
 use Rattle.call_types.specs.declared.Reply.{Reply}
 use Rattle.chains.specs.declared.Ring.{Ring}
-use Rattle.ledger_steps.specs.declared.AcceptAnswer.{AcceptAnswer}
-use Rattle.ledger_steps.specs.declared.AcceptAnswer.TheVariants as accepts
 use Rattle.replies.specs.Served.{after_duplicate, after_unknown}
 use Rattle.ledger_steps.specs.Accept.{AcceptOutcome, ledger_counted}
 use Rattle.ledger_steps.specs.Calls.{AcceptResult, accept_number, accept_to}
@@ -29,14 +29,14 @@ abbrev pub accept_left : ℕ → List ℕ → List (List ℕ) → List (List ℕ
 accept_left number ledger keys slots probes links answer = record { number = number; ledger = ledger; keys = keys; slots = slots; probes = probes; links = links; answer = answer }
 
 -- the words after an answer, and the answer's words: a refusal changes none
-abbrev pub words_after : List ℕ → AcceptAnswer → List ℕ
-words_after w (accepts.Served next x) = served_words w next x
-words_after w (accepts.Refused n) = w
+abbrev pub words_after : List ℕ → Result (Ledger × Accepted) ℕ → List ℕ
+words_after w (Ok (next, x)) = served_words w next x
+words_after w (Err n) = w
 
 -- the six words of the answer: class, packet, ordinal and train where served, else as they were
-abbrev pub answer_after : List ℕ → AcceptAnswer → List ℕ
-answer_after a (accepts.Served next x) = host_calls.accepted_words x
-answer_after a (accepts.Refused n) = a
+abbrev pub answer_after : List ℕ → Result (Ledger × Accepted) ℕ → List ℕ
+answer_after a (Ok (next, x)) = host_calls.accepted_words x
+answer_after a (Err n) = a
 
 -- what the library's result leaves of the ledger's words w and the answer's words a
 abbrev pub accept_from : List ℕ → List ℕ → AcceptResult → AcceptLeft

@@ -4,6 +4,7 @@
 // ledger would stay in registers and on the stack over all of that, which was a fifth of a unique reply's time. Crate ledger_accept has what becomes
 // of the probe of a unique reply.
 ghost use Rattle.std.specs.Prelude.{◌≡◌, true, ◌&&◌, ◌≤◌, ◌<◌, length, get_or};
+ghost use Rattle.limits.specs.Numbers.{number};
 ghost use Rattle.limits.specs.Limits.{capacity, most_calls, count_bound};
 ghost use Rattle.chains.specs.Hash.{number_hash};
 ghost use Rattle.key_ring.specs.Table.{find as findKey, hash_of};
@@ -20,7 +21,7 @@ use call_types::Reply;
 use chains::Ring;
 use host_ledger::{LEDGER_WORDS, places};
 use ledger_state::Tables;
-use limits::CAPACITY;
+use limits::{CAPACITY, Refusal};
 use probe_ring::Remembered;
 
 // ---- what is counted
@@ -195,13 +196,14 @@ pub fn served(
 
 // ---- the refusals
 
-// The number of the ledger's own tests; where a list of replies is sure that it is 0, nothing is tested.
-pub fn refusal_unless(sure: bool, ledger: &[u64; LEDGER_WORDS], sized: bool) -> u8
+// Why the ledger's own tests refuse; where a list of replies is sure that they don't, nothing is tested.
+pub fn refusal_unless(sure: bool, ledger: &[u64; LEDGER_WORDS], sized: bool) -> Option<Refusal>
     requires { sure ≡ true → first_refusal (sized && rings_fit (ledger_at ledger.now)) true true (room_for_call (ledger_at ledger.now)) true true ≡ 0 }
-    ensures { result ≡ first_refusal (sized && rings_fit (ledger_at ledger.now)) true true (room_for_call (ledger_at ledger.now)) true true }
+    ensures { number result ≡ first_refusal (sized && rings_fit (ledger_at ledger.now)) true true (room_for_call (ledger_at ledger.now)) true true }
 {
     if sure {
-        return 0;
+        None
+    } else {
+        host_ledger_checks::refusal(ledger, sized)
     }
-    host_ledger_checks::refusal(ledger, sized)
 }

@@ -1,7 +1,5 @@
 -- What `answered` returns and leaves in the words of a host, on every input. A refusal leaves the answer as it was. Assumes nothing.
-use Rattle.std.specs.Prelude.{List, [], ◌∷◌, ℕ}
-use Rattle.ledger_steps.specs.declared.AnsweredAnswer.{AnsweredAnswer}
-use Rattle.ledger_steps.specs.declared.AnsweredAnswer.TheVariants as answers
+use Rattle.std.specs.Prelude.{List, [], ◌∷◌, ℕ, Result, Ok, Err, Bool}
 use Rattle.ledger_steps.specs.Calls.{answered_to}
 use Rattle.host_numbers.specs.Numbers.{flag_word}
 use Rattle.host_ledger.specs.Words.{ledger_at}
@@ -16,9 +14,9 @@ abbrev pub left : ℕ → List ℕ → Left
 left number answer = record { number = number; answer = answer }
 
 -- served: 1 where the probe is held and has a reply, else 0
-abbrev pub left_by : AnsweredAnswer → List ℕ → Left
-left_by (answers.Served b) before = left 0 (flag_word b ∷ [])
-left_by (answers.Refused n) before = left n before
+abbrev pub left_by : Result Bool ℕ → List ℕ → Left
+left_by (Ok b) before = left 0 (flag_word b ∷ [])
+left_by (Err n) before = left n before
 
 -- of the words of the ledger, the rooms of the probes and of the links, the sequence, and the answer before the call
 unfoldable pub answered_leaves : List ℕ → List (List ℕ) → List (List ℕ) → ℕ → List ℕ → Left

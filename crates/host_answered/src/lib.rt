@@ -3,7 +3,6 @@ ghost use Rattle.std.specs.Prelude.{◌≡◌};
 ghost use Rattle.host_answered.specs.Answered.{left, answered_leaves};
 
 use host_ledger::LEDGER_WORDS;
-use ledger_steps::AnsweredAnswer;
 
 // `answer`: 1 if it is answered, else 0.
 #[unsafe(no_mangle)]
@@ -18,8 +17,8 @@ pub extern "C" fn ambrulicciu_answered(
 {
     let state = host_ledger::load(ledger);
     match ledger_sent::answered(state, probes, links, sequence) {
-        AnsweredAnswer::Refused(number) => number,
-        AnsweredAnswer::Served(answered) => {
+        Err(refusal) => u8::from(refusal),
+        Ok(answered) => {
             *answer = [host_numbers::flag(answered)];
             0
         }

@@ -1,5 +1,9 @@
 -- What the proofs of the calls cite: each case of the answer below. Assumes nothing.
-use mathlib.Core.Path.{◌≡◌, sym, ap, ◌∙◌}
+use Rattle.std.specs.Prelude.{Result, Ok, Err}
+use Rattle.limits.specs.declared.Refusal.{Refusal}
+use Rattle.limits.specs.Numbers.{number_of}
+use Rattle.big_endian.specs.Fields.{Field}
+use mathlib.Core.Path.{◌≡◌, ap, ◌∙◌}
 use mathlib.Core.List.{List}
 use Prim.Native.Nat.{ℕ}
 use lib.ListN.{set}
@@ -7,73 +11,67 @@ use Rattle.host_numbers.specs.Numbers.{lower, upper}
 use Rattle.host_observation.specs.Observation.{word}
 use Rattle.record_parts.specs.Parts.{counters_flag, sender_count, received_count, transmitted_count}
 use Rattle.call_types.specs.declared.CounterPoint.{CounterPoint}
-use Rattle.area_read.specs.declared.Checked.{Checked}
-use Rattle.area_read.specs.declared.Checked.TheVariants as checked
 use Rattle.area_read.specs.Read as read_call
-use Rattle.area_write.specs.declared.Written.{Written}
-use Rattle.area_write.specs.declared.Written.TheVariants as written
 use Rattle.area_write.specs.Write as write-call
 use Rattle.area_fields.specs.declared.FollowUpItem.{FollowUpItem}
-use Rattle.area_fields.specs.declared.CountersRead.{CountersRead}
-use Rattle.area_fields.specs.declared.CountersRead.TheVariants as counters
-use Rattle.area_fields.specs.declared.FollowUpRead.{FollowUpRead}
-use Rattle.area_fields.specs.declared.FollowUpRead.TheVariants as follow
-use Rattle.area_fields.specs.Fields.{counters_of, follow_up_of}
+use Rattle.area_fields.specs.Fields.{counters_of, follow_up_of, Wrote, wrote, wrote_fields}
 use Rattle.area_observation.specs.declared.Told.{Told}
-use Rattle.area_observation.specs.declared.Telling.{Telling}
-use Rattle.area_observation.specs.declared.Telling.TheVariants as telling
 use Rattle.area_observation.specs.Told.{told}
 use Rattle.host_area.specs.Words.{sighted_flag, unknown_flag, sequence_of, timestamp_of, flags_with, told_words}
-use Rattle.host_area.specs.Calls.{room_left, read_by, read_to, write_by, write_to, words_left, counters_by, counters_to, follow_up_by, follow_up_to, observation_by, observation_to}
+use Rattle.host_area.specs.Calls.{room_left, read_by, read_to, write_by, write_to, words_left, counters_by, counters_to, follow_up_by, follow_up_to, observation_by, observation_to, number_of_answer, bytes_left, fields_to}
 
-module _ (bytes room after count : List ℕ) (a : Checked) (left : read_call.outcome a after ≡ read_call.read_into bytes room) where
-  read_from : (b : Checked) → a ≡ b → read_by b after count ≡ read_to bytes room count
+module _ (bytes room after count : List ℕ) where
+  read_done : (a : Result ℕ Refusal) → read_call.outcome a after ≡ read_call.read_into bytes room → read_by a after count ≡ read_to bytes room count
   unfolding read_to
-  read_from b told = ap (λ (c : Checked). read_by c after count) (sym told) ∙ ap (λ (o : read_call.Outcome). read_by o.answer o.room count) left
+  read_done a left = ap (λ (o : read_call.Outcome). read_by o.answer o.room count) left
 
-  pub read-refused : (n : ℕ) → a ≡ checked.Refused n → room_left n after count ≡ read_to bytes room count
-  read-refused n told = read_from (checked.Refused n) told
+  pub read-refused : (e : Refusal) (n : ℕ) → read_call.outcome (Err e) after ≡ read_call.read_into bytes room → n ≡ number_of e → room_left n after count ≡ read_to bytes room count
+  read-refused e n left is = ap (λ (m : ℕ). room_left m after count) is ∙ read_done (Err e) left
 
-  pub read-served : (k : ℕ) → a ≡ checked.Items k → room_left 0 after (set count 0 k) ≡ read_to bytes room count
-  read-served k told = read_from (checked.Items k) told
+  pub read-served : (k : ℕ) → read_call.outcome (Ok k) after ≡ read_call.read_into bytes room → room_left 0 after (set count 0 k) ≡ read_to bytes room count
+  read-served k left = read_done (Ok k) left
 
-module _ (items values room after length : List ℕ) (a : Written) (left : write-call.outcome a after ≡ write-call.write_into items values room) where
-  write_from : (b : Written) → a ≡ b → write_by b after length ≡ write_to items values room length
+module _ (items values room after length : List ℕ) where
+  write_done : (a : Result ℕ Refusal) → write-call.outcome a after ≡ write-call.write_into items values room → write_by a after length ≡ write_to items values room length
   unfolding write_to
-  write_from b told = ap (λ (c : Written). write_by c after length) (sym told) ∙ ap (λ (o : write-call.Outcome). write_by o.answer o.room length) left
+  write_done a left = ap (λ (o : write-call.Outcome). write_by o.answer o.room length) left
 
-  pub write-refused : (n : ℕ) → a ≡ written.Refused n → room_left n after length ≡ write_to items values room length
-  write-refused n told = write_from (written.Refused n) told
+  pub write-refused : (e : Refusal) (n : ℕ) → write-call.outcome (Err e) after ≡ write-call.write_into items values room → n ≡ number_of e → room_left n after length ≡ write_to items values room length
+  write-refused e n left is = ap (λ (m : ℕ). room_left m after length) is ∙ write_done (Err e) left
 
-  pub write-served : (k : ℕ) → a ≡ written.Bytes k → room_left 0 after (set length 0 k) ≡ write_to items values room length
-  write-served k told = write_from (written.Bytes k) told
+  pub write-served : (k : ℕ) → write-call.outcome (Ok k) after ≡ write-call.write_into items values room → room_left 0 after (set length 0 k) ≡ write_to items values room length
+  write-served k left = write_done (Ok k) left
 
-module _ (value words : List ℕ) (a : CountersRead) (is : a ≡ counters_of value) where
-  pub counters-refused : a ≡ counters.WrongLength → words_left 11 words ≡ counters_to value words
+module _ (value words : List ℕ) where
+  pub counters-refused : (e : Refusal) (n : ℕ) → Err e ≡ counters_of value → n ≡ number_of e → words_left n words ≡ counters_to value words
   unfolding counters_to
-  counters-refused told = ap (λ (c : CountersRead). counters_by c words) (sym told ∙ is)
+  counters-refused e n is told = ap (λ (m : ℕ). words_left m words) told ∙ ap (λ (c : Result CounterPoint Refusal). counters_by c words) is
 
-  pub counters-served : (p : CounterPoint) → a ≡ counters.Read p → words_left 0 (set (set (set words 0 p.sender.0) 1 p.received.0) 2 p.transmitted.0) ≡ counters_to value words
+  pub counters-served : (p : CounterPoint) → Ok p ≡ counters_of value → words_left 0 (set (set (set words 0 p.sender.0) 1 p.received.0) 2 p.transmitted.0) ≡ counters_to value words
   unfolding counters_to
-  counters-served p told = ap (λ (c : CountersRead). counters_by c words) (sym told ∙ is)
+  counters-served p is = ap (λ (c : Result CounterPoint Refusal). counters_by c words) is
 
-module _ (value words : List ℕ) (a : FollowUpRead) (is : a ≡ follow_up_of value) where
-  pub follow_up_refused : a ≡ follow.WrongLength → words_left 11 words ≡ follow_up_to value words
+  pub follow_up_refused : (e : Refusal) (n : ℕ) → Err e ≡ follow_up_of value → n ≡ number_of e → words_left n words ≡ follow_up_to value words
   unfolding follow_up_to
-  follow_up_refused told = ap (λ (c : FollowUpRead). follow_up_by c words) (sym told ∙ is)
+  follow_up_refused e n is told = ap (λ (m : ℕ). words_left m words) told ∙ ap (λ (c : Result FollowUpItem Refusal). follow_up_by c words) is
 
-  pub follow_up_served : (f : FollowUpItem) → a ≡ follow.Read f → words_left 0 (set (set (set words 0 f.sequence) 1 f.timestamp) 2 f.mode) ≡ follow_up_to value words
+  pub follow_up_served : (f : FollowUpItem) → Ok f ≡ follow_up_of value → words_left 0 (set (set (set words 0 f.sequence) 1 f.timestamp) 2 f.mode) ≡ follow_up_to value words
   unfolding follow_up_to
-  follow_up_served f told = ap (λ (c : FollowUpRead). follow_up_by c words) (sym told ∙ is)
+  follow_up_served f is = ap (λ (c : Result FollowUpItem Refusal). follow_up_by c words) is
 
-module _ (bytes words : List ℕ) (a : Telling) (is : a ≡ told bytes) where
-  pub told-refused : (n : ℕ) → a ≡ telling.Refused n → words_left n words ≡ observation_to bytes words
-  unfolding observation_to
-  told-refused n e = ap (λ (t : Telling). observation_by t words) (sym e ∙ is)
+pub fields_done : (needed : ℕ) (fields : List Field) (bytes after : List ℕ) (a : Result (Unit {0}) Refusal) (n : ℕ) → wrote a after ≡ wrote_fields needed fields bytes → n ≡ number_of_answer a
+    → bytes_left n after ≡ fields_to needed fields bytes
+unfolding fields_to
+fields_done needed fields bytes after a n left is = ap (λ (m : ℕ). bytes_left m after) is ∙ ap (λ (o : Wrote). bytes_left (number_of_answer o.answer) o.bytes) left
 
-  pub told-served : (t : Told) (after : List ℕ) → a ≡ telling.Told t → after ≡ told_words t words → words_left 0 after ≡ observation_to bytes words
+module _ (bytes words : List ℕ) where
+  pub told-refused : (e : Refusal) (n : ℕ) → Err e ≡ told bytes → n ≡ number_of e → words_left n words ≡ observation_to bytes words
   unfolding observation_to
-  told-served t after e h = ap (words_left 0) h ∙ ap (λ (x : Telling). observation_by x words) (sym e ∙ is)
+  told-refused e n is said = ap (λ (m : ℕ). words_left m words) said ∙ ap (λ (t : Result Told Refusal). observation_by t words) is
+
+  pub told-served : (t : Told) (after : List ℕ) → Ok t ≡ told bytes → after ≡ told_words t words → words_left 0 after ≡ observation_to bytes words
+  unfolding observation_to
+  told-served t after is h = ap (words_left 0) h ∙ ap (λ (x : Result Told Refusal). observation_by x words) is
 
 -- the seven stores
 pub tell-said : (t : Told) (w : List ℕ) (stamp low high sender received transmitted sequence counters sighted unknown flags : ℕ)

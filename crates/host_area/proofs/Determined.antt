@@ -1,4 +1,6 @@
 -- The contracts determine the answer and every lent word: two exits that meet them are equal; and a refusal changes nothing. Assumes nothing.
+use Rattle.limits.specs.declared.Refusal.{Refusal}
+use Rattle.limits.specs.Numbers.{number_of}
 use mathlib.Core.Path.{◌≡◌, sym, ap, ◌∙◌}
 use mathlib.Core.List.{List}
 use Prim.Native.Nat.{ℕ}
@@ -9,8 +11,7 @@ use denote.Triple.Clauses as Clauses
 use Rattle.area_items.specs.Items.{refused, area}
 use Rattle.area_read.specs.Read.{read_into}
 use Rattle.area_observation.specs.Told.{told}
-use Rattle.area_fields.specs.Fields.{Wrote}
-use Rattle.host_area.specs.Calls.{RoomLeft, room_left, read_to, WordsLeft, words_left, observation_to}
+use Rattle.host_area.specs.Calls.{BytesLeft, RoomLeft, room_left, read_to, WordsLeft, words_left, observation_to}
 use Rattle.host_area.specs.contracts.ambrulicciu_area_read as read
 use Rattle.host_area.proofs.ambrulicciu_area_read.Kinds as read-kinds
 use Rattle.host_area.proofs.ambrulicciu_area_read.Reads as read-reads
@@ -56,12 +57,12 @@ follow-up-read-unique κs a x y s t p q = let e = p ∙ sym q in (ap (λ (l : Wo
 pub counters-write-unique :
     (κs : Lfts 1) (a : World.ArgsD counters-write.signature κs) (x y : World.ResD counters-write.signature κs) (s t : Clauses.AtExit (Kinds'.ended_of 1 counters-write-kinds.ps counters-write-kinds.r) κs)
     → counters-write-reads.Post κs a x s → counters-write-reads.Post κs a y t → (x ≡ y) × (s.0.now ≡ t.0.now)
-counters-write-unique κs a x y s t p q = let e = p ∙ sym q in (ap (λ (l : Wrote). l.number) e, ap (λ (l : Wrote). l.bytes) e)
+counters-write-unique κs a x y s t p q = let e = p ∙ sym q in (ap (λ (l : BytesLeft). l.number) e, ap (λ (l : BytesLeft). l.bytes) e)
 
 pub follow-up-write-unique :
     (κs : Lfts 1) (a : World.ArgsD follow-up-write.signature κs) (x y : World.ResD follow-up-write.signature κs) (s t : Clauses.AtExit (Kinds'.ended_of 1 follow-up-write-kinds.ps follow-up-write-kinds.r) κs)
     → follow-up-write-reads.Post κs a x s → follow-up-write-reads.Post κs a y t → (x ≡ y) × (s.0.now ≡ t.0.now)
-follow-up-write-unique κs a x y s t p q = let e = p ∙ sym q in (ap (λ (l : Wrote). l.number) e, ap (λ (l : Wrote). l.bytes) e)
+follow-up-write-unique κs a x y s t p q = let e = p ∙ sym q in (ap (λ (l : BytesLeft). l.number) e, ap (λ (l : BytesLeft). l.bytes) e)
 
 pub observation-unique :
     (κs : Lfts 2) (a : World.ArgsD observation.signature κs) (x y : World.ResD observation.signature κs) (s t : Clauses.AtExit (Kinds'.ended_of 2 observation-kinds.ps observation-kinds.r) κs)
@@ -69,10 +70,10 @@ pub observation-unique :
 observation-unique κs a x y s t p q = let e = p ∙ sym q in (ap (λ (l : WordsLeft). l.number) e, ap (λ (l : WordsLeft). l.words) e)
 
 -- a bad area: its number, and no lent word changes
-pub read-refused-unchanged : (bytes items count : List ℕ) (n : ℕ) → area bytes ≡ refused n → read_to bytes items count ≡ room_left n items count
+pub read-refused-unchanged : (bytes items count : List ℕ) (r : Refusal) → area bytes ≡ refused r → read_to bytes items count ≡ room_left (number_of r) items count
 unfolding read_to read_into
-read-refused-unchanged bytes items count n e = rw e
+read-refused-unchanged bytes items count r e = rw e
 
-pub observation-refused-unchanged : (bytes words : List ℕ) (n : ℕ) → area bytes ≡ refused n → observation_to bytes words ≡ words_left n words
+pub observation-refused-unchanged : (bytes words : List ℕ) (r : Refusal) → area bytes ≡ refused r → observation_to bytes words ≡ words_left (number_of r) words
 unfolding observation_to told
-observation-refused-unchanged bytes words n e = rw e
+observation-refused-unchanged bytes words r e = rw e

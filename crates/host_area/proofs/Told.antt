@@ -1,18 +1,17 @@
 -- What `observe` is told of an area, in the words of an observation: they say the counters and the follow-up, and what they said else they still
 -- say. Of any 24 words. Assumes nothing.
+use Rattle.std.specs.Prelude.{Option, Some, None}
+use Rattle.area_observation.specs.declared.Sighting.{Sighting}
+use Rattle.call_types.specs.declared.CounterPoint.{CounterPoint}
 use mathlib.Core.Path.{◌≡◌, refl, ap, ◌∙◌}
 use mathlib.Core.Bool.{Bool, true, false}
 use mathlib.Core.List.{List, [], ◌∷◌}
 use Prim.Native.Nat.{ℕ, ◌+◌, ◌*◌, ◌/◌, ◌%◌, ◌≤◌, ◌<◌, ◌^◌}
 use native.Mathlib.Omega.{arith}
 use lib.Dec.{eqb}
-use Rattle.call_types.specs.declared.Counters.{Counters}
-use Rattle.call_types.specs.declared.Counters.TheVariants as counters
 use Rattle.host_numbers.specs.Numbers.{lower, upper, joined, flag_word}
 use Rattle.host_observation.specs.Observation.{word, double, flags_at, counters_at, key_at}
 use Rattle.record_parts.specs.Parts.{flag, counters_flag, counters_by, sender_count, received_count, transmitted_count}
-use Rattle.area_observation.specs.declared.Sighted.{Sighted}
-use Rattle.area_observation.specs.declared.Sighted.TheVariants as sighted
 use Rattle.area_observation.specs.declared.Told.{Told}
 use Rattle.host_area.specs.Words.{sighted_flag, unknown_flag, sequence_of, timestamp_of, flags_with, told_words}
 
@@ -89,17 +88,17 @@ module _ (old c f u : ℕ) (hc : c ≤ 1) (hf : f ≤ 1) (hu : u ≤ 1) where
     keeps_y (old % 4) (old / 16 % 8) (old / 256) c f u under_four under_eight hc hf hu,
   )
 
-counters-small : (c : Counters) → counters_flag c ≤ 1
-counters-small counters.Absent = omega arith
-counters-small (counters.Point p) = omega arith
+counters-small : (c : Option CounterPoint) → counters_flag c ≤ 1
+counters-small None = omega arith
+counters-small (Some p) = omega arith
 
-sighted_small : (s : Sighted) → sighted_flag s ≤ 1
-sighted_small sighted.Absent = omega arith
-sighted_small (sighted.FollowUp f) = omega arith
+sighted_small : (s : Option Sighting) → sighted_flag s ≤ 1
+sighted_small None = omega arith
+sighted_small (Some f) = omega arith
 
-unknown-small : (s : Sighted) → unknown_flag s ≤ 1
-unknown-small sighted.Absent = omega arith
-unknown-small (sighted.FollowUp f) = by f.unknown
+unknown-small : (s : Option Sighting) → unknown_flag s ≤ 1
+unknown-small None = omega arith
+unknown-small (Some f) = by f.unknown
   where
     by : (b : Bool) → flag_word b ≤ 1
     by true = omega arith
@@ -119,9 +118,9 @@ module _ (t : Told) (a0 a1 a2 a3 a4 a5 a6 a7 a8 a9 a10 a11 a12 a13 a14 a15 a16 a
       (bit-counters a21 (counters_flag t.counters) (sighted_flag t.follow) (unknown_flag t.follow) (counters-small t.counters) (sighted_small t.follow) (unknown-small t.follow))
       ∙ same t.counters
     where
-      same : (c : Counters) → counters_by (eqb (counters_flag c) 1) (sender_count c) (received_count c) (transmitted_count c) ≡ c
-      same counters.Absent = refl
-      same (counters.Point p) = refl
+      same : (c : Option CounterPoint) → counters_by (eqb (counters_flag c) 1) (sender_count c) (received_count c) (transmitted_count c) ≡ c
+      same None = refl
+      same (Some p) = refl
 
   -- so are the follow-up's flag, sequence, timestamp and whether its mode is unknown
   pub follow-told : timestamp_of t.follow < 2 ^ 64

@@ -1,31 +1,30 @@
 -- What is told of an area, in the words of an observation (`host_observation/specs/Observation.antt`). Assumes nothing.
-use Rattle.std.specs.Prelude.{List, ℕ, ◌+◌, ◌*◌, ◌/◌, ◌%◌, set}
+use Rattle.area_observation.specs.declared.Sighting.{Sighting}
+use Rattle.std.specs.Prelude.{List, ℕ, ◌+◌, ◌*◌, ◌/◌, ◌%◌, set, Option, Some, None}
 use Rattle.host_numbers.specs.Numbers.{lower, upper, flag_word}
 use Rattle.host_observation.specs.Observation.{word}
 use Rattle.record_parts.specs.Parts.{counters_flag, sender_count, received_count, transmitted_count}
-use Rattle.area_observation.specs.declared.Sighted.{Sighted}
-use Rattle.area_observation.specs.declared.Sighted.TheVariants as sighted
 use Rattle.area_observation.specs.declared.Told.{Told}
 
 -- 1 where there is a follow-up
-abbrev pub sighted_flag : Sighted → ℕ
-sighted_flag sighted.Absent = 0
-sighted_flag (sighted.FollowUp f) = 1
+abbrev pub sighted_flag : Option Sighting → ℕ
+sighted_flag None = 0
+sighted_flag (Some f) = 1
 
 -- 1 where there is one and its mode is unknown
-abbrev pub unknown_flag : Sighted → ℕ
-unknown_flag sighted.Absent = 0
-unknown_flag (sighted.FollowUp f) = flag_word f.unknown
+abbrev pub unknown_flag : Option Sighting → ℕ
+unknown_flag None = 0
+unknown_flag (Some f) = flag_word f.unknown
 
 -- its sequence, 0 where there is none
-abbrev pub sequence_of : Sighted → ℕ
-sequence_of sighted.Absent = 0
-sequence_of (sighted.FollowUp f) = f.sequence
+abbrev pub sequence_of : Option Sighting → ℕ
+sequence_of None = 0
+sequence_of (Some f) = f.sequence
 
 -- its timestamp, 0 where there is none
-abbrev pub timestamp_of : Sighted → ℕ
-timestamp_of sighted.Absent = 0
-timestamp_of (sighted.FollowUp f) = f.timestamp
+abbrev pub timestamp_of : Option Sighting → ℕ
+timestamp_of None = 0
+timestamp_of (Some f) = f.timestamp
 
 -- a word of flags with 4 for the counters, 8 for the follow-up and 128 for its unknown mode; the other bits stay
 abbrev pub flags_with : (old counters follow unknown : ℕ) → ℕ

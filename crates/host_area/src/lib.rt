@@ -1,28 +1,28 @@
 // The host's calls for the extension area of a packet (RFC 8972, section 4; crates area_items, area_read, area_fields, area_observation and
 // area_write), over lent bytes. An item is one word, as ambrulicciu_bit_observation takes it: its header's four bytes as they stand in the
 // area, then 32 bits of where its value begins.
+#![tactic(auto)]
+
 ghost use Rattle.std.specs.Prelude.{◌≡◌, ◌≤◌};
 ghost use Rattle.host_numbers.specs.Numbers.{lower, upper, flag_word};
 ghost use Rattle.record_parts.specs.Parts.{counters_flag};
-ghost use Rattle.area_fields.specs.Fields.{counters_table, follow_up_table, wrote, wrote_fields};
+ghost use Rattle.area_fields.specs.Fields.{counters_table, follow_up_table};
 ghost use Rattle.host_area.specs.Words.{sighted_flag, unknown_flag, sequence_of, timestamp_of, flags_with, told_words};
-ghost use Rattle.host_area.specs.Calls.{room_left, read_to, write_to, words_left, counters_to, follow_up_to, observation_to, point_from, item_from};
+ghost use Rattle.host_area.specs.Calls.{room_left, read_to, write_to, words_left, counters_to, follow_up_to, observation_to, number_of_answer, bytes_left, fields_to, point_from, item_from};
 
-use area_fields::{CountersRead, FollowUpItem, FollowUpRead};
-use area_observation::{Sighted, Telling, Told};
-use area_read::Checked;
-use area_write::Written;
-use call_types::{CounterPoint, Counters, ReflectorRx, ReflectorTx, SenderTx};
+use area_fields::FollowUpItem;
+use area_observation::{Sighting, Told};
+use call_types::{CounterPoint, ReflectorRx, ReflectorTx, SenderTx};
+use limits::Refusal;
 
 // The items of an area, as many as the room has place for; `count` has how many there are.
 #[unsafe(no_mangle)]
 pub extern "C" fn ambrulicciu_area_read(bytes: &[u8], items: &mut [u64], count: &mut [u64; 1]) -> u8
     ensures { room_left result items.new count.new ≡ read_to bytes.now items.old count.old }
 {
-    let answer = area_read::read(bytes, items);
-    match answer {
-        Checked::Refused(number) => number,
-        Checked::Items(found) => {
+    match area_read::read(bytes, items) {
+        Err(refusal) => u8::from(refusal),
+        Ok(found) => {
             count[0] = found as u64;
             0
         }
@@ -39,10 +39,9 @@ pub extern "C" fn ambrulicciu_area_write(
 ) -> u8
     ensures { room_left result bytes.new length.new ≡ write_to items.now values.now bytes.old length.old }
 {
-    let answer = area_write::write(items, values, bytes);
-    match answer {
-        Written::Refused(number) => number,
-        Written::Bytes(count) => {
+    match area_write::write(items, values, bytes) {
+        Err(refusal) => u8::from(refusal),
+        Ok(count) => {
             length[0] = count as u64;
             0
         }
@@ -55,10 +54,9 @@ pub extern "C" fn ambrulicciu_area_write(
 pub extern "C" fn ambrulicciu_counters_read(value: &[u8], counters: &mut [u32; 3]) -> u8
     ensures { words_left result counters.new ≡ counters_to value.now counters.old }
 {
-    let answer = area_fields::read_counters(value);
-    match answer {
-        CountersRead::WrongLength => request_limits::WRONG_LENGTH,
-        CountersRead::Read(point) => {
+    match area_fields::read_counters(value) {
+        Err(refusal) => u8::from(refusal),
+        Ok(point) => {
             counters[0] = point.sender.0;
             counters[1] = point.received.0;
             counters[2] = point.transmitted.0;
@@ -73,15 +71,24 @@ pub extern "C" fn ambrulicciu_counters_read(value: &[u8], counters: &mut [u32; 3
 pub extern "C" fn ambrulicciu_follow_up_read(value: &[u8], follow: &mut [u64; 3]) -> u8
     ensures { words_left result follow.new ≡ follow_up_to value.now follow.old }
 {
-    let answer = area_fields::read_follow_up(value);
-    match answer {
-        FollowUpRead::WrongLength => request_limits::WRONG_LENGTH,
-        FollowUpRead::Read(item) => {
+    match area_fields::read_follow_up(value) {
+        Err(refusal) => u8::from(refusal),
+        Ok(item) => {
             follow[0] = item.sequence as u64;
             follow[1] = item.timestamp;
             follow[2] = item.mode as u64;
             0
         }
+    }
+}
+
+// The number of an answer with nothing else to it.
+fn number_of(answer: Result<(), Refusal>) -> u8
+    ensures { result ≡ number_of_answer answer }
+{
+    match answer {
+        Err(refusal) => u8::from(refusal),
+        Ok(()) => 0,
     }
 }
 
@@ -93,14 +100,14 @@ pub extern "C" fn ambrulicciu_counters_write(
     received: u32,
     transmitted: u32,
 ) -> u8
-    ensures { wrote result bytes.new ≡ wrote_fields 12 (counters_table (point_from sender received transmitted)) bytes.old }
+    ensures { bytes_left result bytes.new ≡ fields_to 12 (counters_table (point_from sender received transmitted)) bytes.old }
 {
     let point = CounterPoint {
         sender: SenderTx(sender),
         received: ReflectorRx(received),
         transmitted: ReflectorTx(transmitted),
     };
-    area_fields::write_counters(bytes, point)
+    number_of(area_fields::write_counters(bytes, point))
 }
 
 // The value of an item of type 7, at the start of the bytes.
@@ -111,31 +118,31 @@ pub extern "C" fn ambrulicciu_follow_up_write(
     timestamp: u64,
     mode: u8,
 ) -> u8
-    ensures { wrote result bytes.new ≡ wrote_fields 16 (follow_up_table (item_from sequence timestamp mode)) bytes.old }
+    ensures { bytes_left result bytes.new ≡ fields_to 16 (follow_up_table (item_from sequence timestamp mode)) bytes.old }
 {
     let item = FollowUpItem {
-        sequence: sequence,
-        timestamp: timestamp,
-        mode: mode,
+        sequence,
+        timestamp,
+        mode,
     };
-    area_fields::write_follow_up(bytes, item)
+    number_of(area_fields::write_follow_up(bytes, item))
 }
 
-fn counters_flag(counters: Counters) -> u32
+fn counters_flag(counters: Option<CounterPoint>) -> u32
     ensures { (result ≡ counters_flag counters) × (result ≤ 1) }
 {
     match counters {
-        Counters::Absent => 0,
-        Counters::Point(point) => 1,
+        None => 0,
+        Some(point) => 1,
     }
 }
 
-fn sighted_flag(follow: Sighted) -> u32
+fn sighted_flag(follow: Option<Sighting>) -> u32
     ensures { (result ≡ sighted_flag follow) × (result ≤ 1) }
 {
     match follow {
-        Sighted::Absent => 0,
-        Sighted::FollowUp(item) => 1,
+        None => 0,
+        Some(item) => 1,
     }
 }
 
@@ -145,30 +152,30 @@ fn flag_word(set: bool) -> u32
     if set { 1 } else { 0 }
 }
 
-fn unknown_flag(follow: Sighted) -> u32
+fn unknown_flag(follow: Option<Sighting>) -> u32
     ensures { (result ≡ unknown_flag follow) × (result ≤ 1) }
 {
     match follow {
-        Sighted::Absent => 0,
-        Sighted::FollowUp(item) => flag_word(item.unknown),
+        None => 0,
+        Some(item) => flag_word(item.unknown),
     }
 }
 
-fn sequence_of(follow: Sighted) -> u32
+fn sequence_of(follow: Option<Sighting>) -> u32
     ensures { result ≡ sequence_of follow }
 {
     match follow {
-        Sighted::Absent => 0,
-        Sighted::FollowUp(item) => item.sequence,
+        None => 0,
+        Some(item) => item.sequence,
     }
 }
 
-fn timestamp_of(follow: Sighted) -> u64
+fn timestamp_of(follow: Option<Sighting>) -> u64
     ensures { result ≡ timestamp_of follow }
 {
     match follow {
-        Sighted::Absent => 0,
-        Sighted::FollowUp(item) => item.timestamp,
+        None => 0,
+        Some(item) => item.timestamp,
     }
 }
 
@@ -206,10 +213,9 @@ fn tell(told: Told, observation: &mut [u32; 24])
 pub extern "C" fn ambrulicciu_area_observation(bytes: &[u8], observation: &mut [u32; 24]) -> u8
     ensures { words_left result observation.new ≡ observation_to bytes.now observation.old }
 {
-    let answer = area_observation::told_of(bytes);
-    match answer {
-        Telling::Refused(number) => number,
-        Telling::Told(told) => {
+    match area_observation::told_of(bytes) {
+        Err(refusal) => u8::from(refusal),
+        Ok(told) => {
             tell(told, observation);
             0
         }

@@ -3,13 +3,11 @@
 // and that.
 ghost use Rattle.std.specs.Prelude.{◌≡◌};
 ghost use Rattle.std.proofs.lemmas.List.Edits.{sets};
-ghost use Rattle.host_bits.specs.Words.{burst_from, burst_known, burst_word, ratio_known, ratio_word, field_known, field_word, summary_at, summary_words};
-ghost use Rattle.host_bits.specs.Calls.{parse_left, parse_to, count_left, count_to, observe_to, fresh_to, record_to, show_to};
+ghost use Rattle.host_bits.specs.Words.{burst_from, known, ratio_word, summary_at, summary_words};
+ghost use Rattle.host_bits.specs.Calls.{parse_left, parse_to, count_left, count_to, observed_words, observe_to, fresh_to, record_to, show_to};
 
-use bit_errors::Comparison;
-use bit_observation::{Field, Observed};
-use bit_pattern::Parsing;
-use bit_summary::{Burst, DirectionSummary, Ratio, Recording, Sample};
+use bit_observation::Observed;
+use bit_summary::{DirectionSummary, Sample};
 
 // The bytes of a pattern's text, at the start of the room; `length` has how many.
 #[unsafe(no_mangle)]
@@ -20,11 +18,9 @@ pub extern "C" fn ambrulicciu_parse_pattern(
 ) -> u8
     ensures { parse_left result room.new length.new ≡ parse_to text.now room.old length.old }
 {
-    let answer = bit_pattern::parse_pattern(text, room);
-    match answer {
-        Parsing::BadPattern => request_limits::BAD_PATTERN,
-        Parsing::ShortRoom => request_limits::SHORT_ROOM,
-        Parsing::Parsed(count) => {
+    match bit_pattern::parse_pattern(text, room) {
+        Err(refusal) => u8::from(refusal),
+        Ok(count) => {
             length[0] = count as u64;
             0
         }
@@ -41,10 +37,9 @@ pub extern "C" fn ambrulicciu_bit_errors(
 ) -> u8
     ensures { count_left result counts.new ≡ count_to padding.now pattern.now counts.old }
 {
-    let answer = bit_errors::xor_popcount_and_max_burst(padding, pattern);
-    match answer {
-        Comparison::Refused => request_limits::TOO_MUCH_PADDING,
-        Comparison::Counted(found) => {
+    match bit_errors::xor_popcount_and_max_burst(padding, pattern) {
+        Err(refusal) => u8::from(refusal),
+        Ok(found) => {
             counts[0] = found.errors as u64;
             counts[1] = found.longest as u64;
             0
@@ -52,66 +47,50 @@ pub extern "C" fn ambrulicciu_bit_errors(
     }
 }
 
-fn burst_from(known: u64, bits: u32) -> Burst
+fn burst_from(known: u64, bits: u32) -> Option<u32>
     ensures { result ≡ burst_from known bits }
 {
     if known == 0 {
-        return Burst::Absent;
+        return None;
     }
-    Burst::Bits(bits)
+    Some(bits)
 }
 
-fn burst_known(burst: Burst) -> u64
-    ensures { result ≡ burst_known burst }
+// Whether a value is there: 1, or 0 where it is not.
+fn known<T: Copy>(value: Option<T>) -> u64
+    ensures { result ≡ known value }
 {
-    match burst {
-        Burst::Absent => 0,
-        Burst::Bits(bits) => 1,
+    match value {
+        None => 0,
+        Some(_) => 1,
     }
 }
 
-fn burst_word(burst: Burst) -> u64
-    ensures { result ≡ burst_word burst }
-{
-    match burst {
-        Burst::Absent => 0,
-        Burst::Bits(bits) => bits as u64,
-    }
-}
-
-fn ratio_known(ratio: Ratio) -> u64
-    ensures { result ≡ ratio_known ratio }
-{
-    match ratio {
-        Ratio::Absent => 0,
-        Ratio::Known(value) => 1,
-    }
-}
-
-fn ratio_word(ratio: Ratio) -> u64
+fn ratio_word(ratio: Option<f64>) -> u64
     ensures { result ≡ ratio_word ratio }
 {
     match ratio {
-        Ratio::Absent => 0,
-        Ratio::Known(value) => host_numbers::bits_of(value),
+        None => 0,
+        Some(value) => host_numbers::bits_of(value),
     }
 }
 
-fn field_known(field: Field) -> u64
-    ensures { result ≡ field_known field }
+// What was observed, in the answer's words.
+fn tell(observed: Observed, answer: &mut [u64; 7])
+    ensures { answer.new ≡ observed_words observed answer.old }
 {
-    match field {
-        Field::Absent => 0,
-        Field::Known(value) => 1,
-    }
-}
-
-fn field_word(field: Field) -> u64
-    ensures { result ≡ field_word field }
-{
-    match field {
-        Field::Absent => 0,
-        Field::Known(value) => value,
+    match observed {
+        Observed::Unusable => answer[0] = 0,
+        Observed::Unsupported => answer[0] = 1,
+        Observed::Sampled(sample) => {
+            answer[0] = 2;
+            answer[1] = sample.bits;
+            answer[2] = sample.forward;
+            answer[3] = known(sample.burst);
+            answer[4] = sample.burst.unwrap_or(0);
+            answer[5] = sample.reverse as u64;
+            answer[6] = sample.longest as u64;
+        }
     }
 }
 
@@ -129,33 +108,10 @@ pub extern "C" fn ambrulicciu_bit_observation(
 ) -> u8
     ensures { count_left result answer.new ≡ observe_to items.now bytes.now pattern.now size intact wanted answer.old }
 {
-    let observed = bit_observation::observation(
-        items,
-        bytes,
-        pattern,
-        size,
-        intact != 0,
-        wanted != 0,
-    );
-    match observed {
-        Observed::Refused => request_limits::TOO_MUCH_PADDING,
-        Observed::Unusable => {
-            answer[0] = 0;
-            0
-        }
-        Observed::Unsupported => {
-            answer[0] = 1;
-            0
-        }
-        Observed::Sampled(sample) => {
-            let burst = sample.burst;
-            answer[0] = 2;
-            answer[1] = sample.bits;
-            answer[2] = sample.forward;
-            answer[3] = field_known(burst);
-            answer[4] = field_word(burst);
-            answer[5] = sample.reverse as u64;
-            answer[6] = sample.longest as u64;
+    match bit_observation::observation(items, bytes, pattern, size, intact != 0, wanted != 0) {
+        Err(refusal) => u8::from(refusal),
+        Ok(observed) => {
+            tell(observed, answer);
             0
         }
     }
@@ -186,8 +142,8 @@ fn store(words: &mut [u64; 8], summary: DirectionSummary)
     words[3] = summary.errors;
     words[4] = summary.bursts;
     words[5] = summary.sum;
-    words[6] = burst_known(longest);
-    words[7] = burst_word(longest);
+    words[6] = known(longest);
+    words[7] = longest.unwrap_or(0) as u64;
 }
 
 // No packet yet.
@@ -213,15 +169,13 @@ pub extern "C" fn ambrulicciu_bit_summary_record(
     let state = load(summary);
     let run = burst_from(known as u64, burst);
     let sample = Sample {
-        bits: bits,
-        errors: errors,
+        bits,
+        errors,
         burst: run,
     };
-    let answer = state.record(sample);
-    match answer {
-        Recording::TooManyBits => request_limits::TOO_MUCH_PADDING,
-        Recording::Full => limits::COUNTS_FULL,
-        Recording::Counted(next) => {
+    match state.record(sample) {
+        Err(refusal) => u8::from(refusal),
+        Ok(next) => {
             store(summary, next);
             0
         }
@@ -249,15 +203,15 @@ pub extern "C" fn ambrulicciu_bit_summary_show(summary: &[u64; 8], shown: &mut [
     shown[2] = state.bits;
     shown[3] = state.errors;
     shown[4] = state.bursts;
-    shown[5] = burst_known(longest);
-    shown[6] = burst_word(longest);
-    shown[7] = ratio_known(ratio);
+    shown[5] = known(longest);
+    shown[6] = longest.unwrap_or(0) as u64;
+    shown[7] = known(ratio);
     shown[8] = ratio_word(ratio);
-    shown[9] = ratio_known(errors);
+    shown[9] = known(errors);
     shown[10] = ratio_word(errors);
-    shown[11] = ratio_known(packets);
+    shown[11] = known(packets);
     shown[12] = ratio_word(packets);
-    shown[13] = ratio_known(burst);
+    shown[13] = known(burst);
     shown[14] = ratio_word(burst);
     0
 }

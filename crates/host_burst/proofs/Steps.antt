@@ -1,4 +1,5 @@
 -- What the proofs of the functions cite. Assumes nothing.
+use Rattle.std.specs.Prelude.{Some, None}
 use mathlib.Core.Path.{◌≡◌, refl, sym, ap, ◌∙◌}
 use mathlib.Core.Bool.{Bool, ◌&&◌, cond}
 use mathlib.Core.List.{List, [], ◌∷◌}
@@ -6,8 +7,6 @@ use native.Mathlib.Omega.{arith}
 use Prim.Native.Nat.{ℕ, zero, suc, ◌≤◌}
 use lib.Dec.{eqb, leb}
 use lib.ListN.{length, get_or, set}
-use Rattle.call_types.specs.declared.Pending.TheVariants as pending
-use Rattle.call_types.specs.declared.Ordinal.TheVariants as ordinal
 use Rattle.ledger_steps.specs.declared.Accepted.{Accepted}
 use Rattle.ledger_steps.specs.declared.Accepted.TheVariants.{Duplicate, Unknown, Unique}
 use Rattle.host_calls.specs.Calls as host_calls
@@ -22,7 +21,7 @@ use Rattle.host_burst.specs.Entries.{answer_in, refused_row, row_after}
 pub same-reply : (sender reflector t3 time tag p q : ℕ) → eqb p 0 ≡ eqb q 0 → reply_of sender reflector t3 p time tag ≡ reply_of sender reflector t3 q time tag
 same-reply sender reflector t3 time tag p q e = λ i. record {
   key = record { sender = sender; reflector = reflector; t3 = t3 };
-  pending = cond (e i) pending.Absent (pending.Held (record { time = time; tag = tag }));
+  pending = cond (e i) None (Some (record { time = time; tag = tag }));
 }
 
 -- a row that is not there is not written
@@ -35,8 +34,8 @@ set_outside (x ∷ rows) (suc n) row h = ap (λ (more : List (List ℕ)). x ∷ 
 pub six : (x : Accepted) → let w = host_calls.accepted_words x in w ≡ get_or w 0 0 ∷ get_or w 1 0 ∷ get_or w 2 0 ∷ get_or w 3 0 ∷ get_or w 4 0 ∷ get_or w 5 0 ∷ []
 six Duplicate = refl
 six Unknown = refl
-six (Unique packet ordinal.Absent train) = refl
-six (Unique packet (ordinal.Number n) train) = refl
+six (Unique packet None train) = refl
+six (Unique packet (Some n) train) = refl
 
 -- the row of an entry that is refused
 pub refused_row_lem : (row : List ℕ) (n : ℕ) (words : List ℕ) → (n ≡ 0 → ⊥) → refused_row row n ≡ row_after row n words

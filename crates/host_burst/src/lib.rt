@@ -1,11 +1,14 @@
 // What the calls for a whole burst have in common, with a monitor and without: when a list is refused, and an entry and its row of the answers in a
 // host's words.
+#![tactic(auto)]
+
 ghost use Rattle.std.specs.Prelude.{◌≡◌, cond, [], eqb, get_or, set};
+ghost use Rattle.limits.specs.Numbers.{number, number_of};
 ghost use Rattle.host_burst.specs.Burst.{burst_refusal};
 ghost use Rattle.host_burst.specs.Entries.{reply_at, served_row, refused_row, row_after};
 
 use call_types::Reply;
-use limits::WRONG_ROOM;
+use limits::Refusal;
 
 // Most entries of a list (document 02, Q-2).
 pub const MOST_ENTRIES: usize = 256;
@@ -13,23 +16,21 @@ pub const MOST_ENTRIES: usize = 256;
 // ---- the list
 
 // Of a list and a room for answers of these lengths.
-pub fn refusal_of_list(entries: usize, rows: usize) -> u8
-    ensures { result ≡ burst_refusal entries rows }
+pub fn refusal_of_list(entries: usize, rows: usize) -> Option<Refusal>
+    ensures { number result ≡ burst_refusal entries rows }
 {
-    if (rows == entries) & (entries <= MOST_ENTRIES) {
-        return 0;
+    if rows == entries && entries <= MOST_ENTRIES {
+        None
+    } else {
+        Some(Refusal::WrongRoom)
     }
-    WRONG_ROOM
 }
 
 // How many entries are served: none of a list that is refused.
-pub fn served_of_list(refusal: u8, entries: usize) -> usize
-    ensures { result ≡ cond (eqb refusal 0) entries 0 }
+pub fn served_of_list(refused: Option<Refusal>, entries: usize) -> usize
+    ensures { result ≡ cond (eqb (number refused) 0) entries 0 }
 {
-    if refusal == 0 {
-        return entries;
-    }
-    0
+    if refused.is_none() { entries } else { 0 }
 }
 
 // ---- an entry
@@ -71,11 +72,11 @@ fn served_row(words: [u64; 6]) -> [u64; 7]
     ]
 }
 
-fn refused_row(row: [u64; 7], number: u8) -> [u64; 7]
-    ensures { result ≡ refused_row row number }
+fn refused_row(row: [u64; 7], refusal: Refusal) -> [u64; 7]
+    ensures { result ≡ refused_row row (number_of refusal) }
 {
     [
-        number as u64,
+        u8::from(refusal) as u64,
         row[1],
         row[2],
         row[3],
@@ -95,28 +96,20 @@ pub fn put_served(rows: &mut [[u64; 7]], i: usize, words: [u64; 6])
 }
 
 // The row of entry i, which was refused.
-pub fn put_refused(rows: &mut [[u64; 7]], i: usize, number: u8)
-    ensures { rows.new ≡ set rows.old i (refused_row (get_or rows.old i []) number) }
+pub fn put_refused(rows: &mut [[u64; 7]], i: usize, refusal: Refusal)
+    ensures { rows.new ≡ set rows.old i (refused_row (get_or rows.old i []) (number_of refusal)) }
 {
     if i < rows.len() {
-        rows[i] = refused_row(rows[i], number);
+        rows[i] = refused_row(rows[i], refusal);
     }
 }
 
-// The row of entry i after a call with this number and these words of its answer.
-pub fn put_row(rows: &mut [[u64; 7]], i: usize, number: u8, words: [u64; 6])
-    ensures { rows.new ≡ set rows.old i (row_after (get_or rows.old i []) number words) }
+// The row of entry i after a call that was refused so, or not, with these words of its answer.
+pub fn put_row(rows: &mut [[u64; 7]], i: usize, refused: Option<Refusal>, words: [u64; 6])
+    ensures { rows.new ≡ set rows.old i (row_after (get_or rows.old i []) (number refused) words) }
 {
-    if number == 0 {
-        put_served(rows, i, words);
-        return;
+    match refused {
+        None => put_served(rows, i, words),
+        Some(refusal) => put_refused(rows, i, refusal),
     }
-    put_refused(rows, i, number);
-}
-
-// The number of a list, once its entries are served.
-pub fn told(refusal: u8) -> u8
-    ensures { result ≡ refusal }
-{
-    refusal
 }

@@ -1,6 +1,8 @@
 -- What the test shows: as long as entries are left, the next one is not refused. The counts are n or more below their bounds while n entries are
 -- left; a reply raises each by one at most, leaves the rings in their rooms, and changes no other count.
 -- Assumes nothing.
+use Rattle.std.specs.Prelude.{Option}
+use Rattle.call_types.specs.declared.PendingPacket.{PendingPacket}
 use mathlib.Core.Path.{◌≡◌, refl, sym, ap, subst, ◌∙◌}
 use mathlib.Core.Bool.{Bool, true, false, not, ◌&&◌}
 use mathlib.Core.List.{List}
@@ -12,7 +14,6 @@ use borrow.Author.Tests.{ltb-true, leb-true, eqb-true, lt-ltb, le-leb}
 use Rattle.limits.specs.Limits.{capacity, most_calls, count_bound}
 use Rattle.call_types.specs.declared.ReplyKey.{ReplyKey}
 use Rattle.call_types.specs.declared.Reply.{Reply}
-use Rattle.call_types.specs.declared.Pending.{Pending}
 use Rattle.chains.specs.declared.Ring.{Ring}
 use Rattle.chains.specs.Hash.{number_hash}
 use Rattle.chains.specs.Rings.{RingFits}
@@ -268,7 +269,7 @@ keys_fit : (by_key : ReplyKey → ℕ) (by_number : ℕ → ℕ) (t : Table) (k 
 unfolding accepted_key pushed_key
 keys_fit by_key by_number t k f = push-fits capacity t.ring f
 
-ring_by : (b : Bool) (by_key : ReplyKey → ℕ) (by_number : ℕ → ℕ) (r : Rooms) (slot : ℕ) (k : ReplyKey) (p : Pending) → ltb slot capacity ≡ b → RingFits capacity r.ring → RingFits capacity (readied capacity by_key by_number r slot k p).answer.ring
+ring_by : (b : Bool) (by_key : ReplyKey → ℕ) (by_number : ℕ → ℕ) (r : Rooms) (slot : ℕ) (k : ReplyKey) (p : Option PendingPacket) → ltb slot capacity ≡ b → RingFits capacity r.ring → RingFits capacity (readied capacity by_key by_number r slot k p).answer.ring
 unfolding readied pushed
 ring_by true by_key by_number r slot k p e f = rw e f
 ring_by false by_key by_number r slot k p e f = rw e (push-fits capacity r.ring f)

@@ -51,5 +51,5 @@ pub fn lasts(state: &[u64; LEDGER_WORDS], sized: bool, count: usize) -> bool
     let answers = low_answers(state);
     let others = low_others(state);
     let low = totals & answers & others & (state[places::CALLS] <= LAST_CALLS);
-    (refused == 0) & (count <= MOST) & low
+    refused.is_none() & (count <= MOST) & low
 }

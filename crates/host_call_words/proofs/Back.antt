@@ -1,5 +1,6 @@
 -- What a host reads of an observe record it can lend to `observe` as it stands: the words say the observation that they were made from.
 -- Assumes nothing.
+use Rattle.std.specs.Prelude.{None}
 use mathlib.Core.Path.{◌≡◌, refl, ap, ◌∙◌}
 use mathlib.Core.Bool.{Bool}
 use Prim.Native.Nat.{ℕ, ◌+◌, ◌*◌, ◌/◌, ◌%◌, ◌^◌, ◌<◌}
@@ -9,7 +10,6 @@ use mir.Val.{of_z, to_z}
 use mir.ValLaws.{to_z-of_z, of_z_fits}
 use Rattle.estimate.specs.Make.{format_of}
 use Rattle.call_types.specs.declared.ReplyObservation.{ReplyObservation}
-use Rattle.call_types.specs.declared.Time.TheVariants.{Absent}
 use Rattle.record_parts.specs.Parts.{flag, time_word, follow_timestamp, observe_flags, time_by, ordinal_by, counters_by, follow_by, estimates_by}
 use Rattle.record_parts.specs.Parts.{ordinal_number, sender_count, received_count, transmitted_count, follow_sequence, sender_wire, reflector_wire}
 use Rattle.record_parts.specs.Fits.{U16, U64, ObservationFits}
@@ -34,11 +34,11 @@ small : (n : ℕ) → n < 256 → n % 256 ≡ n
 small n h = omega arith
 
 module _ (o : ReplyObservation) (h : ObservationFits o) where
-  back : FlagsBack o Absent
-  back = flags-back o Absent
+  back : FlagsBack o None
+  back = flags-back o None
 
-  set : (k : ℕ) {b : Bool} → flag k (observe_flags o Absent) ≡ b → flag k (observe_flags o Absent % 256) ≡ b
-  set k e = ap (flag k) (small (observe_flags o Absent) back.fits) ∙ e
+  set : (k : ℕ) {b : Bool} → flag k (observe_flags o None) ≡ b → flag k (observe_flags o None % 256) ≡ b
+  set k e = ap (flag k) (small (observe_flags o None) back.fits) ∙ e
 
   -- Nothing is lost, for each observation that its types hold.
   pub observation-back : observation_at (observation_words o) ≡ o

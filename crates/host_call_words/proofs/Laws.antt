@@ -1,4 +1,5 @@
 -- From what the code stores to the words of a call. Assumes nothing.
+use Rattle.std.specs.Prelude.{None}
 use mathlib.Core.Path.{◌≡◌, ap, ◌∙◌}
 use mathlib.Core.List.{List, [], ◌∷◌, ◌++◌}
 use Prim.Native.Nat.{ℕ, ◌+◌}
@@ -6,7 +7,6 @@ use lib.ListN.{get_or, set, replicate}
 use mir.Syntax.{w32, w64}
 use mir.Val.{of_z}
 use Rattle.host_numbers.specs.Numbers.{lower, upper}
-use Rattle.call_types.specs.declared.Time.TheVariants.{Absent}
 use Rattle.call_types.specs.declared.Reply.{Reply}
 use Rattle.call_types.specs.declared.ReplyObservation.{ReplyObservation}
 use Rattle.call_types.specs.declared.SentProbe.{SentProbe}
@@ -38,7 +38,7 @@ pub observation-listed : (o : ReplyObservation) (a b t k₁ k₂ r₁ r₂ a₁ 
     → a ≡ time_word o.t4 → b ≡ of_z w64 o.reference → t ≡ follow_timestamp o.follow
     → k₁ ≡ lower o.key.t3 → k₂ ≡ upper o.key.t3 → r₁ ≡ lower o.rtt → r₂ ≡ upper o.rtt → a₁ ≡ lower a → a₂ ≡ upper a → b₁ ≡ lower b → b₂ ≡ upper b → t₁ ≡ lower t → t₂ ≡ upper t
     → n ≡ ordinal_number o.ordinal → s ≡ sender_count o.counters → r ≡ received_count o.counters → u ≡ transmitted_count o.counters
-    → q ≡ follow_sequence o.follow → z ≡ of_z w32 o.offset → e ≡ wires o.quality → f ≡ observe_flags o Absent
+    → q ≡ follow_sequence o.follow → z ≡ of_z w32 o.offset → e ≡ wires o.quality → f ≡ observe_flags o None
     → k₁ ∷ k₂ ∷ r₁ ∷ r₂ ∷ a₁ ∷ a₂ ∷ b₁ ∷ b₂ ∷ 0 ∷ 0 ∷ t₁ ∷ t₂ ∷ o.key.sender ∷ o.key.reflector ∷ n ∷ s ∷ r ∷ u ∷ q ∷ z ∷ e ∷ f ∷ 0 ∷ 0 ∷ [] ≡ observation_words o
 observation-listed o a b t k₁ k₂ r₁ r₂ a₁ a₂ b₁ b₂ t₁ t₂ n s r u q z e f ea eb et ek₁ ek₂ er₁ er₂ ea₁ ea₂ eb₁ eb₂ et₁ et₂ en es er eu eq ez ee ef =
     λ i. ek₁ i ∷ ek₂ i ∷ er₁ i ∷ er₂ i ∷ (ea₁ ∙ ap lower ea) i ∷ (ea₂ ∙ ap upper ea) i ∷ (eb₁ ∙ ap lower eb) i ∷ (eb₂ ∙ ap upper eb) i ∷ 0 ∷ 0 ∷ (et₁ ∙ ap lower et) i ∷ (et₂ ∙ ap upper et) i

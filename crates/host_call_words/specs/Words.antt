@@ -1,14 +1,13 @@
 -- A call in the 44 words in which a host reads it: 0 its kind, 1 and 2 to 7 a sent, 8 to 16 an accept, 18 to 41 an observation, 42 and 43 the time of an
 -- advance; those of the other kinds are 0. A C struct names them; a number of 8 bytes is two words, low half first. Assumes nothing.
-use Rattle.std.specs.Prelude.{List, [], ◌∷◌, ◌++◌, ℕ, ◌+◌, ◌*◌, replicate}
+use Rattle.estimate.specs.declared.ErrorEstimate.{ErrorEstimate}
+use Rattle.std.specs.Prelude.{List, [], ◌∷◌, ◌++◌, ℕ, ◌+◌, ◌*◌, replicate, Option, None}
 use Rattle.std.specs.Int.{w32, w64}
 use Rattle.std.proofs.Common.{of_z}
 use Rattle.host_numbers.specs.Numbers.{lower, upper}
-use Rattle.estimate.specs.declared.Estimates.{Estimates}
 use Rattle.call_types.specs.declared.Reply.{Reply}
 use Rattle.call_types.specs.declared.ReplyObservation.{ReplyObservation}
 use Rattle.call_types.specs.declared.SentProbe.{SentProbe}
-use Rattle.call_types.specs.declared.Time.TheVariants.{Absent}
 use Rattle.call_types.specs.declared.Call.{Call}
 use Rattle.call_types.specs.declared.Call.TheVariants as call
 use Rattle.record_parts.specs.Parts.{observe_flags, pending_flag, pending_time, pending_tag, time_word, ordinal_number}
@@ -19,7 +18,7 @@ abbrev pub long : ℕ → List ℕ → List ℕ
 long n rest = lower n ∷ upper n ∷ rest
 
 -- both estimates as on the wire: the sender's in the low 16 bits
-abbrev pub wires : Estimates → ℕ
+abbrev pub wires : Option (ErrorEstimate × ErrorEstimate) → ℕ
 wires q = sender_wire q + 65536 * reflector_wire q
 
 -- kind 0: train, time, tag, sequence, ordinal
@@ -40,7 +39,7 @@ observation_words o =
     (0 ∷ 0 ∷ long (follow_timestamp o.follow)
     (o.key.sender ∷ o.key.reflector ∷ ordinal_number o.ordinal
     ∷ sender_count o.counters ∷ received_count o.counters ∷ transmitted_count o.counters
-    ∷ follow_sequence o.follow ∷ of_z w32 o.offset ∷ wires o.quality ∷ observe_flags o Absent ∷ 0 ∷ 0 ∷ [])))))
+    ∷ follow_sequence o.follow ∷ of_z w32 o.offset ∷ wires o.quality ∷ observe_flags o None ∷ 0 ∷ 0 ∷ [])))))
 
 -- kind 2
 abbrev pub observe_words : ReplyObservation → List ℕ

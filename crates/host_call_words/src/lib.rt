@@ -5,8 +5,8 @@ ghost use Rattle.std.proofs.Common.{of_z};
 ghost use Rattle.host_call_words.specs.Words.{wires, sent_words, accept_words, observation_words, observe_words, advance_words, idle_words, call_words};
 ghost use Rattle.host_call_words.specs.Stores.{long_at};
 
-use call_types::{Call, Reply, ReplyObservation, SentProbe, Time};
-use estimate::Estimates;
+use call_types::{Call, Reply, ReplyObservation, SentProbe};
+use estimate::ErrorEstimate;
 
 fn put_long(words: &mut [u32; 44], at: usize, n: u64)
     requires { at < 43 }
@@ -41,24 +41,24 @@ fn accept_words(reply: Reply) -> [u32; 44]
     put_long(&mut words, 12, record_parts::pending_tag(pending));
     words[14] = key.sender;
     words[15] = key.reflector;
-    words[16] = record_parts::pending_flag(pending) as u32;
+    words[16] = record_parts::flag_of(pending) as u32;
     words
 }
 
 fn reference_word(o: ReplyObservation) -> u64
     ensures { result ≡ of_z w64 o.reference }
 {
-    signed_words::word64(o.reference)
+    o.reference.cast_unsigned()
 }
 
 fn offset_word(o: ReplyObservation) -> u32
     ensures { result ≡ of_z w32 o.offset }
 {
-    signed_words::word32(o.offset)
+    o.offset.cast_unsigned()
 }
 
 // The sender's estimate in the low 16 bits, the reflector's in the high.
-fn both_wires(quality: Estimates) -> u32
+fn both_wires(quality: Option<(ErrorEstimate, ErrorEstimate)>) -> u32
     ensures { result ≡ wires quality }
 {
     let sender = record_parts::sender_wire(quality);
@@ -101,7 +101,7 @@ pub fn observation_words(o: ReplyObservation) -> [u32; 24]
         record_parts::follow_sequence(follow),
         offset_word(o),
         both_wires(quality),
-        record_parts::observe_flags(o, Time::Absent) as u32,
+        record_parts::observe_flags(o, None) as u32,
         0,
         0,
     ]

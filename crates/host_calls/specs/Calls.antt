@@ -1,9 +1,6 @@
 -- What a host hands over as numbers, and the words that tell it what an accepted reply is. Assumes nothing.
-use Rattle.std.specs.Prelude.{cond, List, [], ◌∷◌, ℕ, eqb}
+use Rattle.std.specs.Prelude.{cond, List, [], ◌∷◌, ℕ, eqb, Option, Some, None}
 use Rattle.call_types.specs.declared.PendingPacket.{PendingPacket}
-use Rattle.call_types.specs.declared.Ordinal.{Ordinal}
-use Rattle.call_types.specs.declared.Ordinal.TheVariants as ordinal
-use Rattle.call_types.specs.declared.Pending.TheVariants as pending
 use Rattle.call_types.specs.declared.Reply.{Reply}
 use Rattle.call_types.specs.declared.SentProbe.{SentProbe}
 use Rattle.ledger_steps.specs.declared.Accepted.{Accepted}
@@ -17,13 +14,13 @@ sent_probe_of sequence ordinal train time tag = record { sequence = sequence; or
 abbrev pub reply_of : (sender reflector t3 held time tag : ℕ) → Reply
 reply_of sender reflector t3 held time tag = record {
   key = record { sender = sender; reflector = reflector; t3 = t3 };
-  pending = cond (eqb held 0) pending.Absent (pending.Held (record { time = time; tag = tag }));
+  pending = cond (eqb held 0) None (Some (record { time = time; tag = tag }));
 }
 
 -- the words of a unique reply: its class, the packet's time and tag, whether there is an ordinal, the ordinal, the train
-abbrev pub ordinal_words : PendingPacket → Ordinal → ℕ → List ℕ
-ordinal_words packet ordinal.Absent train = 2 ∷ packet.time ∷ packet.tag ∷ 0 ∷ 0 ∷ train ∷ []
-ordinal_words packet (ordinal.Number n) train = 2 ∷ packet.time ∷ packet.tag ∷ 1 ∷ n ∷ train ∷ []
+abbrev pub ordinal_words : PendingPacket → Option ℕ → ℕ → List ℕ
+ordinal_words packet None train = 2 ∷ packet.time ∷ packet.tag ∷ 0 ∷ 0 ∷ train ∷ []
+ordinal_words packet (Some n) train = 2 ∷ packet.time ∷ packet.tag ∷ 1 ∷ n ∷ train ∷ []
 
 -- class 0 unknown, 1 duplicate, 2 unique; of the first two all else is 0, the train too
 abbrev pub accepted_words : Accepted → List ℕ

@@ -2,7 +2,7 @@
 ghost use Rattle.std.specs.Prelude.{◌≡◌};
 ghost use Rattle.host_calls.specs.Calls.{sent_probe_of, reply_of, accepted_words, ordinal_words};
 
-use call_types::{Ordinal, Pending, PendingPacket, Reply, ReplyKey, SentProbe};
+use call_types::{PendingPacket, Reply, ReplyKey, SentProbe};
 use ledger_steps::Accepted;
 
 pub fn probe_of(sequence: u32, ordinal: u32, train: u32, time: u64, tag: u64) -> SentProbe
@@ -26,23 +26,20 @@ pub fn reply_of(sender: u32, reflector: u32, t3: u64, pending: u32, time: u64, t
         t3,
     };
     if pending == 0 {
-        return Reply {
-            key,
-            pending: Pending::Absent,
-        };
+        return Reply { key, pending: None };
     }
     Reply {
         key,
-        pending: Pending::Held(PendingPacket { time, tag }),
+        pending: Some(PendingPacket { time, tag }),
     }
 }
 
-fn ordinal_words(packet: PendingPacket, ordinal: Ordinal, train: u32) -> [u64; 6]
+fn ordinal_words(packet: PendingPacket, ordinal: Option<u32>, train: u32) -> [u64; 6]
     ensures { result ≡ ordinal_words packet ordinal train }
 {
     match ordinal {
-        Ordinal::Absent => [2, packet.time, packet.tag, 0, 0, train as u64],
-        Ordinal::Number(number) => [2, packet.time, packet.tag, 1, number as u64, train as u64],
+        None => [2, packet.time, packet.tag, 0, 0, train as u64],
+        Some(number) => [2, packet.time, packet.tag, 1, number as u64, train as u64],
     }
 }
 

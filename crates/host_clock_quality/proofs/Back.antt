@@ -1,4 +1,5 @@
 -- What a call leaves in the words is what the next call reads, and a refusal changes nothing. Assumes nothing.
+use Rattle.std.specs.Prelude.{Some, None, Err}
 use mathlib.Core.Path.{◌≡◌, refl, ap, ◌∙◌}
 use mathlib.Core.Bool.{Bool, true, false, cond}
 use mathlib.Core.List.{List}
@@ -10,19 +11,14 @@ use lib.Ieee.Fits.{round-fits, cond-fits, add-fits}
 use lib.ListN.{length, get_or}
 use lib.Seq.{sets}
 use Rattle.limits.specs.Refusals.{counts_full}
+use Rattle.limits.specs.declared.Refusal.TheVariants as refusal
 use Rattle.host_numbers.specs.Numbers.{is_set}
 use Rattle.estimate.specs.declared.ErrorEstimate.{ErrorEstimate}
 use Rattle.estimate.specs.declared.Reading.{Reading}
 use Rattle.estimate.specs.declared.Reading.TheVariants.{Known, Invalid}
-use Rattle.estimate.specs.declared.Estimates.{Estimates}
-use Rattle.estimate.specs.declared.Estimates.TheVariants as estimates
 use Rattle.estimate.specs.Wire.{estimate_of, wire_of}
 use Rattle.estimate.specs.Error.{known_if, error_known, ms_of, reading_of}
-use Rattle.clock_quality.specs.declared.LargestError.{LargestError}
-use Rattle.clock_quality.specs.declared.LargestError.TheVariants as largest
-use Rattle.clock_quality.specs.declared.LastEstimate.TheVariants as last
 use Rattle.clock_quality.specs.declared.ClockQuality.{ClockQuality}
-use Rattle.clock_quality.specs.declared.Recorded.{Recorded}
 use Rattle.clock_quality.specs.Quality as quality
 use Rattle.clock_quality.specs.Quality.{clock_estimate_of, fresh, recorded_of}
 use Rattle.clock_quality.specs.Bounds.{counts_fit, answer, state_after}
@@ -37,7 +33,7 @@ use Rattle.host_clock_quality.specs.Calls.{left, estimates_from, fresh_to, recor
 read_kept : (known bits : ℕ) → LargestKept (largest_of known bits)
 read_kept known bits = by (is_set known)
   where
-    by : (b : Bool) → LargestKept (cond b (largest.Ms (of_bits binary64 bits)) largest.Absent)
+    by : (b : Bool) → LargestKept (cond b (Some (of_bits binary64 bits)) None)
     by true = largest_again (of_bits binary64 bits) (of_bits-fits binary64 bits)
     by false = refl
 
@@ -45,7 +41,7 @@ read_kept known bits = by (is_set known)
 raised-kept : (known bits : ℕ) (x y : Reading) → LargestKept (quality.largest_of (largest_of known bits) x y)
 raised-kept known bits (Known x) (Known y) = by (is_set known)
   where
-    by : (b : Bool) → LargestKept (quality.larger_of (cond b (largest.Ms (of_bits binary64 bits)) largest.Absent) (add binary64 x y))
+    by : (b : Bool) → LargestKept (quality.larger_of (cond b (Some (of_bits binary64 bits)) None) (add binary64 x y))
     by true = largest_again _ (cond-fits binary64 (le (add binary64 x y) (of_bits binary64 bits)) _ _ (of_bits-fits binary64 bits) (add-fits binary64 x y))
     by false = largest_again _ (add-fits binary64 x y)
 raised-kept known bits (Known x) (Invalid w) = read_kept known bits
@@ -59,7 +55,7 @@ reading-kept e h = by (error_known e)
     by false = wire_kept (wire_of e) (wire_below e h)
 
 -- an estimate that 16 bits say
-said-kept : (w : ℕ) → LastKept (last.Seen (clock_estimate_of (estimate_of w)))
+said-kept : (w : ℕ) → LastKept (Some (clock_estimate_of (estimate_of w)))
 said-kept w = last_again (clock_estimate_of (estimate_of w)) (six (w / 256)) (eight w) (reading-kept (estimate_of w) (eight w))
   where
     six : (n : ℕ) → n % 64 < 256
@@ -73,7 +69,7 @@ recorded-kept : (ws : List ℕ) (estimated sender reflector : ℕ) → QualityKe
 unfolding quality_at
 recorded-kept ws estimated sender reflector = by (is_set estimated)
   where
-    by : (b : Bool) → QualityKept (recorded_of (quality_at 0 ws) (cond b (estimates.Pair (estimate_of sender) (estimate_of reflector)) estimates.Absent))
+    by : (b : Bool) → QualityKept (recorded_of (quality_at 0 ws) (cond b (Some (estimate_of sender, estimate_of reflector)) None))
     by true = quality_again _ (raised-kept (get_or ws 8 0) (get_or ws 9 0) (reading_of (estimate_of sender)) (reading_of (estimate_of reflector))) (said-kept sender) (said-kept reflector)
     by false = quality_again _ (read_kept (get_or ws 8 0) (get_or ws 9 0)) refl refl
 
@@ -90,7 +86,7 @@ pub record_is_read : (ws : List ℕ) (estimated sender reflector : ℕ) → leng
 unfolding record_to
 record_is_read ws estimated sender reflector long = by (counts_fit (quality_at 0 ws))
   where
-    by : (b : Bool) → let r = answer (cond b 0 counts_full) (recorded_of (quality_at 0 ws) (estimates_from estimated sender reflector)) in
+    by : (b : Bool) → let r = answer (cond b None (Some refusal.CountsFull)) (recorded_of (quality_at 0 ws) (estimates_from estimated sender reflector)) in
         quality_at 0 (record_after r ws).words ≡ state_after (quality_at 0 ws) r
     by true = stored_is_read ws (recorded_of (quality_at 0 ws) (estimates_from estimated sender reflector)) long (recorded-kept ws estimated sender reflector)
     by false = refl
@@ -99,11 +95,11 @@ record_is_read ws estimated sender reflector long = by (counts_fit (quality_at 0
 pub refused-unchanged : (ws : List ℕ) (estimated sender reflector : ℕ) → counts_fit (quality_at 0 ws) ≡ false → record_to ws estimated sender reflector ≡ left counts_full ws
 unfolding record_to
 refused-unchanged ws estimated sender reflector full =
-    ap (λ (b : Bool). record_after (answer (cond b 0 counts_full) (recorded_of (quality_at 0 ws) (estimates_from estimated sender reflector))) ws) full
+    ap (λ (b : Bool). record_after (answer (cond b None (Some refusal.CountsFull)) (recorded_of (quality_at 0 ws) (estimates_from estimated sender reflector))) ws) full
 
 -- and it is served where every count is below its bound
 pub served : (ws : List ℕ) (estimated sender reflector : ℕ) → counts_fit (quality_at 0 ws) ≡ true
     → record_to ws estimated sender reflector ≡ left 0 (sets ws 0 (quality_words (recorded_of (quality_at 0 ws) (estimates_from estimated sender reflector))))
 unfolding record_to
 served ws estimated sender reflector fit =
-    ap (λ (b : Bool). record_after (answer (cond b 0 counts_full) (recorded_of (quality_at 0 ws) (estimates_from estimated sender reflector))) ws) fit
+    ap (λ (b : Bool). record_after (answer (cond b None (Some refusal.CountsFull)) (recorded_of (quality_at 0 ws) (estimates_from estimated sender reflector))) ws) fit

@@ -2,19 +2,22 @@
 ghost use Rattle.std.specs.Prelude.{◌≡◌};
 ghost use Rattle.host_clock_quality.specs.Calls.{left, estimates_from, fresh_to, record_to};
 
-use clock_quality::Recorded;
-use estimate::{ErrorEstimate, Estimates};
+use estimate::ErrorEstimate;
 use host_clock_quality_words::QUALITY_WORDS;
 
-fn estimates_from(estimated: u32, sender: u16, reflector: u16) -> Estimates
+fn estimates_from(
+    estimated: u32,
+    sender: u16,
+    reflector: u16,
+) -> Option<(ErrorEstimate, ErrorEstimate)>
     ensures { result ≡ estimates_from estimated sender reflector }
 {
     if estimated != 0 {
         let first = ErrorEstimate::from_wire(sender);
         let second = ErrorEstimate::from_wire(reflector);
-        return Estimates::Pair(first, second);
+        return Some((first, second));
     }
-    Estimates::Absent
+    None
 }
 
 // No sample yet: counts of 0, and nothing that is there.
@@ -53,10 +56,10 @@ pub extern "C" fn ambrulicciu_clock_quality_record(
     let estimates = estimates_from(estimated, sender, reflector);
     let answer = state.record(estimates);
     match answer {
-        Recorded::Quality(next) => {
+        Ok(next) => {
             host_clock_quality_words::store(quality, next);
             0
         }
-        Recorded::Refused(number) => number,
+        Err(why) => u8::from(why),
     }
 }

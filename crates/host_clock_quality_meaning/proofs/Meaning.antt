@@ -1,5 +1,7 @@
 -- THE THEOREM for a host. Make sixteen words fresh, and record any samples, each call given what the last one left, refused ones included. Then every
 -- count, the last estimates and the largest error that the words say follow from the plain list of the samples served. Assumes nothing.
+use Rattle.std.specs.Prelude.{Option, Some, None}
+use Rattle.estimate.specs.declared.ErrorEstimate.{ErrorEstimate}
 use mathlib.Core.Path.{◌≡◌, refl, sym, ◌∙◌, ap, subst}
 use mathlib.Core.Bool.{Bool, true, false, ◌&&◌, cond}
 use mathlib.Core.List.{List, [], ◌∷◌}
@@ -12,10 +14,9 @@ use lib.ListN.{length}
 use lib.Seq.{sets, length-sets}
 use Rattle.limits.specs.Limits.{count_bound}
 use Rattle.limits.specs.Refusals.{counts_full}
+use Rattle.limits.specs.declared.Refusal.TheVariants as refusal
 use Rattle.host_numbers.specs.Numbers.{is_set}
 use Rattle.host_quality.specs.Words.{quality_at, quality_words}
-use Rattle.estimate.specs.declared.Estimates.{Estimates}
-use Rattle.estimate.specs.declared.Estimates.TheVariants as estimates
 use Rattle.estimate.specs.Wire.{estimate_of}
 use Rattle.clock_quality.specs.declared.ClockQuality.{ClockQuality}
 use Rattle.clock_quality.specs.Quality.{Class, counted, is_both, is_unsynchronized, is_invalid, is_unknown, is_invalid_sender, is_invalid_reflector, is_invalid_both, fresh, recorded_of}
@@ -35,15 +36,15 @@ counted_one : (b : Bool) (n m : ℕ) → n ≤ m → counted b n ≤ suc m
 counted_one true n m l = omega arith
 counted_one false n m l = omega arith
 
-count-at-most : (test : Class → Bool) (es : List Estimates) → count test es ≤ length es
+count-at-most : (test : Class → Bool) (es : List (Option (ErrorEstimate × ErrorEstimate))) → count test es ≤ length es
 unfolding count
 count-at-most test [] = omega arith
 count-at-most test (e ∷ es) = counted_one (test (class_of e)) (count test es) (length es) (count-at-most test es)
 
-below : (test : Class → Bool) (es : List Estimates) (n : ℕ) → n ≡ count test es → length es < count_bound → ltb n count_bound ≡ true
+below : (test : Class → Bool) (es : List (Option (ErrorEstimate × ErrorEstimate))) (n : ℕ) → n ≡ count test es → length es < count_bound → ltb n count_bound ≡ true
 below test es n e l = lt-ltb n count_bound (subst (λ (m : ℕ). m < count_bound) (sym e) (lt_of_le_of_lt (count-at-most test es) l))
 
-pub fit_by-length : (es : List Estimates) → counts_fit (played es) ≡ ltb (length es) count_bound
+pub fit_by-length : (es : List (Option (ErrorEstimate × ErrorEstimate))) → counts_fit (played es) ≡ ltb (length es) count_bound
 fit_by-length es = by (ltb (length es) count_bound) refl
   where
     s : Shows es (played es)
@@ -73,7 +74,7 @@ unfolding words_after fresh_to record_to
 after-length ws [] = length-sets ws 0 (quality_words fresh)
 after-length ws (t ∷ ts) = by (counts_fit (quality_at 0 (words_after ws ts))) ∙ after-length ws ts
   where
-    by : (b : Bool) → length (record_after (answer (cond b 0 counts_full) (recorded_of (quality_at 0 (words_after ws ts)) (sample_of t))) (words_after ws ts)).words ≡ length (words_after ws ts)
+    by : (b : Bool) → length (record_after (answer (cond b None (Some refusal.CountsFull)) (recorded_of (quality_at 0 (words_after ws ts)) (sample_of t))) (words_after ws ts)).words ≡ length (words_after ws ts)
     by true = length-sets (words_after ws ts) 0 (quality_words (recorded_of (quality_at 0 (words_after ws ts)) (sample_of t)))
     by false = refl
 
@@ -82,11 +83,11 @@ unfolding words_after served played
 words-played ws [] h = fresh_is_read ws h
 words-played ws (t ∷ ts) h =
     record_is_read (words_after ws ts) t.estimated t.sender t.reflector (after-length ws ts ∙ h)
-    ∙ ap (λ (q : ClockQuality). state_after q (answer (cond (counts_fit q) 0 counts_full) (recorded_of q (sample_of t)))) (words-played ws ts h)
-    ∙ ap (λ (b : Bool). state_after (played (served ts)) (answer (cond b 0 counts_full) (recorded_of (played (served ts)) (sample_of t)))) (fit_by-length (served ts))
+    ∙ ap (λ (q : ClockQuality). state_after q (answer (cond (counts_fit q) None (Some refusal.CountsFull)) (recorded_of q (sample_of t)))) (words-played ws ts h)
+    ∙ ap (λ (b : Bool). state_after (played (served ts)) (answer (cond b None (Some refusal.CountsFull)) (recorded_of (played (served ts)) (sample_of t)))) (fit_by-length (served ts))
     ∙ by (ltb (length (served ts)) count_bound)
   where
-    by : (b : Bool) → state_after (played (served ts)) (answer (cond b 0 counts_full) (recorded_of (played (served ts)) (sample_of t))) ≡ played (cond b (sample_of t ∷ served ts) (served ts))
+    by : (b : Bool) → state_after (played (served ts)) (answer (cond b None (Some refusal.CountsFull)) (recorded_of (played (served ts)) (sample_of t))) ≡ played (cond b (sample_of t ∷ served ts) (served ts))
     by true = refl
     by false = refl
 
@@ -94,11 +95,11 @@ words-played ws (t ∷ ts) h =
 pub number_is : (ws : List ℕ) (ts : List Told) (t : Told) → length ws ≡ 16 → (record_to (words_after ws ts) t.estimated t.sender t.reflector).number ≡ number_after ts
 unfolding record_to
 number_is ws ts t h =
-    ap (λ (q : ClockQuality). (record_after (answer (cond (counts_fit q) 0 counts_full) (recorded_of q (sample_of t))) (words_after ws ts)).number) (words-played ws ts h)
-    ∙ ap (λ (b : Bool). (record_after (answer (cond b 0 counts_full) (recorded_of (played (served ts)) (sample_of t))) (words_after ws ts)).number) (fit_by-length (served ts))
+    ap (λ (q : ClockQuality). (record_after (answer (cond (counts_fit q) None (Some refusal.CountsFull)) (recorded_of q (sample_of t))) (words_after ws ts)).number) (words-played ws ts h)
+    ∙ ap (λ (b : Bool). (record_after (answer (cond b None (Some refusal.CountsFull)) (recorded_of (played (served ts)) (sample_of t))) (words_after ws ts)).number) (fit_by-length (served ts))
     ∙ by (ltb (length (served ts)) count_bound)
   where
-    by : (b : Bool) → (record_after (answer (cond b 0 counts_full) (recorded_of (played (served ts)) (sample_of t))) (words_after ws ts)).number ≡ cond b 0 counts_full
+    by : (b : Bool) → (record_after (answer (cond b None (Some refusal.CountsFull)) (recorded_of (played (served ts)) (sample_of t))) (words_after ws ts)).number ≡ cond b 0 counts_full
     by true = refl
     by false = refl
 
@@ -119,7 +120,7 @@ in_range_lem (t ∷ ts) = by (ltb (length (served ts)) count_bound) (is_set t.es
     eight : (n : ℕ) → n % 256 < 256
     eight n = omega arith
 
-    by : (b e : Bool) → InRange (served ts) → InRange (cond b (cond e (estimates.Pair (estimate_of t.sender) (estimate_of t.reflector)) estimates.Absent ∷ served ts) (served ts))
+    by : (b e : Bool) → InRange (served ts) → InRange (cond b (cond e (Some (estimate_of t.sender, estimate_of t.reflector)) None ∷ served ts) (served ts))
     by true true rest = (eight t.sender, eight t.reflector, rest)
     by true false rest = rest
     by false e rest = rest

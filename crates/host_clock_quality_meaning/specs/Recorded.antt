@@ -1,8 +1,8 @@
 -- A host's calls of a clock quality one after the other, the newest first, and the plain list of the samples that were served. Assumes nothing.
-use Rattle.std.specs.Prelude.{cond, List, [], ◌∷◌, ℕ, ltb, length}
+use Rattle.estimate.specs.declared.ErrorEstimate.{ErrorEstimate}
+use Rattle.std.specs.Prelude.{cond, List, [], ◌∷◌, ℕ, ltb, length, Option}
 use Rattle.limits.specs.Limits.{count_bound}
 use Rattle.limits.specs.Refusals.{counts_full}
-use Rattle.estimate.specs.declared.Estimates.{Estimates}
 use Rattle.host_clock_quality.specs.Calls.{estimates_from, fresh_to, record_to}
 
 -- what a host tells `record`: 0 for no estimates, and the two as on the wire
@@ -12,11 +12,11 @@ pub record Told : Type 0 where
   pub reflector : ℕ
 
 -- the sample that this says
-abbrev pub sample_of : Told → Estimates
+abbrev pub sample_of : Told → Option (ErrorEstimate × ErrorEstimate)
 sample_of t = estimates_from t.estimated t.sender t.reflector
 
 -- the samples that are served: each while fewer than 2^63 were, and none after
-unfoldable pub served : List Told → List Estimates
+unfoldable pub served : List Told → List (Option (ErrorEstimate × ErrorEstimate))
 served [] = []
 served (t ∷ ts) = cond (ltb (length (served ts)) count_bound) (sample_of t ∷ served ts) (served ts)
 

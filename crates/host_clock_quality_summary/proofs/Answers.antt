@@ -1,4 +1,6 @@
 -- What the proof of the call cites: 26 words over a room of 26 are the room. Assumes nothing.
+use Rattle.std.specs.Prelude.{Option, Some, None}
+use Rattle.clock_quality.specs.declared.ClockEstimate.{ClockEstimate}
 use mathlib.Core.Path.{◌≡◌, refl, sym, ap, ◌∙◌}
 use mathlib.Core.List.{List}
 use Prim.Native.Nat.{ℕ}
@@ -6,17 +8,15 @@ use native.Mathlib.Omega.{arith}
 use lib.ListN.{length, length-append}
 use lib.Seq.{sets}
 use Rattle.clock_quality.specs.declared.ClockQuality.{ClockQuality}
-use Rattle.clock_quality.specs.declared.LastEstimate.{LastEstimate}
-use Rattle.clock_quality.specs.declared.LastEstimate.TheVariants as last
 use Rattle.host_quality.specs.Words.{quality_at}
 use Rattle.host_snapshot_words.specs.Words.{estimate_words, quality_words}
 use Rattle.host_snapshot_words.proofs.Laws.{placed_all}
 use Rattle.host_clock_quality_summary.specs.Summary.{Summary}
 
-eight : (l : LastEstimate) → length (estimate_words l) ≡ 8
+eight : (l : Option ClockEstimate) → length (estimate_words l) ≡ 8
 unfolding estimate_words
-eight last.Absent = refl
-eight (last.Seen e) = refl
+eight None = refl
+eight (Some e) = refl
 
 all : (q : ClockQuality) → length (quality_words q) ≡ 26
 unfolding quality_words

@@ -1,16 +1,17 @@
 -- What the proofs of `load` and `store` cite. Assumes nothing.
+use Rattle.std.specs.Prelude.{Option}
+use Rattle.std.specs.Float.Ieee.{Float}
+use Rattle.clock_quality.specs.declared.ClockEstimate.{ClockEstimate}
 use mathlib.Core.Path.{◌≡◌}
 use mathlib.Core.List.{List}
 use Prim.Native.Nat.{ℕ}
 use lib.ListN.{get_or, set}
 use lib.Seq.{sets}
-use Rattle.clock_quality.specs.declared.LastEstimate.{LastEstimate}
-use Rattle.clock_quality.specs.declared.LargestError.{LargestError}
 use Rattle.clock_quality.specs.declared.ClockQuality.{ClockQuality}
 use Rattle.host_quality.specs.declared.LastWords.{LastWords}
 use Rattle.host_quality.specs.Words.{last_of, last_word, last_bits, largest_of, largest_word, largest_bits, quality_at, quality_words}
 
-pub load_said : (ws : List ℕ) (largest : LargestError) (sender reflector : LastEstimate)
+pub load_said : (ws : List ℕ) (largest : Option Float) (sender reflector : Option ClockEstimate)
     → largest ≡ largest_of (get_or ws 8 0) (get_or ws 9 0) → sender ≡ last_of (get_or ws 10 0) (get_or ws 11 0) → reflector ≡ last_of (get_or ws 12 0) (get_or ws 13 0)
     → ◌≡◌ {A = ClockQuality} (record {
       samples = get_or ws 0 0;

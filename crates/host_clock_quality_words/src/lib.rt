@@ -13,9 +13,6 @@ pub const QUALITY_WORDS: usize = 16;
 pub fn load(words: &[u64; QUALITY_WORDS]) -> ClockQuality
     ensures { result ≡ quality_at 0 words.now }
 {
-    let largest = host_quality::largest_of(words[8], words[9]);
-    let sender = host_quality::last_of(words[10], words[11]);
-    let reflector = host_quality::last_of(words[12], words[13]);
     ClockQuality {
         samples: words[0],
         both: words[1],
@@ -25,9 +22,9 @@ pub fn load(words: &[u64; QUALITY_WORDS]) -> ClockQuality
         invalid_sender: words[5],
         invalid_reflector: words[6],
         invalid_both: words[7],
-        sender,
-        reflector,
-        largest,
+        sender: host_quality::last_of(words[10], words[11]),
+        reflector: host_quality::last_of(words[12], words[13]),
+        largest: host_quality::largest_of(words[8], words[9]),
     }
 }
 
@@ -35,11 +32,8 @@ pub fn load(words: &[u64; QUALITY_WORDS]) -> ClockQuality
 pub fn store(words: &mut [u64; QUALITY_WORDS], quality: ClockQuality)
     ensures { words.new ≡ sets words.old 0 (quality_words quality) }
 {
-    let largest = quality.largest;
-    let last_sender = quality.sender;
-    let last_reflector = quality.reflector;
-    let sender = host_quality::last_words(last_sender);
-    let reflector = host_quality::last_words(last_reflector);
+    let sender = host_quality::last_words(quality.sender);
+    let reflector = host_quality::last_words(quality.reflector);
     words[0] = quality.samples;
     words[1] = quality.both;
     words[2] = quality.unsynchronized;
@@ -48,8 +42,8 @@ pub fn store(words: &mut [u64; QUALITY_WORDS], quality: ClockQuality)
     words[5] = quality.invalid_sender;
     words[6] = quality.invalid_reflector;
     words[7] = quality.invalid_both;
-    words[8] = host_quality::largest_word(largest);
-    words[9] = host_quality::largest_bits(largest);
+    words[8] = host_quality::largest_word(quality.largest);
+    words[9] = host_quality::largest_bits(quality.largest);
     words[10] = sender.word;
     words[11] = sender.bits;
     words[12] = reflector.word;

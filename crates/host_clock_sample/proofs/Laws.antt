@@ -1,4 +1,5 @@
 -- What a sample leaves in the words of a clock quality. Assumes nothing.
+use Rattle.std.specs.Prelude.{Option, Some, None}
 use mathlib.Core.Path.{◌≡◌, refl, sym, ap, ◌∙◌}
 use mathlib.Core.Bool.{Bool, true, false, ◌&&◌}
 use mathlib.Core.List.{List, [], ◌∷◌}
@@ -7,21 +8,15 @@ use native.Mathlib.Omega.{arith}
 use lib.Ieee.{Float, binary64, add, to_bits}
 use lib.ListN.{get_or, set}
 use lib.Seq.{sets, get_or-set_other}
-use Rattle.estimate.specs.declared.Estimates.{Estimates}
-use Rattle.estimate.specs.declared.Estimates.TheVariants as estimates
 use Rattle.estimate.specs.declared.ErrorEstimate.{ErrorEstimate}
 use Rattle.estimate.specs.declared.Reading.TheVariants.{Known}
 use Rattle.estimate.specs.Make.{is_ptp, format_of}
 use Rattle.estimate.specs.Error.{reading_of}
 use Rattle.estimate.specs.Wire.{estimate_of}
 use Rattle.clock_quality.specs.declared.ClockQuality.{ClockQuality}
-use Rattle.clock_quality.specs.declared.LargestError.{LargestError}
-use Rattle.clock_quality.specs.declared.LargestError.TheVariants as largest
 use Rattle.clock_quality.specs.Bounds.{Bounded}
 use Rattle.clock_quality.specs.Quality as quality
 use Rattle.clock_quality.specs.Quality.{Class, known_class, pair_class, is_known, is_both, is_unsynchronized, is_invalid, is_unknown, is_invalid_sender, is_invalid_reflector, is_invalid_both, counted, clock_estimate_of, larger_of, recorded_of}
-use Rattle.correlation.specs.declared.Wires.{Wires}
-use Rattle.correlation.specs.declared.Wires.TheVariants as wires
 use Rattle.follow_ups.specs.Followed.{estimates_of}
 use Rattle.host_numbers.specs.Numbers.{flag_word}
 use Rattle.host_quality.specs.Words.{error_bits, estimate_word, largest_word, largest_bits, largest_of, quality_at, quality_words}
@@ -43,21 +38,21 @@ bounded_without q b = record {
 }
 
 -- it replaces both last estimates
-replaces : (q : ClockQuality) (e : Estimates) → recorded_of (quality_without_last q) e ≡ recorded_of q e
-replaces q estimates.Absent = refl
-replaces q (estimates.Pair s r) = refl
+replaces : (q : ClockQuality) (e : Option (ErrorEstimate × ErrorEstimate)) → recorded_of (quality_without_last q) e ≡ recorded_of q e
+replaces q None = refl
+replaces q (Some (s, r)) = refl
 
 pub any-as :
-    (w w' : List ℕ) (x : Wires) (before after : ClockQuality) (e : Estimates)
+    (w w' : List ℕ) (x : Option (ℕ × ℕ)) (before after : ClockQuality) (e : Option (ErrorEstimate × ErrorEstimate))
     → before ≡ quality_without_last (quality_at 58 w) → e ≡ estimates_of x → after ≡ recorded_of before e → w' ≡ sets w 58 (quality_words after)
     → w' ≡ sets w 58 (quality_words (recorded_of (quality_at 58 w) (estimates_of x)))
 any-as w w' x before after e e₁ e₂ e₃ e₄ =
     e₄ ∙ ap (λ (q : ClockQuality). sets w 58 (quality_words q)) (e₃ ∙ (λ i. recorded_of (e₁ i) (e₂ i)) ∙ replaces (quality_at 58 w) (estimates_of x))
 
 -- the same words whichever way the wires are written
-pub told_as : (w w' : List ℕ) (x y : Wires) → x ≡ y → w' ≡ sets w 58 (quality_words (recorded_of (quality_at 58 w) (estimates_of y)))
+pub told_as : (w w' : List ℕ) (x y : Option (ℕ × ℕ)) → x ≡ y → w' ≡ sets w 58 (quality_words (recorded_of (quality_at 58 w) (estimates_of y)))
     → w' ≡ sets w 58 (quality_words (recorded_of (quality_at 58 w) (estimates_of x)))
-told_as w w' x y e h = h ∙ ap (λ (z : Wires). sets w 58 (quality_words (recorded_of (quality_at 58 w) (estimates_of z)))) (sym e)
+told_as w w' x y e h = h ∙ ap (λ (z : Option (ℕ × ℕ)). sets w 58 (quality_words (recorded_of (quality_at 58 w) (estimates_of z)))) (sym e)
 
 -- ---- both errors known: what is stored, and what stays
 
@@ -124,9 +119,9 @@ no_both : (b : Bool) (n : ℕ) → n ≡ counted (is_invalid_both (known_class b
 no_both true n = refl
 no_both false n = refl
 
-one_largest : (m : LargestError) (t : Float) → 1 ≡ largest_word (larger_of m t)
-one_largest largest.Absent t = refl
-one_largest (largest.Ms x) t = refl
+one_largest : (m : Option Float) (t : Float) → 1 ≡ largest_word (larger_of m t)
+one_largest None t = refl
+one_largest (Some x) t = refl
 
 -- the first word of an estimate whose error is known
 known_word : (e f : ErrorEstimate) (r : ℕ) (x : Float) → f ≡ e → reading_of e ≡ Known x
@@ -159,13 +154,13 @@ module _
     class_is = λ i. pair_class (is_known (sym hs i)) (is_known (sym hr i)) synced
 
     pub known_as :
-        (c l p bx q by : ℕ) (before after : LargestError)
+        (c l p bx q by : ℕ) (before after : Option Float)
         → c ≡ flag_word (f.synchronized && g.synchronized)
         → before ≡ largest_of (get_or w 66 0) (get_or w 67 0) → after ≡ larger_of before (add binary64 x y) → l ≡ largest_bits after
         → p ≡ 9 + flag_word f.synchronized * 2 + flag_word f.ptp * 4 + f.scale * 256 + f.multiplier * 65536 → bx ≡ to_bits binary64 x
         → q ≡ 9 + flag_word g.synchronized * 2 + flag_word g.ptp * 4 + g.scale * 256 + g.multiplier * 65536 → by ≡ to_bits binary64 y
         → set (set (set (set (set (set (set (set (set w 58 (get_or w 58 0 + 1)) 59 (get_or w 59 0 + c)) 60 (get_or w 60 0 + (1 - c))) 66 1) 67 l) 68 p) 69 bx) 70 q) 71 by
-        ≡ sets w 58 (quality_words (recorded_of (quality_at 58 w) (estimates_of (wires.Pair s r))))
+        ≡ sets w 58 (quality_words (recorded_of (quality_at 58 w) (estimates_of (Some (s, r)))))
     unfolding quality_words quality_at
     known_as c l p bx q by before after ec eb ea el ep ebx eq eby =
         stored w (get_or w 58 0 + 1) (get_or w 59 0 + c) (get_or w 60 0 + (1 - c)) 1 l p bx q by
@@ -179,7 +174,7 @@ module _
         ∷ ((no_reflector synced (get_or w 64 0) ∙ ap (λ (k : Class). counted (is_invalid_reflector k) (get_or w 64 0)) class_is) i)
         ∷ ((no_both synced (get_or w 65 0) ∙ ap (λ (k : Class). counted (is_invalid_both k) (get_or w 65 0)) class_is) i)
         ∷ ((one_largest (largest_of (get_or w 66 0) (get_or w 67 0)) (add binary64 x y) ∙ ap largest_word larger_is) i)
-        ∷ ((el ∙ ap largest_bits (ea ∙ ap (λ (m : LargestError). larger_of m (add binary64 x y)) eb ∙ larger_is)) i)
+        ∷ ((el ∙ ap largest_bits (ea ∙ ap (λ (m : Option Float). larger_of m (add binary64 x y)) eb ∙ larger_is)) i)
         ∷ (known_word (estimate_of s) f p x ef hs ep i)
         ∷ ((ebx ∙ ap error_bits (sym hs)) i)
         ∷ (known_word (estimate_of r) g q y eg hr eq i)

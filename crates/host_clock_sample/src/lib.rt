@@ -8,32 +8,15 @@ ghost use Rattle.estimate.specs.Error.{reading_of};
 ghost use Rattle.estimate.specs.Wire.{estimate_of};
 ghost use Rattle.clock_quality.specs.Bounds.{Bounded};
 ghost use Rattle.clock_quality.specs.Quality.{larger_of, recorded_of};
-ghost use Rattle.correlation.specs.declared.Wires.TheVariants as wires;
 ghost use Rattle.follow_ups.specs.Followed.{estimates_of};
 ghost use Rattle.host_numbers.specs.Numbers.{flag_word};
 ghost use Rattle.host_quality.specs.Words.{quality_at, quality_words};
 ghost use Rattle.host_ledger.specs.Places as place;
 
-use clock_quality::LargestError;
-use correlation::Wires;
+use clock_quality::larger;
 use estimate::{ErrorEstimate, Reading};
 use host_ledger::{LEDGER_WORDS, places};
 use host_numbers::{bits_of, flag};
-
-// The larger of two errors; the second where there was none.
-fn larger(largest: LargestError, combined: f64) -> LargestError
-    ensures { result ≡ larger_of largest combined }
-{
-    match largest {
-        LargestError::Ms(most) => {
-            if most >= combined {
-                return LargestError::Ms(most);
-            }
-            LargestError::Ms(combined)
-        }
-        LargestError::Absent => LargestError::Ms(combined),
-    }
-}
 
 // The first word of a last estimate whose error is known.
 fn known_word(estimate: ErrorEstimate) -> u64
@@ -46,7 +29,7 @@ fn known_word(estimate: ErrorEstimate) -> u64
 }
 
 // A sample of any kind.
-fn count_any(ledger: &mut [u64; LEDGER_WORDS], wires: Wires)
+fn count_any(ledger: &mut [u64; LEDGER_WORDS], wires: Option<(u16, u16)>)
     requires { Bounded (quality_at place.quality ledger.old) }
     ensures { ledger.new ≡ sets ledger.old place.quality (quality_words (recorded_of (quality_at place.quality ledger.old) (estimates_of wires))) }
 {
@@ -58,7 +41,7 @@ fn count_any(ledger: &mut [u64; LEDGER_WORDS], wires: Wires)
 // Both errors are known: x and y, in ms.
 fn count_known(ledger: &mut [u64; LEDGER_WORDS], sender: u16, reflector: u16, x: f64, y: f64)
     requires { Bounded (quality_at place.quality ledger.old) × (reading_of (estimate_of sender) ≡ Known x) × (reading_of (estimate_of reflector) ≡ Known y) }
-    ensures { ledger.new ≡ sets ledger.old place.quality (quality_words (recorded_of (quality_at place.quality ledger.old) (estimates_of (wires.Pair sender reflector)))) }
+    ensures { ledger.new ≡ sets ledger.old place.quality (quality_words (recorded_of (quality_at place.quality ledger.old) (estimates_of (Some (sender, reflector))))) }
 {
     let first = ErrorEstimate::from_wire(sender);
     let second = ErrorEstimate::from_wire(reflector);
@@ -81,28 +64,28 @@ fn count_known(ledger: &mut [u64; LEDGER_WORDS], sender: u16, reflector: u16, x:
 
 fn count_pair(ledger: &mut [u64; LEDGER_WORDS], sender: u16, reflector: u16)
     requires { Bounded (quality_at place.quality ledger.old) }
-    ensures { ledger.new ≡ sets ledger.old place.quality (quality_words (recorded_of (quality_at place.quality ledger.old) (estimates_of (wires.Pair sender reflector)))) }
+    ensures { ledger.new ≡ sets ledger.old place.quality (quality_words (recorded_of (quality_at place.quality ledger.old) (estimates_of (Some (sender, reflector))))) }
 {
     let first = ErrorEstimate::from_wire(sender).reading();
     let second = ErrorEstimate::from_wire(reflector).reading();
     let Reading::Known(x) = first else {
-        count_any(ledger, Wires::Pair(sender, reflector));
+        count_any(ledger, Some((sender, reflector)));
         return;
     };
     let Reading::Known(y) = second else {
-        count_any(ledger, Wires::Pair(sender, reflector));
+        count_any(ledger, Some((sender, reflector)));
         return;
     };
     count_known(ledger, sender, reflector, x, y);
 }
 
 // One sample more, for a caller that has tested the counts.
-pub fn count(ledger: &mut [u64; LEDGER_WORDS], wires: Wires)
+pub fn count(ledger: &mut [u64; LEDGER_WORDS], wires: Option<(u16, u16)>)
     requires { Bounded (quality_at place.quality ledger.old) }
     ensures { ledger.new ≡ sets ledger.old place.quality (quality_words (recorded_of (quality_at place.quality ledger.old) (estimates_of wires))) }
 {
     match wires {
-        Wires::Absent => count_any(ledger, Wires::Absent),
-        Wires::Pair(sender, reflector) => count_pair(ledger, sender, reflector),
+        None => count_any(ledger, None),
+        Some((sender, reflector)) => count_pair(ledger, sender, reflector),
     }
 }

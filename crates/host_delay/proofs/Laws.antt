@@ -1,4 +1,5 @@
 -- What a delay leaves in the eight words of the delays. Assumes nothing.
+use Rattle.std.specs.Prelude.{Option, Some}
 use mathlib.Core.Path.{◌≡◌, refl, sym, ap, ◌∙◌}
 use mathlib.Core.Bool.{Bool, true, false, ◌&&◌, ◌||◌, cond, and-eq-true_iff}
 use mathlib.Core.List.{List, [], ◌∷◌}
@@ -12,8 +13,6 @@ use lib.ListN.{get_or, set}
 use lib.Seq.{sets, get_or-set_other}
 use borrow.Author.Tests.{eqb-true, leb-true, le-ltb, lt-ltb, le-leb, lt-leb, eq-eqb, ne_eqb}
 use Rattle.floats.specs.Whole.{magnitude, signed}
-use Rattle.delays.specs.declared.Extreme.{Extreme}
-use Rattle.delays.specs.declared.Extreme.TheVariants as extreme
 use Rattle.delays.specs.declared.Nanoseconds.{Nanoseconds}
 use Rattle.delays.specs.declared.Sum.{Sum}
 use Rattle.delays.specs.Delays.{lesser, greater, recorded_of}
@@ -78,12 +77,12 @@ abbrev span : Bool → ℕ → Nanoseconds
 span s m = record { negative = s; magnitude = m }
 
 -- these are the words of an extreme
-abbrev Says : ℕ → ℕ → Extreme → Type 0
+abbrev Says : ℕ → ℕ → Option Nanoseconds → Type 0
 Says k m x = (k ≡ extreme_kind x) × (m ≡ extreme_magnitude x)
 
 module _ (ns : Nanoseconds) (s : Bool) (k m : ℕ) (e : k ≡ 1 + flag_word s) where
-  at : extreme_of k m ≡ extreme.At (span s m)
-  at = ap (λ (x : ℕ). extreme_of x m) e ∙ extreme_again (extreme.At (span s m))
+  at : extreme_of k m ≡ Some (span s m)
+  at = ap (λ (x : ℕ). extreme_of x m) e ∙ extreme_again (Some (span s m))
 
   least_stays : lt_z (value_of ns) (signed s m) ≡ false → Says k m (lesser (extreme_of k m) ns)
   least_stays t =

@@ -1,4 +1,5 @@
 -- What the direct counters of a reply leave in the eleven words of direct loss. Assumes nothing.
+use Rattle.std.specs.Prelude.{Option, Some, None}
 use mathlib.Core.Path.{◌≡◌, refl, sym, ap, ◌∙◌}
 use mathlib.Core.Bool.{Bool, true, false, ◌&&◌, ◌||◌, cond, false≢true, and-eq-true_iff}
 use mathlib.Core.List.{List, [], ◌∷◌}
@@ -10,16 +11,11 @@ use lib.Seq.{sets, set-get_or, get_or-set_other}
 use borrow.Author.Tests.{eqb-true, ltb-true, leb-true, lt-leb, le-ltb, ne_eqb}
 use Rattle.limits.specs.Limits.{capacity}
 use Rattle.call_types.specs.declared.CounterPoint.{CounterPoint}
-use Rattle.call_types.specs.declared.Counters.{Counters}
-use Rattle.call_types.specs.declared.Counters.TheVariants as counters
-use Rattle.call_types.specs.declared.Ordinal.{Ordinal}
-use Rattle.call_types.specs.declared.Ordinal.TheVariants as ordinal
 use Rattle.call_types.specs.declared.ReplyObservation.{ReplyObservation}
 use Rattle.direct.specs.declared.Counts.{Counts}
 use Rattle.direct.specs.declared.Direct.{Direct}
 use Rattle.direct.specs.declared.Epoch.{Epoch}
 use Rattle.direct.specs.declared.Step.{Step}
-use Rattle.direct.specs.declared.Window.TheVariants.{Closed, Open}
 use Rattle.direct.specs.Offsets.{sender_offset, received_offset, transmit_offset}
 use Rattle.direct.specs.Outcomes.{one_observed, above, highest, advanced, with_anchor, by_ordinal, recorded, InBounds, seen_in}
 use Rattle.offset_set.specs.Offsets.{OffsetSet, offset_set, contains, added}
@@ -41,7 +37,7 @@ module _ (e : Epoch) (c : CounterPoint) where
   abbrev received : ℕ
   received = received_offset e.anchor c
 
-  module _ (m : ℕ) (g : goes_on e c (ordinal.Number m) ≡ true) where
+  module _ (m : ℕ) (g : goes_on e c (Some m) ≡ true) where
     abbrev at₁ : Bool
     at₁ = eqb c.sender.0 m
 
@@ -84,29 +80,29 @@ module _ (e : Epoch) (c : CounterPoint) where
     seen_below : e.seen < capacity
     seen_below = ltb-true e.seen capacity to₄.1
 
-    in_order : (n : Counts) (again : Bool) → again ≡ false → recorded capacity (record { counts = n; window = Open e }) c (ordinal.Number m) again ≡ advanced n e c
+    in_order : (n : Counts) (again : Bool) → again ≡ false → recorded capacity (record { counts = n; window = Some e }) c (Some m) again ≡ advanced n e c
     unfolding recorded
     in_order n again a =
-        (λ i. by_ordinal capacity (to₁.0 i) n (Open e) c again)
+        (λ i. by_ordinal capacity (to₁.0 i) n (Some e) c again)
         ∙ (λ i.
         with_anchor (no_step-back transmitted to₁.1 i || no_step-back sender to₂.1 i || no_step-back received to₃.1 i) (a i) (has_room i)
         (le-ltb transmitted (highest e) (leb-true (highest e) transmitted to₅.1) i) n e c)
 
   -- what `goes_on` answers
-  pub tested_as : (o : Ordinal) (m t s r h : ℕ) → o ≡ ordinal.Number m → t ≡ transmitted → s ≡ sender → r ≡ received → h ≡ highest e
+  pub tested_as : (o : Option ℕ) (m t s r h : ℕ) → o ≡ Some m → t ≡ transmitted → s ≡ sender → r ≡ received → h ≡ highest e
       → (eqb c.sender.0 m && ltb t (2 ^ 31) && ltb s (2 ^ 31) && ltb r (2 ^ 31) && ltb e.seen capacity && leb h t) ≡ goes_on e c o
   tested_as o m t s r h eo et es er eh =
       (λ i. eqb c.sender.0 m && ltb (et i) (2 ^ 31) && ltb (es i) (2 ^ 31) && ltb (er i) (2 ^ 31) && ltb e.seen capacity && leb (eh i) (et i))
       ∙ ap (goes_on e c) (sym eo)
 
-  goes_on_as : (n : Counts) (o : Ordinal) → goes_on e c o ≡ true → (again : Bool) → again ≡ false
-      → recorded capacity (record { counts = n; window = Open e }) c o again ≡ advanced n e c
-  goes_on_as n ordinal.Absent g again a = absurd (false≢true g)
-  goes_on_as n (ordinal.Number m) g again a = in_order m g n again a
+  goes_on_as : (n : Counts) (o : Option ℕ) → goes_on e c o ≡ true → (again : Bool) → again ≡ false
+      → recorded capacity (record { counts = n; window = Some e }) c o again ≡ advanced n e c
+  goes_on_as n None g again a = absurd (false≢true g)
+  goes_on_as n (Some m) g again a = in_order m g n again a
 
-  pub room_for : (o : Ordinal) → goes_on e c o ≡ true → e.seen < capacity
-  room_for ordinal.Absent g = absurd (false≢true g)
-  room_for (ordinal.Number m) g = seen_below m g
+  pub room_for : (o : Option ℕ) → goes_on e c o ≡ true → e.seen < capacity
+  room_for None g = absurd (false≢true g)
+  room_for (Some m) g = seen_below m g
 
 -- ---- the words
 
@@ -149,13 +145,13 @@ module _ (w : List ℕ) (opens : opened w ≡ true) where
   open_said = eqb-true (get_or w 38 0) 1 ((and-eq-true_iff (ltb (get_or w 37 0) 2) (eqb (get_or w 38 0) 1)).0 opens).1
 
   -- what these words say
-  pub said : direct_at 33 w ≡ record { counts = (direct_at 33 w).counts; window = Open (epoch_in w) }
+  pub said : direct_at 33 w ≡ record { counts = (direct_at 33 w).counts; window = Some (epoch_in w) }
   unfolding direct_at window_at
-  said = λ i. record { counts = (direct_at 33 w).counts; window = cond (is_set (open_said i)) (Open (epoch_in w)) Closed }
+  said = λ i. record { counts = (direct_at 33 w).counts; window = cond (is_set (open_said i)) (Some (epoch_in w)) None }
 
   -- the stores of `store`
   pub words_as : (e : Epoch)
-      → sets (set w 33 (get_or w 33 0 + 1)) 39 (epoch_words e) ≡ sets w 33 (direct_words (record { counts = one_observed (direct_at 33 w).counts; window = Open e }))
+      → sets (set w 33 (get_or w 33 0 + 1)) 39 (epoch_words e) ≡ sets w 33 (direct_words (record { counts = one_observed (direct_at 33 w).counts; window = Some e }))
   unfolding direct_at direct_words
   words_as e =
       stored w (get_or w 33 0 + 1) (epoch_words e)
@@ -177,7 +173,7 @@ module _ (by_number : ℕ → ℕ) (w offsets : List ℕ) (links : List (List �
   -- in order
   pub went_on :
       (c : CounterPoint) (e next : Epoch) (offset : ℕ) (again : Bool) (w' offsets' : List ℕ) (links' : List (List ℕ)) (count : ℕ)
-      → o.counters ≡ counters.Point c → e ≡ epoch_in w → opened w ≡ true → goes_on e c o.ordinal ≡ true
+      → o.counters ≡ Some c → e ≡ epoch_in w → opened w ≡ true → goes_on e c o.ordinal ≡ true
       → offset ≡ transmit_offset e.anchor c → again ≡ contains capacity by_number (offset_set offsets links e.seen) offset → again ≡ false
       → next ≡ above e c → w' ≡ sets (set w 33 (get_or w 33 0 + 1)) 39 (epoch_words next)
       → offset_set offsets' links' count ≡ added capacity by_number (offset_set offsets links e.seen) offset
@@ -186,7 +182,7 @@ module _ (by_number : ℕ → ℕ) (w offsets : List ℕ) (links : List (List �
   went_on c e next offset again w' offsets' links' count ec ee opens g eo ea none en ew es =
       let n = (direct_at 33 w).counts in
       let s = offset_set offsets links e.seen in
-      let known : direct_at 33 w ≡ record { counts = n; window = Open e } = said w opens ∙ sym (ap (λ (x : Epoch). record { counts = n; window = Open x }) ee) in
+      let known : direct_at 33 w ≡ record { counts = n; window = Some e } = said w opens ∙ sym (ap (λ (x : Epoch). record { counts = n; window = Some x }) ee) in
       let told : direct_in capacity by_number (direct_at 33 w) offsets links o ≡ direct_with capacity by_number (advanced n e c) s =
       (λ i. direct_by capacity by_number (ec i) (known i) (offset_set offsets links (seen_in (known i).window)) o.ordinal)
       ∙ ap (λ (x : Step). direct_with capacity by_number x s) (goes_on_as e c n o.ordinal g _ (sym (ea ∙ ap (contains capacity by_number s) eo) ∙ none)) in
@@ -197,11 +193,11 @@ module _ (by_number : ℕ → ℕ) (w offsets : List ℕ) (links : List (List �
       ∙ sym (ap (told_leaves w) told)
 
   -- none
-  pub untold_as : o.counters ≡ counters.Absent → direct_left w offsets links ≡ direct_leaves o.counters w (direct_in capacity by_number (direct_at 33 w) offsets links o)
+  pub untold_as : o.counters ≡ None → direct_left w offsets links ≡ direct_leaves o.counters w (direct_in capacity by_number (direct_at 33 w) offsets links o)
   unfolding direct_in
   untold_as e =
-      sym (ap (λ (x : Counters). direct_leaves x w (direct_by capacity by_number x (direct_at 33 w) (offset_set offsets links (seen_in (direct_at 33 w).window)) o.ordinal)) e)
+      sym (ap (λ (x : Option CounterPoint). direct_leaves x w (direct_by capacity by_number x (direct_at 33 w) (offset_set offsets links (seen_in (direct_at 33 w).window)) o.ordinal)) e)
 
 -- those that were told
-pub told_as : (cs : Counters) (c : CounterPoint) (w : List ℕ) (out : DirectOutcome) (left : DirectLeft) → cs ≡ counters.Point c → left ≡ told_leaves w out → left ≡ direct_leaves cs w out
-told_as cs c w out left e h = h ∙ ap (λ (x : Counters). direct_leaves x w out) (sym e)
+pub told_as : (cs : Option CounterPoint) (c : CounterPoint) (w : List ℕ) (out : DirectOutcome) (left : DirectLeft) → cs ≡ Some c → left ≡ told_leaves w out → left ≡ direct_leaves cs w out
+told_as cs c w out left e h = h ∙ ap (λ (x : Option CounterPoint). direct_leaves x w out) (sym e)

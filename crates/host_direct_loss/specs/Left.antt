@@ -1,7 +1,7 @@
 -- What the direct counters of a reply leave in the words of a ledger and in the rooms of the seen offsets. Assumes nothing.
-use Rattle.std.specs.Prelude.{List, ℕ}
+use Rattle.call_types.specs.declared.CounterPoint.{CounterPoint}
+use Rattle.std.specs.Prelude.{List, ℕ, Option}
 use Rattle.std.proofs.lemmas.List.Edits.{sets}
-use Rattle.call_types.specs.declared.Counters.{Counters}
 use Rattle.ledger_steps.specs.Observe.{DirectOutcome}
 use Rattle.host_ledger.specs.Parts.{direct_words}
 use Rattle.host_ledger.specs.Left.{direct_stored}
@@ -18,7 +18,7 @@ abbrev pub direct_left : List ℕ → List ℕ → List (List ℕ) → DirectLef
 direct_left ledger offsets links = record { ledger = ledger; offsets = offsets; links = links }
 
 -- the direct counters, or none
-abbrev pub direct_leaves : Counters → List ℕ → DirectOutcome → DirectLeft
+abbrev pub direct_leaves : Option CounterPoint → List ℕ → DirectOutcome → DirectLeft
 direct_leaves told before out = direct_left (direct_stored told before out.direct) out.offsets out.links
 
 -- counters that were told

@@ -4,7 +4,6 @@
 ghost use Rattle.std.specs.Prelude.{◌≡◌, ◌+◌, ◌^◌, ◌≤◌, ◌<◌, max, get_or, length, set};
 ghost use Rattle.std.proofs.lemmas.List.Edits.{sets};
 ghost use Rattle.limits.specs.Limits.{capacity};
-ghost use Rattle.call_types.specs.declared.Counters.TheVariants as counters;
 ghost use Rattle.chains.specs.Hash.{number_hash};
 ghost use Rattle.direct.specs.Outcomes.{InBounds, above, seen_in};
 ghost use Rattle.ledger_steps.specs.Observe.{direct_in};
@@ -13,7 +12,7 @@ ghost use Rattle.host_direct_loss.specs.Left.{direct_left, direct_leaves, told_l
 ghost use Rattle.host_direct_loss.specs.Order.{opened, epoch_in, goes_on};
 ghost use Rattle.host_ledger.specs.Places as place;
 
-use call_types::{CounterPoint, Counters, Ordinal, ReplyObservation};
+use call_types::{CounterPoint, ReplyObservation};
 use direct::Epoch;
 use host_ledger::parts::{epoch_of, epoch_words};
 use host_ledger::{LEDGER_WORDS, places};
@@ -37,10 +36,10 @@ fn epoch_in(ledger: &[u64; LEDGER_WORDS]) -> Epoch
     )
 }
 
-fn goes_on(epoch: Epoch, point: CounterPoint, ordinal: Ordinal) -> bool
+fn goes_on(epoch: Epoch, point: CounterPoint, ordinal: Option<u32>) -> bool
     ensures { result ≡ goes_on epoch point ordinal }
 {
-    let Ordinal::Number(number) = ordinal else {
+    let Some(number) = ordinal else {
         return false;
     };
     let anchor = epoch.anchor;
@@ -134,7 +133,7 @@ fn count_point(
     told: ReplyObservation,
     point: CounterPoint,
 )
-    requires { (length offsets.old ≡ capacity) × (length links.old ≡ capacity) × InBounds (direct_at place.direct ledger.old).counts × (seen_in (direct_at place.direct ledger.old).window ≤ 4096) × (told.counters ≡ counters.Point point) }
+    requires { (length offsets.old ≡ capacity) × (length links.old ≡ capacity) × InBounds (direct_at place.direct ledger.old).counts × (seen_in (direct_at place.direct ledger.old).window ≤ 4096) × (told.counters ≡ Some point) }
     ensures { direct_left ledger.new offsets.new links.new ≡ told_leaves ledger.old (direct_in capacity (number_hash secret) (direct_at place.direct ledger.old) offsets.old links.old told) }
 {
     let epoch = epoch_in(ledger);
@@ -165,7 +164,7 @@ pub fn count(
 {
     let counters = told.counters;
     match counters {
-        Counters::Absent => {}
-        Counters::Point(point) => count_point(ledger, offsets, links, secret, told, point),
+        None => {}
+        Some(point) => count_point(ledger, offsets, links, secret, told, point),
     }
 }

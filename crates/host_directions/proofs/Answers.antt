@@ -5,11 +5,15 @@ use borrow.Author.Tests.{ne_eqb, eqb-true, not-false}
 use lib.Dec.{ltb, eqb}
 use lib.IntN.{◌+ℤ◌}
 use mathlib.Core.List.{List}
-use Prim.Native.Nat.{ℕ, suc, ◌+◌, ◌^◌, ◌<◌}
+use Prim.Native.Nat.{ℕ, zero, suc, ◌+◌, ◌^◌, ◌<◌}
 use native.Mathlib.Omega.{arith}
 use lib.ListN.{get_or, set}
 use lib.Seq.{sets, set_comm, set-get_or, get_or-set_other}
 use Rattle.host_numbers.specs.Numbers.{flag_word, is_set}
+use Rattle.std.specs.Prelude.{Option, Some, None, Result, Ok, Err}
+use Rattle.limits.specs.declared.Refusal.{Refusal}
+use Rattle.limits.specs.Numbers.{number_of}
+use Rattle.quantiles.proofs.Numbers.{some_number}
 use Rattle.delays.specs.declared.DelaySummary.{DelaySummary}
 use Rattle.delays.specs.declared.Sum.{Sum}
 use Rattle.delays.specs.Sums.{nanoseconds_of, total_of, sum_of}
@@ -20,8 +24,6 @@ use Rattle.series.specs.Step.{with_words, far_from}
 use Rattle.series.proofs.Kept.{left_of}
 use Rattle.directions.specs.declared.OwdDirection.{OwdDirection}
 use Rattle.directions.specs.declared.Directions.{Directions}
-use Rattle.directions.specs.declared.Recording.{Recording}
-use Rattle.directions.specs.declared.Recording.TheVariants.{Refused, SumsFull, Full, Counted}
 use Rattle.directions.specs.Direction as direction
 use Rattle.directions.specs.Directions as both
 use Rattle.directions.specs.Tried.{TriedOwn}
@@ -128,13 +130,13 @@ show-said ws reverse shown after d s f g h =
     ap (words_left 0)
     (h ∙ ap (λ (x : DelaySummary). sets shown 0 (summary_words x)) (g ∙ ap (λ (x : OwdDirection). summary_of (delays_of x.quantiles x.sum)) f))
 
-module _ (ws slice after recorded : List ℕ) (reverse v : ℕ) (d : OwdDirection) (a : Recording) (is : d ≡ both.own (directions_at ws) (is_set reverse))
+module _ (ws slice after recorded : List ℕ) (reverse v : ℕ) (d : OwdDirection) (a : Result (Option OwdDirection) Refusal) (is : d ≡ both.own (directions_at ws) (is_set reverse))
     (got : (direction.outcome d a after ≡ both.record_own d slice (is_set reverse) v) × both.Untouched (both.start_of (is_set reverse)) slice after) where
   -- what is left of both, by what the own direction answered
-  from_answer : (b : Recording) → a ≡ b → both.in_both (directions_at ws) (is_set reverse) (direction.outcome (both.own (directions_at ws) (is_set reverse)) b after) ≡ both.record_in (directions_at ws) slice (is_set reverse) v
+  from_answer : (b : Result (Option OwdDirection) Refusal) → a ≡ b → both.in_both (directions_at ws) (is_set reverse) (direction.outcome (both.own (directions_at ws) (is_set reverse)) b after) ≡ both.record_in (directions_at ws) slice (is_set reverse) v
   from_answer b told =
       ap (both.in_both (directions_at ws) (is_set reverse))
-      (ap (λ (x : Recording). direction.outcome (both.own (directions_at ws) (is_set reverse)) x after) (sym told)
+      (ap (λ (x : Result (Option OwdDirection) Refusal). direction.outcome (both.own (directions_at ws) (is_set reverse)) x after) (sym told)
       ∙ ap (λ (x : OwdDirection). direction.outcome x a after) (sym is)
       ∙ got.0
       ∙ ap (λ (x : OwdDirection). both.record_own x slice (is_set reverse) v) is)
@@ -143,24 +145,30 @@ module _ (ws slice after recorded : List ℕ) (reverse v : ℕ) (d : OwdDirectio
   left_by : both.Outcome → RecordLeft
   left_by o = record_by (is_set reverse) o.number o ws recorded
 
-  pub record-refused : a ≡ Refused → (record_left 5 ws after recorded ≡ record_to ws slice reverse v recorded) × both.Untouched (both.start_of (is_set reverse)) slice after
+  pub record-refused : (r : Refusal) (n : ℕ) → a ≡ Err r → n ≡ number_of r
+      → (record_left n ws after recorded ≡ record_to ws slice reverse v recorded) × both.Untouched (both.start_of (is_set reverse)) slice after
   unfolding record_to direction.outcome left_by
-  record-refused told = (ap left_by (from_answer Refused told), got.1)
+  record-refused r n told number = (
+    ap (λ (m : ℕ). record_left m ws after recorded) number
+        ∙ refused (number_of r) (both.in_both (directions_at ws) (is_set reverse) (direction.left (number_of r) false (both.own (directions_at ws) (is_set reverse)) after)) (some_number r)
+        ∙ ap left_by (from_answer (Err r) told),
+    got.1,
+  )
+    where
+      refused : (n : ℕ) (o : both.Outcome) → (n ≡ 0 → ⊥) → record_left n ws o.slice recorded ≡ record_by (is_set reverse) n o ws recorded
+      refused zero o some = absurd (some refl)
+      refused (suc n) o some = refl
 
-  pub record_sums : a ≡ SumsFull → (record_left 4 ws after recorded ≡ record_to ws slice reverse v recorded) × both.Untouched (both.start_of (is_set reverse)) slice after
+  pub record-full : a ≡ Ok None → (record_left 0 ws after (set recorded 0 0) ≡ record_to ws slice reverse v recorded) × both.Untouched (both.start_of (is_set reverse)) slice after
   unfolding record_to direction.outcome left_by
-  record_sums told = (ap left_by (from_answer SumsFull told), got.1)
+  record-full told = (ap left_by (from_answer (Ok None) told), got.1)
 
-  pub record-full : a ≡ Full → (record_left 0 ws after (set recorded 0 0) ≡ record_to ws slice reverse v recorded) × both.Untouched (both.start_of (is_set reverse)) slice after
-  unfolding record_to direction.outcome left_by
-  record-full told = (ap left_by (from_answer Full told), got.1)
-
-  pub record-counted : (next : OwdDirection) (words : List ℕ) → a ≡ Counted next → words ≡ sets ws (words_start (is_set reverse)) (direction_words next)
+  pub record-counted : (next : OwdDirection) (words : List ℕ) → a ≡ Ok (Some next) → words ≡ sets ws (words_start (is_set reverse)) (direction_words next)
       → (record_left 0 words after (set recorded 0 1) ≡ record_to ws slice reverse v recorded) × both.Untouched (both.start_of (is_set reverse)) slice after
   unfolding record_to direction.outcome left_by
   record-counted next words told h = (
     ap (λ (l : List ℕ). record_left 0 l after (set recorded 0 1)) (h ∙ ap (λ (x : OwdDirection). sets ws (words_start (is_set reverse)) (direction_words x)) (sym (own_again (directions_at ws) (is_set reverse) next)))
-        ∙ ap left_by (from_answer (Counted next) told),
+        ∙ ap left_by (from_answer (Ok (Some next)) told),
     got.1,
   )
 
@@ -182,14 +190,14 @@ module _ (ws slice after recorded : List ℕ) (reverse v : ℕ) (back : Bool) (w
   unfolding direction.outcome
   record_tried words t was tried h =
       let got = subst (λ (b : Bool). TriedOwn b d slice back v after) was tried in
-      record-counted ws slice after recorded reverse v d (Counted (more d before.negative high low)) (is ∙ ap (both.own (directions_at ws)) way)
+      record-counted ws slice after recorded reverse v d (Ok (Some (more d before.negative high low))) (is ∙ ap (both.own (directions_at ws)) way)
       (told got, subst (λ (b : Bool). both.Untouched (both.start_of b) slice after) way got.2) (more d before.negative high low) words refl
       (h ∙ ap (λ (x : OwdDirection). more_words ws (words_start back) (x.quantiles.count + 1) before.negative high low) is
       ∙ sym (six_own ws back before.negative high low)
       ∙ ap (λ (x : OwdDirection). sets ws (words_start back) (direction_words (more x before.negative high low))) (sym is)
       ∙ ap (λ (b : Bool). sets ws (words_start b) (direction_words (more d before.negative high low))) way)
     where
-      told : TriedOwn true d slice back v after → direction.outcome d (Counted (more d before.negative high low)) after ≡ both.record_own d slice (is_set reverse) v
+      told : TriedOwn true d slice back v after → direction.outcome d (Ok (Some (more d before.negative high low))) after ≡ both.record_own d slice (is_set reverse) v
       told got = ap (λ (x : OwdDirection). direction.left 0 true x after) grown_more ∙ got.1 ∙ ap (λ (b : Bool). both.record_own d slice b v) way
 
 -- what the test of the sum tells

@@ -17,7 +17,7 @@ use Rattle.directions.specs.declared.Directions.{Directions}
 use Rattle.directions.specs.Direction as direction
 use Rattle.directions.specs.Directions as both
 use Rattle.host_summary.proofs.Twelve.{twelve}
-use Rattle.spread_meaning.specs.Ways.{Shows, Call, Kept, played, served}
+use Rattle.spread_meaning.specs.Ways.{Shows, Call, played, served}
 use Rattle.spread_meaning.proofs.Ways.{played-shows}
 use Rattle.host_directions.specs.Words.{directions_at, words_start, direction_words, directions_words}
 use Rattle.host_directions.specs.Calls.{fresh_to, record_by, record_to}

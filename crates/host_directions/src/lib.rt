@@ -1,6 +1,8 @@
 // The host's calls for one-way delays in both directions (crate directions). Both are twelve lent words: the forward direction's count, least and
 // greatest sample, 1 where its sum is negative, and the sum's magnitude, high word first; then the reverse direction's. An i64 is its two's
 // complement word.
+#![tactic(auto)]
+
 ghost use Rattle.std.specs.Prelude.{◌≡◌, ◌+◌, ◌≤◌, get_or};
 ghost use Rattle.std.proofs.lemmas.List.Edits.{sets};
 ghost use Rattle.directions.specs.Directions.{start_of, own, Untouched};
@@ -9,7 +11,7 @@ ghost use Rattle.host_directions.specs.Words.{directions_at, words_start, direct
 ghost use Rattle.host_directions.specs.Calls.{words_left, fresh_to, record_left, record_to, show_to};
 
 use delays::Sum;
-use directions::{Directions, OwdDirection, Recording};
+use directions::{Directions, OwdDirection};
 use quantiles::Quantiles;
 
 fn store(words: &mut [u64; 12], directions: Directions)
@@ -120,13 +122,12 @@ fn record_any(
     let own = load_own(directions, back);
     let answer = directions::record_own(own, slice, back, value);
     match answer {
-        Recording::Refused => limits::WRONG_ROOM,
-        Recording::SumsFull => limits::COUNTS_FULL,
-        Recording::Full => {
+        Err(refusal) => u8::from(refusal),
+        Ok(None) => {
             recorded[0] = 0;
             0
         }
-        Recording::Counted(next) => {
+        Ok(Some(next)) => {
             store_own(directions, back, next);
             recorded[0] = 1;
             0

@@ -1,4 +1,5 @@
 -- What the proofs of the calls cite. Assumes nothing.
+use Rattle.std.specs.Prelude.{Result, Ok, Err}
 use mathlib.Core.Path.{◌≡◌, refl, sym, ap, subst, ◌∙◌}
 use mathlib.Core.Bool.{Bool, true, false}
 use mathlib.Core.List.{List}
@@ -11,27 +12,27 @@ use Rattle.estimate.specs.declared.ClockFormat.{ClockFormat}
 use Rattle.estimate.specs.declared.ErrorEstimate.{ErrorEstimate}
 use Rattle.estimate.specs.declared.Reading.{Reading}
 use Rattle.estimate.specs.declared.Reading.TheVariants.{Known, Invalid}
-use Rattle.estimate.specs.declared.Made.{Made}
-use Rattle.estimate.specs.declared.Made.TheVariants as made
+use Rattle.limits.specs.declared.Refusal.{Refusal}
+use Rattle.limits.specs.Numbers.{number_of}
 use Rattle.estimate.specs.Wire.{estimate_of, wire_of}
 use Rattle.estimate.specs.Make.{is_ptp, format_of, made_of, smallest}
 use Rattle.estimate.specs.Error.{InSeconds, reading_of, ExactMs, InMs}
 use Rattle.host_estimate.specs.Calls.{left, wire_after, new_to, unsynchronized_to, parts_of, parts_to, left_seconds, seconds_to, Seconds, left_reading, reading_after, reading_to, ReadingLeft}
 
 pub new-made :
-    (synchronized ptp scale multiplier : ℕ) (wire : List ℕ) (m : Made) (e : ErrorEstimate) (w : ℕ)
-    → m ≡ made_of (is_set synchronized) (is_set ptp) scale multiplier → m ≡ made.Estimate e → w ≡ wire_of e
+    (synchronized ptp scale multiplier : ℕ) (wire : List ℕ) (m : Result ErrorEstimate Refusal) (e : ErrorEstimate) (w : ℕ)
+    → m ≡ made_of (is_set synchronized) (is_set ptp) scale multiplier → m ≡ Ok e → w ≡ wire_of e
     → left 0 (set wire 0 w) ≡ new_to synchronized ptp scale multiplier wire
 unfolding new_to
 new-made synchronized ptp scale multiplier wire m e w is told bits =
-    ap (λ (n : ℕ). left 0 (set wire 0 n)) bits ∙ ap (λ (x : Made). wire_after x wire) (sym told ∙ is)
+    ap (λ (n : ℕ). left 0 (set wire 0 n)) bits ∙ ap (λ (x : Result ErrorEstimate Refusal). wire_after x wire) (sym told ∙ is)
 
 pub new-refused :
-    (synchronized ptp scale multiplier : ℕ) (wire : List ℕ) (m : Made) (n : ℕ)
-    → m ≡ made_of (is_set synchronized) (is_set ptp) scale multiplier → m ≡ made.Refused n
+    (synchronized ptp scale multiplier : ℕ) (wire : List ℕ) (m : Result ErrorEstimate Refusal) (why : Refusal) (n : ℕ)
+    → m ≡ made_of (is_set synchronized) (is_set ptp) scale multiplier → m ≡ Err why → n ≡ number_of why
     → left n wire ≡ new_to synchronized ptp scale multiplier wire
 unfolding new_to
-new-refused synchronized ptp scale multiplier wire m n is told = ap (λ (x : Made). wire_after x wire) (sym told ∙ is)
+new-refused synchronized ptp scale multiplier wire m why n is told by = ap (λ (k : ℕ). left k wire) by ∙ ap (λ (x : Result ErrorEstimate Refusal). wire_after x wire) (sym told ∙ is)
 
 format_again : (b : Bool) → is_ptp (format_of b) ≡ b
 format_again true = refl

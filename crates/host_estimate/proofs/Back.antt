@@ -1,4 +1,5 @@
 -- What a host makes is what it reads back, and a refusal leaves its word alone. Assumes nothing.
+use Rattle.std.specs.Prelude.{Result}
 use mathlib.Core.Path.{◌≡◌, refl, ap, ◌∙◌}
 use mathlib.Core.Bool.{Bool, true, false}
 use mathlib.Core.List.{List}
@@ -8,10 +9,10 @@ use lib.Ieee.{Float}
 use lib.ListN.{length, get_or, set}
 use lib.Seq.{get_or-set_same}
 use Rattle.limits.specs.Refusals.{out_of_range}
+use Rattle.limits.specs.declared.Refusal.{Refusal}
 use Rattle.host_numbers.specs.Numbers.{flag_word, is_set}
 use Rattle.host_numbers.proofs.Back.{flag_again}
 use Rattle.estimate.specs.declared.ErrorEstimate.{ErrorEstimate}
-use Rattle.estimate.specs.declared.Made.{Made}
 use Rattle.estimate.specs.Wire.{estimate_of, wire_of}
 use Rattle.estimate.specs.Make.{made_of, in_range_lem, above_range}
 use Rattle.estimate.specs.RoundTrip.{wire_back, estimate_back}
@@ -23,13 +24,13 @@ use Rattle.host_estimate.specs.Calls.{Left, left, wire_after, new_to, reading_af
 pub served : (synchronized ptp scale multiplier : ℕ) (wire : List ℕ) → scale ≤ 63
     → new_to synchronized ptp scale multiplier wire ≡ left 0 (set wire 0 (wire_of (record { synchronized = is_set synchronized; ptp = is_set ptp; scale = scale; multiplier = multiplier })))
 unfolding new_to
-served synchronized ptp scale multiplier wire h = ap (λ (m : Made). wire_after m wire) (in_range_lem (is_set synchronized) (is_set ptp) scale multiplier h)
+served synchronized ptp scale multiplier wire h = ap (λ (m : Result ErrorEstimate Refusal). wire_after m wire) (in_range_lem (is_set synchronized) (is_set ptp) scale multiplier h)
 
 -- any other is refused, and the lent word stays
 pub refused-unchanged : (synchronized ptp scale multiplier : ℕ) (wire : List ℕ) → 63 < scale
     → new_to synchronized ptp scale multiplier wire ≡ left out_of_range wire
 unfolding new_to
-refused-unchanged synchronized ptp scale multiplier wire h = ap (λ (m : Made). wire_after m wire) (above_range (is_set synchronized) (is_set ptp) scale multiplier h)
+refused-unchanged synchronized ptp scale multiplier wire h = ap (λ (m : Result ErrorEstimate Refusal). wire_after m wire) (above_range (is_set synchronized) (is_set ptp) scale multiplier h)
 
 -- the word that a served call leaves says the estimate that was asked for
 pub made_is_read : (synchronized ptp scale multiplier : ℕ) (wire : List ℕ) → length wire ≡ 1 → scale ≤ 63 → multiplier < 256

@@ -1,5 +1,5 @@
 -- What each call of an estimate answers and leaves in the lent words, by the definitions of crate estimate. Assumes nothing.
-use Rattle.std.specs.Prelude.{◌≡◌, false, List, [], ◌∷◌, ℕ, ◌*◌, ◌^◌, Float, set}
+use Rattle.std.specs.Prelude.{◌≡◌, false, List, [], ◌∷◌, ℕ, ◌*◌, ◌^◌, Float, set, Result, Ok, Err}
 use Rattle.std.specs.Float.{binary64}
 use Rattle.std.specs.Float.Ieee.{of_bits, round}
 use Rattle.std.proofs.lemmas.List.Edits.{sets}
@@ -7,8 +7,8 @@ use Rattle.host_numbers.specs.Numbers.{flag_word, is_set}
 use Rattle.estimate.specs.declared.ErrorEstimate.{ErrorEstimate}
 use Rattle.estimate.specs.declared.Reading.{Reading}
 use Rattle.estimate.specs.declared.Reading.TheVariants.{Known, Invalid}
-use Rattle.estimate.specs.declared.Made.{Made}
-use Rattle.estimate.specs.declared.Made.TheVariants as made
+use Rattle.limits.specs.declared.Refusal.{Refusal}
+use Rattle.limits.specs.Numbers.{number_of}
 use Rattle.estimate.specs.Wire.{estimate_of, wire_of}
 use Rattle.estimate.specs.Make.{made_of, smallest}
 use Rattle.estimate.specs.Error.{InSeconds, reading_of, ExactMs}
@@ -23,9 +23,9 @@ abbrev pub left : ℕ → List ℕ → Left
 left n ws = record { number = n; words = ws }
 
 -- an estimate that was made leaves its 16 bits; a refusal leaves the lent word as it was
-abbrev pub wire_after : Made → List ℕ → Left
-wire_after (made.Estimate e) wire = left 0 (set wire 0 (wire_of e))
-wire_after (made.Refused n) wire = left n wire
+abbrev pub wire_after : Result ErrorEstimate Refusal → List ℕ → Left
+wire_after (Ok e) wire = left 0 (set wire 0 (wire_of e))
+wire_after (Err why) wire = left (number_of why) wire
 
 -- `new`
 unfoldable pub new_to : ℕ → ℕ → ℕ → ℕ → List ℕ → Left

@@ -1,18 +1,8 @@
 // The host's calls of crate estimate. An estimate crosses as the 16 bits of the wire; a flag as a number, 0 for no and anything else for yes.
 ghost use Rattle.std.specs.Prelude.{◌≡◌};
-ghost use Rattle.estimate.specs.Make.{format_of};
 ghost use Rattle.host_estimate.specs.Calls.{left, new_to, unsynchronized_to, parts_to, Seconds, ReadingLeft};
 
-use estimate::{ClockFormat, ErrorEstimate, Made, Reading};
-
-fn format_of(ptp: bool) -> ClockFormat
-    ensures { result ≡ format_of ptp }
-{
-    if ptp {
-        return ClockFormat::PTP;
-    }
-    ClockFormat::NTP
-}
+use estimate::{ErrorEstimate, Reading, format_of};
 
 // Makes an estimate: its 16 bits. A scale above 63 is refused.
 #[unsafe(no_mangle)]
@@ -27,11 +17,11 @@ pub extern "C" fn ambrulicciu_estimate_new(
 {
     let made = ErrorEstimate::new(synchronized != 0, ptp != 0, scale, multiplier);
     match made {
-        Made::Estimate(estimate) => {
+        Ok(estimate) => {
             wire[0] = estimate.to_wire();
             0
         }
-        Made::Refused(number) => number,
+        Err(why) => u8::from(why),
     }
 }
 

@@ -1,4 +1,6 @@
 -- What a matched follow-up leaves in the three words of its slot. Assumes nothing.
+use Rattle.correlation.specs.Class.{Class}
+use Rattle.std.specs.Prelude.{Option, Some, None, Ok}
 use mathlib.Core.Path.{◌≡◌, refl, sym, ap, ◌∙◌}
 use mathlib.Core.Bool.{Bool, true, false, not, ◌&&◌, false≢true, and-eq-true_iff}
 use mathlib.Core.List.{List, [], ◌∷◌}
@@ -14,16 +16,8 @@ use borrow.Author.Tests.{eqb-true, eqb-false, eq-eqb, ne_eqb, not-true}
 use Rattle.estimate.specs.declared.ClockFormat.{ClockFormat}
 use Rattle.estimate.specs.Make.{is_ptp}
 use Rattle.ranges.specs.Ranges.{time_within}
-use Rattle.call_types.specs.declared.Time.{Time}
-use Rattle.call_types.specs.declared.Time.TheVariants as time
 use Rattle.correlation.specs.declared.ReplyRecord.{ReplyRecord}
 use Rattle.correlation.specs.declared.Slot.{Slot}
-use Rattle.correlation.specs.declared.Unique.{Unique}
-use Rattle.correlation.specs.declared.Unique.TheVariants as unique
-use Rattle.correlation.specs.declared.Wires.{Wires}
-use Rattle.correlation.specs.declared.Wires.TheVariants as wires
-use Rattle.correlation.specs.declared.follow.Class.{Class}
-use Rattle.correlation.specs.declared.follow.Class.TheVariants as class
 use Rattle.correlation.specs.declared.follow.Match.{Match}
 use Rattle.correlation.specs.Words.{bit, flag, part, timed, estimated, joined, words_by, words_of, time_by, format_by, wires_by, unique_by, slot_by, slot_of}
 use Rattle.correlation.specs.Slots.{corrected_slot}
@@ -37,19 +31,19 @@ module _ (word : ℕ) (s : Slot) where
   abbrev rest : Bool
   rest = eqb (word / 2 ^ 22 % 1024) 0
 
-  abbrev by : Unique → Bool
+  abbrev by : Option ReplyRecord → Bool
   by u = has_all u && not s.corrected && rest
 
-  pub no_record : s.unique ≡ unique.Absent → false ≡ whole word s
+  pub no_record : s.unique ≡ None → false ≡ whole word s
   no_record e = sym (ap by e)
 
-  pub no_time : (r : ReplyRecord) → s.unique ≡ unique.Record r → r.t4 ≡ time.Absent → false ≡ whole word s
+  pub no_time : (r : ReplyRecord) → s.unique ≡ Some r → r.t4 ≡ None → false ≡ whole word s
   no_time r e t = sym (ap by e ∙ (λ i. timed (t i) && estimated r.quality && not s.corrected && rest))
 
-  pub no_estimates : (r : ReplyRecord) (z : ℤ) → s.unique ≡ unique.Record r → r.t4 ≡ time.Nanoseconds z → r.quality ≡ wires.Absent → false ≡ whole word s
+  pub no_estimates : (r : ReplyRecord) (z : ℤ) → s.unique ≡ Some r → r.t4 ≡ Some z → r.quality ≡ None → false ≡ whole word s
   no_estimates r z e t q = sym (ap by e ∙ (λ i. timed (t i) && estimated (q i) && not s.corrected && rest))
 
-  pub has_all_lem : (r : ReplyRecord) (z : ℤ) (a b : ℕ) → s.unique ≡ unique.Record r → r.t4 ≡ time.Nanoseconds z → r.quality ≡ wires.Pair a b
+  pub has_all_lem : (r : ReplyRecord) (z : ℤ) (a b : ℕ) → s.unique ≡ Some r → r.t4 ≡ Some z → r.quality ≡ Some (a, b)
       → (not s.corrected && rest) ≡ whole word s
   has_all_lem r z a b e t q = sym (ap by e ∙ (λ i. timed (t i) && estimated (q i) && not s.corrected && rest))
 
@@ -190,7 +184,7 @@ module _ (w t r : ℕ) (fw : w < 2 ^ 64) (h : whole w (slot_by w t r) ≡ true) 
       below : (w : ℕ) → w < 2 ^ 64 → w / 2 ^ 17 % 2 ≡ 0 → w + 131072 < 2 ^ 64
       below w h e = omega arith
 
-  record_as : (slot_by w t r).unique ≡ unique.Record (record { quality = wires.Pair (part 32 w) (part 48 w); t4 = time.Nanoseconds (to_z w64 t); format = format_by (flag 20 w); reference = to_z w64 r })
+  record_as : (slot_by w t r).unique ≡ Some (record { quality = Some (part 32 w, part 48 w); t4 = Some (to_z w64 t); format = format_by (flag 20 w); reference = to_z w64 r })
   record_as = λ i. unique_by (set.0 i) (record { quality = wires_by (set.1 i) (part 32 w) (part 48 w); t4 = time_by (set.2 i) t; format = format_by (flag 20 w); reference = to_z w64 r })
 
   first_word : joined (w % 65536) (bit (flag 16 w) + 2) (1 + 2 + 4 * bit (is_ptp (format_by (flag 20 w))) + 8) (part 32 w) (part 48 w) ≡ w + 2 ^ 17
@@ -225,7 +219,7 @@ unfolding slot_of
 held_slot held s e = e
 
 pub corrected_in : (N : ℕ) (c : Class) (m : Match) (slots : List (List ℕ)) (at : ℕ) (held words : List ℕ) (slots' : List (List ℕ))
-    → c ≡ class.Matched m → held ≡ words_at N slots at → words ≡ words_of (corrected_slot (slot_by (get_or held 0 0) (get_or held 1 0) (get_or held 2 0))) → slots' ≡ stored_at N slots at words
+    → c ≡ Ok m → held ≡ words_at N slots at → words ≡ words_of (corrected_slot (slot_by (get_or held 0 0) (get_or held 1 0) (get_or held 2 0))) → slots' ≡ stored_at N slots at words
     → slots' ≡ corrected_at c N slots at
 unfolding slot_of
 corrected_in N c m slots at held words slots' e₁ e₂ e₃ e₄ = rw (e₁, e₄, e₃, e₂)

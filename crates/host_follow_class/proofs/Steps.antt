@@ -8,11 +8,8 @@ use Rattle.call_types.specs.declared.FollowUpTelemetry.{FollowUpTelemetry}
 use Rattle.call_types.specs.declared.ReplyKey.{ReplyKey}
 use Rattle.chains.specs.declared.Ring.{Ring}
 use Rattle.correlation.specs.declared.Slot.{Slot}
-use Rattle.correlation.specs.declared.follow.Class.{Class}
-use Rattle.correlation.specs.declared.follow.Class.TheVariants as class
-use Rattle.correlation.specs.declared.follow.Found.{Found}
 use Rattle.correlation.specs.Words.{slot_of}
-use Rattle.correlation.specs.Class.{found_by, class_of, MatchedInRange}
+use Rattle.correlation.specs.Class.{Class, Found, found_by, class_of, MatchedInRange}
 use Rattle.correlation.proofs.Ranged.{found_in, class_in_lem}
 use Rattle.key_ring.specs.Table.{words_at}
 use Rattle.ledger_steps.specs.Observe.{class_at, corrected_at, holder_of}

@@ -11,24 +11,24 @@ ghost use Rattle.ledger_steps.specs.Observe.{corrected_at};
 ghost use Rattle.host_follow_class.specs.Class.{class_outcome, class_with, class_in};
 ghost use Rattle.host_follow_class.specs.Whole.{whole};
 
-use call_types::{FollowUpTelemetry, Time};
+use call_types::FollowUpTelemetry;
 use chains::Ring;
-use correlation::follow::Class;
-use correlation::{Slot, Unique, Wires};
+use correlation::Slot;
+use correlation::follow::{Match, Miss};
 
 fn is_whole(word: u64, slot: Slot) -> bool
     ensures { result ≡ whole word slot }
 {
     let unique = slot.unique;
-    let Unique::Record(reply) = unique else {
+    let Some(reply) = unique else {
         return false;
     };
     let t4 = reply.t4;
-    let Time::Nanoseconds(_) = t4 else {
+    let Some(_) = t4 else {
         return false;
     };
     let quality = reply.quality;
-    let Wires::Pair(_, _) = quality else {
+    let Some((_, _)) = quality else {
         return false;
     };
     !slot.corrected & (word / 4194304 % 1024 == 0)
@@ -47,18 +47,18 @@ fn corrected_words(word: u64, time: u64, reference: u64, slot: Slot) -> [u64; 3]
 }
 
 // A matched follow-up corrects the slot that stands at `at`.
-fn correct_at(class: Class, slots: &mut [[u64; 3]], at: usize, held: [u64; 3], slot: Slot)
+fn correct_at(
+    class: Result<Match, Miss>,
+    slots: &mut [[u64; 3]],
+    at: usize,
+    held: [u64; 3],
+    slot: Slot,
+)
     requires { (length slots.old ≡ capacity) × (held ≡ words_at capacity slots.old at) × (slot ≡ slot_of held) }
     ensures { slots.new ≡ corrected_at class capacity slots.old at }
 {
-    match class {
-        Class::Unavailable => {}
-        Class::Ambiguous => {}
-        Class::Unmatched => {}
-        Class::Repeated => {}
-        Class::Matched(_) => {
-            key_ring::store(slots, at, corrected_words(held[0], held[1], held[2], slot));
-        }
+    if let Ok(_) = class {
+        key_ring::store(slots, at, corrected_words(held[0], held[1], held[2], slot));
     }
 }
 
@@ -70,7 +70,7 @@ fn class_at(
     own: u32,
     offset: i32,
     telemetry: FollowUpTelemetry,
-) -> Class
+) -> Result<Match, Miss>
     requires { length slots.old ≡ capacity }
     ensures { class_outcome result slots.new ≡ class_with capacity slots.old at own offset telemetry }
 {
@@ -98,7 +98,7 @@ pub fn class_of_follow_up(
     own: u32,
     offset: i32,
     telemetry: FollowUpTelemetry,
-) -> Class
+) -> Result<Match, Miss>
     requires { (length keys.now ≡ capacity) × (length slots.old ≡ capacity) × (length links.now ≡ capacity) × RingFits capacity ring }
     ensures { class_outcome result slots.new ≡ class_in capacity (hash_of secret) (number_hash secret) ring keys.now slots.old links.now own offset telemetry }
 {

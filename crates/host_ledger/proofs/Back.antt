@@ -1,19 +1,15 @@
 -- What is written of each part of a ledger is read back. Assumes nothing.
+use Rattle.std.specs.Prelude.{Option, Some, None}
+use Rattle.delays.specs.declared.Nanoseconds.{Nanoseconds}
 use mathlib.Core.Path.{◌≡◌, refl, sym, ap, ◌∙◌}
 use mathlib.Core.Bool.{Bool, true, false, not, cond}
 use mathlib.Core.List.{List, [], ◌∷◌, ◌++◌}
 use Prim.Native.Nat.{ℕ, ◌+◌, ◌^◌, ◌<◌}
 use native.Mathlib.Omega.{arith}
 use borrow.Author.Tests.{ne_eqb}
-use Rattle.replies.specs.declared.Reflector.{Reflector}
-use Rattle.replies.specs.declared.Reflector.TheVariants as reflector
 use Rattle.replies.specs.declared.Replies.{Replies}
-use Rattle.delays.specs.declared.Extreme.{Extreme}
-use Rattle.delays.specs.declared.Extreme.TheVariants as extreme
 use Rattle.delays.specs.declared.Delays.{Delays}
 use Rattle.direct.specs.declared.Epoch.{Epoch}
-use Rattle.direct.specs.declared.Window.{Window}
-use Rattle.direct.specs.declared.Window.TheVariants.{Closed, Open}
 use Rattle.direct.specs.declared.Direct.{Direct}
 use Rattle.follow_ups.specs.declared.FollowUps.{FollowUps}
 use Rattle.ledger_state.specs.declared.Secret.{Secret}
@@ -58,22 +54,22 @@ numbered n = ap not (ne_eqb (n + 2 ^ 32) 0 (never n))
     never : (n : ℕ) → n + 2 ^ 32 ≡ 0 → ⊥
     never n h = omega arith
 
-pub reflector_kept : (n : ℕ) → lower (n + 2 ^ 32) ≡ n → ReflectorKept (reflector.Number n)
+pub reflector_kept : (n : ℕ) → lower (n + 2 ^ 32) ≡ n → ReflectorKept (Some n)
 reflector_kept n again =
-    ap (λ (b : Bool). cond b (reflector.Number (lower (n + 2 ^ 32))) reflector.Absent) (numbered n) ∙ ap reflector.Number again
+    ap (λ (b : Bool). cond b (Some (lower (n + 2 ^ 32))) None) (numbered n) ∙ ap Some again
 
-pub reflector_again : (n : ℕ) → n < 2 ^ 32 → ReflectorKept (reflector.Number n)
+pub reflector_again : (n : ℕ) → n < 2 ^ 32 → ReflectorKept (Some n)
 reflector_again n h = reflector_kept n (omega arith)
 
 -- ---- delays: of every value, whatever its numbers
 
-extreme_by : (negative : Bool) (magnitude : ℕ) → extreme_of (1 + flag_word negative) magnitude ≡ extreme.At (record { negative = negative; magnitude = magnitude })
+extreme_by : (negative : Bool) (magnitude : ℕ) → extreme_of (1 + flag_word negative) magnitude ≡ Some (record { negative = negative; magnitude = magnitude })
 extreme_by true magnitude = refl
 extreme_by false magnitude = refl
 
-pub extreme_again : (e : Extreme) → extreme_of (extreme_kind e) (extreme_magnitude e) ≡ e
-extreme_again extreme.Absent = refl
-extreme_again (extreme.At ns) = extreme_by ns.negative ns.magnitude
+pub extreme_again : (e : Option Nanoseconds) → extreme_of (extreme_kind e) (extreme_magnitude e) ≡ e
+extreme_again None = refl
+extreme_again (Some ns) = extreme_by ns.negative ns.magnitude
 
 pub delays_again : (d : Delays) → delays_at 0 (delays_words d) ≡ d
 unfolding delays_of delays_words
@@ -86,13 +82,13 @@ delays_again d = λ i. record {
 
 -- ---- direct loss
 
-pub closed_kept : WindowKept Closed
+pub closed_kept : WindowKept None
 unfolding window_at
 closed_kept = refl
 
-pub open_kept : (e : Epoch) (anchor transmitted latest maxima seen : ℕ) → EpochSaid e anchor transmitted latest maxima seen → WindowKept (Open e)
+pub open_kept : (e : Epoch) (anchor transmitted latest maxima seen : ℕ) → EpochSaid e anchor transmitted latest maxima seen → WindowKept (Some e)
 unfolding window_at
-open_kept e anchor transmitted latest maxima seen h = ap (λ (ws : List ℕ). window_at 0 (1 ∷ ws)) (sym h.said) ∙ ap Open h.kept
+open_kept e anchor transmitted latest maxima seen h = ap (λ (ws : List ℕ). window_at 0 (1 ∷ ws)) (sym h.said) ∙ ap Some h.kept
 
 pub direct-kept : (d : Direct) → WindowKept d.window → DirectKept d
 unfolding direct_at direct_words window_at

@@ -1,8 +1,7 @@
 -- The words that each call leaves: those that it changes are those of the next ledger, and the others stay. Assumes nothing.
-use Rattle.std.specs.Prelude.{cond, List, ◌∷◌, ◌++◌, ℕ, eqb, get_or, set, replicate}
+use Rattle.call_types.specs.declared.CounterPoint.{CounterPoint}
+use Rattle.std.specs.Prelude.{cond, List, ◌∷◌, ◌++◌, ℕ, eqb, get_or, set, replicate, Option, Some, None}
 use Rattle.std.proofs.lemmas.List.Edits.{sets}
-use Rattle.call_types.specs.declared.Counters.{Counters}
-use Rattle.call_types.specs.declared.Counters.TheVariants.{Absent, Point}
 use Rattle.direct.specs.declared.Direct.{Direct}
 use Rattle.follow_ups.specs.declared.FollowUps.{FollowUps}
 use Rattle.ledger_state.specs.declared.Secret.{Secret}
@@ -33,16 +32,16 @@ accepted_words w l =
     place.evicted_unanswered l.counts.replies.evicted.unanswered
 
 -- direct loss is stored where counters were told
-abbrev pub direct_stored : Counters → List ℕ → Direct → List ℕ
-direct_stored Absent w d = w
-direct_stored (Point c) w d = sets w place.direct (direct_words d)
+abbrev pub direct_stored : Option CounterPoint → List ℕ → Direct → List ℕ
+direct_stored None w d = w
+direct_stored (Some c) w d = sets w place.direct (direct_words d)
 
 -- of the follow-ups the counts are stored; delays and clock quality only where one matched, which the count says
 abbrev pub follow_stored : List ℕ → FollowUps → List ℕ
 follow_stored w f = cond (eqb f.counts.matched (get_or w place.matched 0)) (sets w place.follow_ups (follow_counts_words f.counts)) (sets w place.follow_ups (follow_words f))
 
 -- `observe`: calls, that no key awaits, round trips, direct loss and follow-ups
-unfoldable pub observed_words : Counters → List ℕ → Ledger → List ℕ
+unfoldable pub observed_words : Option CounterPoint → List ℕ → Ledger → List ℕ
 observed_words told w l =
     follow_stored
     (direct_stored told (sets (set (set w place.calls l.calls) place.awaits (flag_word l.tables.awaits)) place.trips (delays_words l.counts.rtt)) l.counts.direct)

@@ -1,17 +1,12 @@
 -- The parts of a ledger in words: what any words say, and the words of a value. What is absent is 0, a flag is 0 or 1 and read as set where it
 -- is not 0, two u32 share a word, the first in its lower half. `..At at w` reads the words of w from place `at` on.
 -- `..Kept` says that a value is read back from its words, as every value is that fits its type (proofs/Back.antt). Assumes nothing.
-use Rattle.std.specs.Prelude.{◌≡◌, Bool, true, false, cond, List, [], ◌∷◌, ◌++◌, ℕ, ◌+◌, ◌%◌, ◌^◌, eqb, get_or}
+use Rattle.delays.specs.declared.Nanoseconds.{Nanoseconds}
+use Rattle.std.specs.Prelude.{◌≡◌, Bool, true, false, cond, List, [], ◌∷◌, ◌++◌, ℕ, ◌+◌, ◌%◌, ◌^◌, eqb, get_or, Option, Some, None}
 use Rattle.call_types.specs.declared.CounterPoint.{CounterPoint}
-use Rattle.replies.specs.declared.Reflector.{Reflector}
-use Rattle.replies.specs.declared.Reflector.TheVariants as reflector
 use Rattle.replies.specs.declared.Replies.{Replies}
-use Rattle.delays.specs.declared.Extreme.{Extreme}
-use Rattle.delays.specs.declared.Extreme.TheVariants as extreme
 use Rattle.delays.specs.declared.Delays.{Delays}
 use Rattle.direct.specs.declared.Epoch.{Epoch}
-use Rattle.direct.specs.declared.Window.{Window}
-use Rattle.direct.specs.declared.Window.TheVariants.{Closed, Open}
 use Rattle.direct.specs.declared.Direct.{Direct}
 use Rattle.follow_ups.specs.declared.FollowCounts.{FollowCounts}
 use Rattle.follow_ups.specs.declared.FollowUps.{FollowUps}
@@ -45,16 +40,16 @@ SecretKept s = secret_at 0 (secret_words s) ≡ s
 -- ---- the counts of replies, fourteen words and one elsewhere; a reflector number has bit 32 set, so that number 0 is not none
 
 -- a reflector number, last or highest, as its word says it: none where the word is 0, else the lower half
-abbrev pub reflector_of : ℕ → Reflector
-reflector_of word = cond (is_set word) (reflector.Number (lower word)) reflector.Absent
+abbrev pub reflector_of : ℕ → Option ℕ
+reflector_of word = cond (is_set word) (Some (lower word)) None
 
 -- its word: 0 for none, else the number with bit 32 set
-abbrev pub reflector_word : Reflector → ℕ
-reflector_word reflector.Absent = 0
-reflector_word (reflector.Number n) = n + 2 ^ 32
+abbrev pub reflector_word : Option ℕ → ℕ
+reflector_word None = 0
+reflector_word (Some n) = n + 2 ^ 32
 
 -- this number, or none, is read back from its word
-abbrev pub ReflectorKept : Reflector → Type 0
+abbrev pub ReflectorKept : Option ℕ → Type 0
 ReflectorKept n = reflector_of (reflector_word n) ≡ n
 
 -- from `at` on: four totals, four counts of answers, four words on reflector numbers, two of evictions; at `lost` the probes evicted unanswered
@@ -77,18 +72,18 @@ replies_words r =
 -- ---- delays, eight words: the count, the sum's sign and two words, the kind and the magnitude of the smallest and of the largest
 
 -- kind 0: none; 2: a negative one; any other: one that is not
-abbrev pub extreme_of : ℕ → ℕ → Extreme
-extreme_of kind magnitude = cond (is_set kind) (extreme.At (record { negative = eqb kind 2; magnitude = magnitude })) extreme.Absent
+abbrev pub extreme_of : ℕ → ℕ → Option Nanoseconds
+extreme_of kind magnitude = cond (is_set kind) (Some (record { negative = eqb kind 2; magnitude = magnitude })) None
 
 -- the kind of a smallest or largest delay: 0 where there is none, 1 not negative, 2 negative
-abbrev pub extreme_kind : Extreme → ℕ
-extreme_kind extreme.Absent = 0
-extreme_kind (extreme.At ns) = 1 + flag_word ns.negative
+abbrev pub extreme_kind : Option Nanoseconds → ℕ
+extreme_kind None = 0
+extreme_kind (Some ns) = 1 + flag_word ns.negative
 
 -- its magnitude in ns, 0 where there is none
-abbrev pub extreme_magnitude : Extreme → ℕ
-extreme_magnitude extreme.Absent = 0
-extreme_magnitude (extreme.At ns) = ns.magnitude
+abbrev pub extreme_magnitude : Option Nanoseconds → ℕ
+extreme_magnitude None = 0
+extreme_magnitude (Some ns) = ns.magnitude
 
 -- of these eight numbers; the sum is a sign (negative where it is not 0), then the high word and the low one
 unfoldable pub delays_of : ℕ → ℕ → ℕ → ℕ → ℕ → ℕ → ℕ → ℕ → Delays
@@ -138,17 +133,17 @@ pub record EpochSaid (e : Epoch) (anchor transmitted latest maxima seen : ℕ) :
   pub kept : epoch_of anchor transmitted latest maxima seen ≡ e
 
 -- in six words from `at` on: 0 where there is no anchor, whatever follows; else what is known since the anchor
-unfoldable pub window_at : ℕ → List ℕ → Window
+unfoldable pub window_at : ℕ → List ℕ → Option Epoch
 window_at at w =
-    cond (is_set (get_or w at 0)) (Open (epoch_of (get_or w (at + 1) 0) (get_or w (at + 2) 0) (get_or w (at + 3) 0) (get_or w (at + 4) 0) (get_or w (at + 5) 0))) Closed
+    cond (is_set (get_or w at 0)) (Some (epoch_of (get_or w (at + 1) 0) (get_or w (at + 2) 0) (get_or w (at + 3) 0) (get_or w (at + 4) 0) (get_or w (at + 5) 0))) None
 
 -- its six words: 1 and the five of what is known since the anchor, or zeros without one
-abbrev pub window_words : Window → List ℕ
-window_words Closed = 0 ∷ 0 ∷ 0 ∷ 0 ∷ 0 ∷ 0 ∷ []
-window_words (Open e) = 1 ∷ epoch_words e
+abbrev pub window_words : Option Epoch → List ℕ
+window_words None = 0 ∷ 0 ∷ 0 ∷ 0 ∷ 0 ∷ 0 ∷ []
+window_words (Some e) = 1 ∷ epoch_words e
 
 -- what is known since the anchor, or that there is none, is read back from its words
-abbrev pub WindowKept : Window → Type 0
+abbrev pub WindowKept : Option Epoch → Type 0
 WindowKept x = window_at 0 (window_words x) ≡ x
 
 -- from `at` on: observations, unavailable, discontinuities, reordered, history exceeded, then the window

@@ -13,7 +13,7 @@ pub mod places;
 
 use chains::Ring;
 use clock_quality::ClockQuality;
-use direct::{Direct, Window};
+use direct::{Direct, Epoch};
 use follow_ups::{FollowCounts, FollowUps};
 use host_numbers::{both, flag, high, is_set, low};
 use ledger_state::{Counts, Ledger, Secret, Tables};
@@ -94,11 +94,11 @@ pub fn replies_of(state: &[u64; LEDGER_WORDS]) -> Replies
     }
 }
 
-fn window_of(state: &[u64; LEDGER_WORDS]) -> Window
+fn window_of(state: &[u64; LEDGER_WORDS]) -> Option<Epoch>
     ensures { result ≡ window_at place.anchored state.now }
 {
     if is_set(state[places::ANCHORED]) {
-        return Window::Open(epoch_of(
+        return Some(epoch_of(
             state[places::ANCHOR],
             state[places::TRANSMITTED],
             state[places::LATEST],
@@ -106,7 +106,7 @@ fn window_of(state: &[u64; LEDGER_WORDS]) -> Window
             state[places::SEEN],
         ));
     }
-    Window::Closed
+    None
 }
 
 pub fn direct_of(state: &[u64; LEDGER_WORDS]) -> Direct

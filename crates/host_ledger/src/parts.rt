@@ -3,32 +3,31 @@ ghost use Rattle.std.specs.Prelude.{◌≡◌};
 ghost use Rattle.host_ledger.specs.Parts.{reflector_of, extreme_of, extreme_kind, extreme_magnitude, delays_of, point_of, epoch_of, EpochSaid};
 
 use call_types::{CounterPoint, ReflectorRx, ReflectorTx, SenderTx};
-use delays::{Delays, Extreme, Nanoseconds, Sum};
+use delays::{Delays, Nanoseconds, Sum};
 use direct::Epoch;
 use host_numbers::{both, flag, high, is_set, low};
-use replies::Reflector;
 
 // ---- out of their words
 
-pub fn reflector_of(word: u64) -> Reflector
+pub fn reflector_of(word: u64) -> Option<u32>
     ensures { result ≡ reflector_of word }
 {
     if is_set(word) {
-        return Reflector::Number(low(word));
+        return Some(low(word));
     }
-    Reflector::Absent
+    None
 }
 
-fn extreme_of(kind: u64, magnitude: u64) -> Extreme
+fn extreme_of(kind: u64, magnitude: u64) -> Option<Nanoseconds>
     ensures { result ≡ extreme_of kind magnitude }
 {
     if is_set(kind) {
-        return Extreme::At(Nanoseconds {
+        return Some(Nanoseconds {
             negative: kind == 2,
             magnitude,
         });
     }
-    Extreme::Absent
+    None
 }
 
 pub fn delays_of(
@@ -83,21 +82,21 @@ pub fn epoch_of(anchor: u64, transmitted: u64, latest: u64, maxima: u64, seen: u
 
 // ---- and back
 
-pub fn extreme_kind(extreme: Extreme) -> u64
+pub fn extreme_kind(extreme: Option<Nanoseconds>) -> u64
     ensures { result ≡ extreme_kind extreme }
 {
     match extreme {
-        Extreme::Absent => 0,
-        Extreme::At(ns) => 1 + flag(ns.negative),
+        None => 0,
+        Some(ns) => 1 + flag(ns.negative),
     }
 }
 
-pub fn extreme_magnitude(extreme: Extreme) -> u64
+pub fn extreme_magnitude(extreme: Option<Nanoseconds>) -> u64
     ensures { result ≡ extreme_magnitude extreme }
 {
     match extreme {
-        Extreme::Absent => 0,
-        Extreme::At(ns) => ns.magnitude,
+        None => 0,
+        Some(ns) => ns.magnitude,
     }
 }
 

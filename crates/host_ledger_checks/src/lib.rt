@@ -1,7 +1,10 @@
 // What refusals 4 and 5 test of a ledger, and the words of its hash, in its words alone: a ledger that is taken out of its words for a test
 // would stay in registers and on the stack, which is a quarter of a duplicate's time and a tenth of an observe's. `answered`, which takes it out
 // for itself, has `rings_fit` of `ledger_state`.
+#![tactic(auto, unfolding(host_quality::specs::Words::quality_at, host_ledger::specs::Parts::replies_at, host_ledger::specs::Parts::window_at, host_ledger::specs::Parts::direct_at, host_ledger::specs::Parts::follow_at, host_ledger::specs::Words::ledger_at))]
+
 ghost use Rattle.std.specs.Prelude.{◌≡◌, true, ◌&&◌, leb};
+ghost use Rattle.limits.specs.Numbers.{number};
 ghost use Rattle.limits.specs.Limits.{capacity};
 ghost use Rattle.replies.specs.Bounds.{replies_fit};
 ghost use Rattle.delays.specs.Bounds as delays;
@@ -18,7 +21,7 @@ ghost use Rattle.host_ledger.specs.Places as place;
 use chains::Ring;
 use host_ledger::{LEDGER_WORDS, places};
 use host_numbers::{high, is_set, low};
-use limits::COUNT_BOUND;
+use limits::{COUNT_BOUND, Refusal};
 
 // ---- refusal 4
 
@@ -148,17 +151,17 @@ pub fn rings_fit(state: &[u64; LEDGER_WORDS]) -> bool
     seen_fits(state)
 }
 
-// Refusals 5 and 4 of `sent` and of `accept`, 0 where there is none; `sized` is whether the rooms have their size.
-pub fn refusal(state: &[u64; LEDGER_WORDS], sized: bool) -> u8
-    ensures { result ≡ first_refusal (sized && rings_fit (ledger_at state.now)) true true (room_for_call (ledger_at state.now)) true true }
+// Refusals 5 and 4 of `sent` and of `accept`; `sized` is whether the rooms have their size.
+pub fn refusal(state: &[u64; LEDGER_WORDS], sized: bool) -> Option<Refusal>
+    ensures { number result ≡ first_refusal (sized && rings_fit (ledger_at state.now)) true true (room_for_call (ledger_at state.now)) true true }
 {
-    if sized & rings_fit(state) {
-        if room_for_call(state) {
-            return 0;
-        }
-        return limits::COUNTS_FULL;
+    if !(sized && rings_fit(state)) {
+        Some(Refusal::WrongRoom)
+    } else if !room_for_call(state) {
+        Some(Refusal::CountsFull)
+    } else {
+        None
     }
-    limits::WRONG_ROOM
 }
 
 // ---- the hash

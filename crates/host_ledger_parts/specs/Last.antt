@@ -1,6 +1,6 @@
 -- A clock quality without the last estimates of both sides. Assumes nothing.
+use Rattle.std.specs.Prelude.{None}
 use Rattle.clock_quality.specs.declared.ClockQuality.{ClockQuality}
-use Rattle.clock_quality.specs.declared.LastEstimate.TheVariants as last
 
 -- a clock quality with no last estimate of either side
 abbrev pub quality_without_last : ClockQuality → ClockQuality
@@ -13,7 +13,7 @@ quality_without_last q = record {
   invalid_sender = q.invalid_sender;
   invalid_reflector = q.invalid_reflector;
   invalid_both = q.invalid_both;
-  sender = last.Absent;
-  reflector = last.Absent;
+  sender = None;
+  reflector = None;
   largest = q.largest;
 }

@@ -7,9 +7,9 @@ ghost use Rattle.host_ledger.specs.Parts.{delays_at, delays_words, window_words,
 ghost use Rattle.host_ledger_parts.specs.Last.{quality_without_last};
 ghost use Rattle.host_ledger.specs.Places as place;
 
-use clock_quality::{ClockQuality, LastEstimate};
+use clock_quality::ClockQuality;
 use delays::Delays;
-use direct::{Direct, Window};
+use direct::{Direct, Epoch};
 use follow_ups::FollowCounts;
 use host_ledger::parts::{delays_of, epoch_words, extreme_kind, extreme_magnitude};
 use host_ledger::{LEDGER_WORDS, places};
@@ -74,8 +74,8 @@ pub fn quality_without_last(state: &[u64; LEDGER_WORDS]) -> ClockQuality
         invalid_sender: state[places::INVALID_SENDER],
         invalid_reflector: state[places::INVALID_REFLECTOR],
         invalid_both: state[places::INVALID_BOTH],
-        sender: LastEstimate::Absent,
-        reflector: LastEstimate::Absent,
+        sender: None,
+        reflector: None,
         largest,
     }
 }
@@ -114,11 +114,11 @@ pub fn store_delay(state: &mut [u64; LEDGER_WORDS], delays: Delays)
     state[places::DELAY_MAX] = extreme_magnitude(max);
 }
 
-fn store_window(state: &mut [u64; LEDGER_WORDS], window: Window)
+fn store_window(state: &mut [u64; LEDGER_WORDS], window: Option<Epoch>)
     ensures { (state.new ≡ sets state.old place.anchored (window_words window)) × WindowKept window }
 {
     match window {
-        Window::Closed => {
+        None => {
             state[places::ANCHORED] = 0;
             state[places::ANCHOR] = 0;
             state[places::TRANSMITTED] = 0;
@@ -126,7 +126,7 @@ fn store_window(state: &mut [u64; LEDGER_WORDS], window: Window)
             state[places::MAXIMA] = 0;
             state[places::SEEN] = 0;
         }
-        Window::Open(epoch) => {
+        Some(epoch) => {
             let words = epoch_words(epoch);
             state[places::ANCHORED] = 1;
             state[places::ANCHOR] = words.anchor;

@@ -1,5 +1,6 @@
 -- The words that a served `accept` leaves are read back as the library's next ledger.
 -- Assumes nothing.
+use Rattle.std.specs.Prelude.{Option, Some, None}
 use mathlib.Core.Path.{◌≡◌, refl, ap, ◌∙◌}
 use mathlib.Core.Bool.{Bool, true, false, not, cond}
 use mathlib.Core.List.{List}
@@ -10,13 +11,10 @@ use lib.Dec.{eqb, ltb}
 use Rattle.limits.specs.Limits.{capacity}
 use Rattle.call_types.specs.declared.ReplyKey.{ReplyKey}
 use Rattle.call_types.specs.declared.PendingPacket.{PendingPacket}
-use Rattle.call_types.specs.declared.Ordinal.{Ordinal}
 use Rattle.call_types.specs.declared.Reply.{Reply}
 use Rattle.chains.specs.declared.Ring.{Ring}
 use Rattle.chains.specs.Hash.{number_hash}
 use Rattle.key_ring.specs.Table.{hash_of}
-use Rattle.replies.specs.declared.Reflector.{Reflector}
-use Rattle.replies.specs.declared.Reflector.TheVariants.{Absent, Number}
 use Rattle.replies.specs.declared.Replies.{Replies}
 use Rattle.replies.specs.declared.ReplyClass.{ReplyClass}
 use Rattle.replies.specs.declared.ReplyClass.TheVariants as class
@@ -81,7 +79,7 @@ unknown-back w long = counted-by w long (ledger_counted (ledger_at w) (after_unk
 -- ---- a unique reply
 
 -- the counts with other reflector numbers
-abbrev numbered : Replies → Reflector → Reflector → Replies
+abbrev numbered : Replies → Option ℕ → Option ℕ → Replies
 numbered r last highest = record {
   totals = r.totals;
   answers = r.answers;
@@ -108,7 +106,7 @@ highest-by true back high reflector h k = reflector_again high h
 highest-by false true high reflector h k = reflector_again high h
 highest-by false false high reflector h k = reflector_again reflector k
 
-highest_of : (b : Bool) (word reflector : ℕ) → reflector < 2 ^ 32 → ReflectorKept (highest_after (cond b (Number (lower word)) Absent) reflector)
+highest_of : (b : Bool) (word reflector : ℕ) → reflector < 2 ^ 32 → ReflectorKept (highest_after (cond b (Some (lower word)) None) reflector)
 highest_of true word reflector k = highest-by (eqb (step_from (lower word) reflector) 0) (not (ltb (step_from (lower word) reflector) (2 ^ 31))) (lower word) reflector (omega arith) k
 highest_of false word reflector k = reflector_again reflector k
 
@@ -122,7 +120,7 @@ unique-back w long keys probes replies copies pending sender reflector probe los
 
 -- ---- any reply: S is what a call stores, by what the reply is
 module _ (w : List ℕ) (long : length w ≡ 80) (S : Ledger → Accepted → List ℕ) (at-duplicate : (l : Ledger) → S l Duplicate ≡ counted_words w l)
-    (at-unknown : (l : Ledger) → S l Unknown ≡ counted_words w l) (at-unique : (l : Ledger) (packet : PendingPacket) (ordinal : Ordinal) (train : ℕ) → S l (Unique packet ordinal train) ≡ accepted_words w l) where
+    (at-unknown : (l : Ledger) → S l Unknown ≡ counted_words w l) (at-unique : (l : Ledger) (packet : PendingPacket) (ordinal : Option ℕ) (train : ℕ) → S l (Unique packet ordinal train) ≡ accepted_words w l) where
   by_class : (N : ℕ) (by_key : ReplyKey → ℕ) (by_number : ℕ → ℕ) (c : ReplyClass) (keys slots probes links : List (List ℕ)) (at : ℕ) (a : Reply) → a.key.reflector < 2 ^ 32
       → ledger_at (S (accept_by N by_key by_number c (ledger_at w) keys slots probes links at a).ledger (accept_by N by_key by_number c (ledger_at w) keys slots probes links at a).accepted)
       ≡ (accept_by N by_key by_number c (ledger_at w) keys slots probes links at a).ledger

@@ -1,5 +1,8 @@
 -- `accept` of a host is the library's on the link that the words say, with a monitor and without.
 -- Assumes nothing.
+use Rattle.ledger_state.specs.declared.Ledger.{Ledger}
+use Rattle.ledger_steps.specs.declared.Accepted.{Accepted}
+use Rattle.std.specs.Prelude.{Some, Result}
 use mathlib.Core.Path.{◌≡◌, refl, ◌∙◌}
 use mathlib.Core.Bool.{Bool}
 use mathlib.Core.List.{List, []}
@@ -10,13 +13,11 @@ use Rattle.probe_queue.specs.declared.QueuedProbe.{QueuedProbe}
 use Rattle.monitor.specs.declared.Monitor.{Monitor}
 use Rattle.monitor.specs.Refusals as monitor
 use Rattle.monitor.specs.Operations.{reply_if}
-use Rattle.ledger_steps.specs.declared.AcceptAnswer.{AcceptAnswer}
 use Rattle.ledger_steps.specs.Rooms.{Rooms}
 use Rattle.ledger_steps.specs.Refusals.{refusal_of_accept}
 use Rattle.ledger_steps.specs.Accept.{accept_on}
 use Rattle.ledger_steps.specs.Calls.{accept_number, accept_by, accept_to}
 use Rattle.ledger_watched.specs.Watched as watched
-use Rattle.link_steps.specs.declared.Watch.TheVariants.{Present}
 use Rattle.link_steps.specs.Steps.{ledger_of_accept, was_unique, standing, unwatched, refuses, after}
 use Rattle.host_calls.specs.Calls.{reply_of}
 use Rattle.host_ledger.specs.Words.{ledger_at}
@@ -34,7 +35,7 @@ use Rattle.host_link_history.specs.Hosted.{HostWatch, alone, watching, host_link
 use Rattle.host_link_history.proofs.Agreeing.{Agrees}
 
 module _ (w : List ℕ) (long : length w ≡ 80) (keys slots probes links : List (List ℕ)) (a : Reply) (h : a.key.reflector < 2 ^ 32) where
-  abbrev answer_by : ℕ → AcceptAnswer
+  abbrev answer_by : ℕ → Result (Ledger × Accepted) ℕ
   answer_by k = (accept_by k (accept_on (ledger_at w) keys slots probes links a) keys slots probes links).answer
 
   ledger_by : (k : ℕ) → ledger_at (plain.words_after w (answer_by k)) ≡ ledger_of_accept (ledger_at w) (answer_by k)
@@ -88,6 +89,6 @@ accept_agrees ledger long (watching words) rooms queue sender reflector t3 pendi
     let next = reply_if (was_unique r.answer) m queue sender in (
       watched-number_by ledger long rooms.keys rooms.slots rooms.probes rooms.links a h k next.monitor,
       (λ i. standing (watched_ledger_by ledger long rooms.keys rooms.slots rooms.probes rooms.links a h k next.monitor i) (accept_rooms rooms r.keys r.slots r.probes r.links)
-          (record { watch = Present (monitor_by ledger long rooms.keys rooms.slots rooms.probes rooms.links a h words queue k i); queue = next.room })),
+          (record { watch = Some (monitor_by ledger long rooms.keys rooms.slots rooms.probes rooms.links a h words queue k i); queue = next.room })),
       watched-long-by ledger long rooms.keys rooms.slots rooms.probes rooms.links a h k next.monitor,
     )

@@ -1,5 +1,7 @@
 -- `observe` of a host is the library's on the link that the words say, with a monitor and without.
 -- Assumes nothing.
+use Rattle.std.specs.Prelude.{Option, Some, None, Result}
+use Rattle.call_types.specs.declared.CounterPoint.{CounterPoint}
 use mathlib.Core.Path.{◌≡◌, refl, ◌∙◌}
 use mathlib.Core.Bool.{Bool, true, false, cond}
 use mathlib.Core.List.{List}
@@ -7,15 +9,12 @@ use Prim.Native.Nat.{ℕ, zero, suc, ◌<◌, ◌^◌}
 use lib.Dec.{eqb}
 use lib.ListN.{length, set, get_or, length-set}
 use lib.Seq.{sets, length-sets}
-use Rattle.call_types.specs.declared.Counters.{Counters}
-use Rattle.call_types.specs.declared.Counters.TheVariants as counters
 use Rattle.call_types.specs.declared.ReplyObservation.{ReplyObservation}
 use Rattle.direct.specs.declared.Direct.{Direct}
 use Rattle.follow_ups.specs.declared.FollowUps.{FollowUps}
 use Rattle.probe_queue.specs.declared.QueuedProbe.{QueuedProbe}
 use Rattle.reply_history.specs.Fits.{CountersFit}
 use Rattle.ledger_state.specs.declared.Ledger.{Ledger}
-use Rattle.ledger_steps.specs.declared.LedgerAnswer.{LedgerAnswer}
 use Rattle.ledger_steps.specs.Rooms.{Rooms}
 use Rattle.ledger_steps.specs.Refusals.{refusal_of_observe}
 use Rattle.ledger_steps.specs.Observe.{observe_on}
@@ -33,15 +32,15 @@ use Rattle.host_link_history.specs.Hosted.{HostWatch, watch_said, host_link, obs
 use Rattle.host_link_history.proofs.Agreeing.{Agrees}
 
 -- the words that `observe` leaves are as many as before
-long-direct : (told : Counters) (w : List ℕ) (d : Direct) → length (direct_stored told w d) ≡ length w
-long-direct counters.Absent w d = refl
-long-direct (counters.Point c) w d = length-sets w 33 (direct_words d)
+long-direct : (told : Option CounterPoint) (w : List ℕ) (d : Direct) → length (direct_stored told w d) ≡ length w
+long-direct None w d = refl
+long-direct (Some c) w d = length-sets w 33 (direct_words d)
 
 long-follow : (b : Bool) (w : List ℕ) (f : FollowUps) → length (cond b (sets w 44 (follow_counts_words f.counts)) (sets w 44 (follow_words f))) ≡ length w
 long-follow true w f = length-sets w 44 (follow_counts_words f.counts)
 long-follow false w f = length-sets w 44 (follow_words f)
 
-long_after : (told : Counters) (w : List ℕ) (next : Ledger) → length (observed_words told w next) ≡ length w
+long_after : (told : Option CounterPoint) (w : List ℕ) (next : Ledger) → length (observed_words told w next) ≡ length w
 unfolding observed_words
 long_after told w next =
     let first = set w 5 next.calls in
@@ -61,7 +60,7 @@ unfolding observation_at
 counters_of words h = counters-by (flag 4 (flags_at words)) (get_or words 15 0) (get_or words 16 0) (get_or words 17 0) (h 15) (h 16) (h 17)
 
 module _ (w : List ℕ) (long : length w ≡ 80) (keys slots : List (List ℕ)) (offsets : List ℕ) (links : List (List ℕ)) (o : ReplyObservation) (f : CountersFit o.counters) where
-  abbrev answer_by : ℕ → LedgerAnswer
+  abbrev answer_by : ℕ → Result Ledger ℕ
   answer_by k = (observe_by k (observe_on (ledger_at w) keys slots offsets links o) slots offsets links).answer
 
   ledger_by : (k : ℕ) → ledger_at (ledger_after (answer_by k) o.counters w) ≡ ledger_of (ledger_at w) (answer_by k)

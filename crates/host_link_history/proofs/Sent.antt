@@ -1,5 +1,6 @@
 -- `sent` of a host is the library's on the link that the words say, with a monitor and without.
 -- Assumes nothing.
+use Rattle.std.specs.Prelude.{Some, Result}
 use mathlib.Core.Path.{◌≡◌, refl, ◌∙◌}
 use mathlib.Core.Bool.{true}
 use mathlib.Core.List.{List}
@@ -11,14 +12,11 @@ use Rattle.monitor.specs.declared.Monitor.{Monitor}
 use Rattle.monitor.specs.Refusals as monitor
 use Rattle.monitor.specs.Operations.{sent_if}
 use Rattle.ledger_state.specs.declared.Ledger.{Ledger}
-use Rattle.ledger_steps.specs.declared.LedgerAnswer.{LedgerAnswer}
-use Rattle.ledger_steps.specs.declared.LedgerAnswer.TheVariants as answer
 use Rattle.ledger_steps.specs.Rooms.{Rooms}
 use Rattle.ledger_steps.specs.Refusals.{refusal_of_sent}
 use Rattle.ledger_steps.specs.Sent.{sent_on}
 use Rattle.ledger_steps.specs.Calls.{number, sent_by, sent_to}
 use Rattle.ledger_watched.specs.Watched as watched
-use Rattle.link_steps.specs.declared.Watch.TheVariants.{Present}
 use Rattle.link_steps.specs.Steps.{ledger_of, was_served, standing, unwatched, refuses, after}
 use Rattle.host_calls.specs.Calls.{sent_probe_of}
 use Rattle.host_ledger.specs.Words.{ledger_at}
@@ -46,7 +44,7 @@ long_after w next =
     ∙ length-set first 8 next.tables.probes.head ∙ length-set w 5 next.calls
 
 module _ (w : List ℕ) (long : length w ≡ 80) (probes links : List (List ℕ)) (s : SentProbe) where
-  abbrev answer_by : ℕ → LedgerAnswer
+  abbrev answer_by : ℕ → Result Ledger ℕ
   answer_by k = (sent_by k (sent_on (ledger_at w) probes links s) probes links).answer
 
   ledger_by : (k : ℕ) → ledger_at (plain.words_after w (answer_by k)) ≡ ledger_of (ledger_at w) (answer_by k)
@@ -93,6 +91,6 @@ sent_agrees ledger long (watching words) rooms queue sequence ordinal train time
     let next = sent_if (was_served r.answer) m queue sequence time in (
       watched-number_by ledger long rooms.probes rooms.links s k next.monitor,
       (λ i. standing (watched_ledger_by ledger long rooms.probes rooms.links s k next.monitor i) (sent_rooms rooms r.probes r.links)
-          (record { watch = Present (monitor_by ledger long rooms.probes rooms.links s words queue h k i); queue = next.room })),
+          (record { watch = Some (monitor_by ledger long rooms.probes rooms.links s words queue h k i); queue = next.room })),
       watched-long-by ledger long rooms.probes rooms.links s k next.monitor,
     )

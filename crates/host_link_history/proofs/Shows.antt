@@ -1,5 +1,6 @@
 -- What crate link_history proves of a link from fresh holds of a host's words and rooms after its calls, whatever its memory held before.
 -- Assumes nothing.
+use Rattle.std.specs.Prelude.{Some}
 use mathlib.Core.Path.{◌≡◌, refl, sym, ap, subst, ◌∙◌}
 use mathlib.Core.Bool.{Bool, true, false, cond}
 use mathlib.Core.List.{List, map}
@@ -8,7 +9,6 @@ use native.Mathlib.Omega.{arith}
 use lib.ListN.{length}
 use lib.Dec.{eqb}
 use Rattle.ledger_state.specs.State.{at_least_one, secret_of, fresh_ledger}
-use Rattle.link_steps.specs.declared.Watch.TheVariants.{Present}
 use Rattle.link_steps.specs.Steps.{LinkStand, played, served}
 use Rattle.history.specs.Ledger.{copies_of}
 use Rattle.link_history.specs.Fresh.{Watching, alone, watching, Making, MakingFits, fresh_link, AllFits}
@@ -43,7 +43,7 @@ fresh_ledger_lem m ok fits = fresh-back (at_least_one m.copies) (secret_of m.sec
 
 fresh_watch_lem : (v : Watching) → ThresholdFits v → watch_said (fresh_watch v) ≡ history.fresh_watch v
 fresh_watch_lem alone h = refl
-fresh_watch_lem (watching threshold timeout) h = ap Present (fresh_stands threshold timeout h)
+fresh_watch_lem (watching threshold timeout) h = ap Some (fresh_stands threshold timeout h)
 
 -- a host's fresh words say a fresh link
 pub begins : (m : Making) → MakingFits m → HostFits m → said (host_fresh m) ≡ fresh_link m

@@ -1,5 +1,6 @@
 -- `advance` and `idle` of a host are the library's on the link that the words say; without a monitor they do nothing.
 -- Assumes nothing.
+use Rattle.std.specs.Prelude.{Some}
 use mathlib.Core.Path.{◌≡◌, refl, ◌∙◌}
 use mathlib.Core.Bool.{Bool, true, false}
 use mathlib.Core.List.{List}
@@ -13,7 +14,6 @@ use Rattle.monitor.specs.declared.Monitor.{Monitor}
 use Rattle.monitor.specs.Refusals.{refusal_of}
 use Rattle.monitor.specs.Operations.{idle_on}
 use Rattle.ledger_steps.specs.Rooms.{Rooms}
-use Rattle.link_steps.specs.declared.Watch.TheVariants.{Present}
 use Rattle.link_steps.specs.Steps.{standing, idle_by, refuses, after}
 use Rattle.host_ledger.specs.Words.{ledger_at}
 use Rattle.host_monitor_words.specs.Words.{monitor_at}
@@ -27,7 +27,7 @@ unfolding play_host refuses after
 advance_agrees ledger long alone rooms queue time = (refl, refl, long)
 advance_agrees ledger long (watching words) rooms queue time =
     let s = advance_stands words queue time in
-    (advance-number words queue time, (λ i. standing (ledger_at ledger) rooms (record { watch = Present (s.0 i); queue = s.1 i })), long)
+    (advance-number words queue time, (λ i. standing (ledger_at ledger) rooms (record { watch = Some (s.0 i); queue = s.1 i })), long)
 
 idle-by : (b : Bool) (m : Monitor) → choose b (idle_on m) m ≡ idle_by b m
 idle-by true m = refl
@@ -38,4 +38,4 @@ unfolding play_host refuses after
 idle_agrees ledger long alone rooms queue = (refl, refl, long)
 idle_agrees ledger long (watching words) rooms queue =
     let e = idle_stands words ∙ idle-by (eqb (refusal_of (monitor_at words) capacity) 0) (monitor_at words) in
-    (idle-number words, (λ i. standing (ledger_at ledger) rooms (record { watch = Present (e i); queue = queue })), long)
+    (idle-number words, (λ i. standing (ledger_at ledger) rooms (record { watch = Some (e i); queue = queue })), long)

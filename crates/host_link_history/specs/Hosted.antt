@@ -1,13 +1,12 @@
 -- A link as a host holds it: the words of the ledger, those of the monitor where it has one, the rooms and the queue. And the host's calls, as numbers,
 -- each given what the last one left: the definitions are those that the contracts of the exported calls cite.
 -- Assumes nothing.
-use Rattle.std.specs.Prelude.{List, [], ◌∷◌, ℕ, ◌<◌, ◌^◌, get_or}
+use Rattle.monitor.specs.declared.Monitor.{Monitor}
+use Rattle.std.specs.Prelude.{List, [], ◌∷◌, ℕ, ◌<◌, ◌^◌, get_or, Option, Some, None}
 use Rattle.call_types.specs.declared.Call.{Call}
 use Rattle.call_types.specs.declared.Call.TheVariants.{Sent, Accept, Observe, Advance, Idle}
 use Rattle.probe_queue.specs.declared.QueuedProbe.{QueuedProbe}
 use Rattle.ledger_steps.specs.Rooms.{Rooms}
-use Rattle.link_steps.specs.declared.Watch.{Watch}
-use Rattle.link_steps.specs.declared.Watch.TheVariants.{Absent, Present}
 use Rattle.link_steps.specs.Steps.{LinkStand}
 use Rattle.link_history.specs.Fresh.{Watching, Making}
 use Rattle.link_history.specs.Fresh as history
@@ -42,9 +41,9 @@ abbrev pub host_link : List ℕ → HostWatch → Rooms → List QueuedProbe →
 host_link ledger watch rooms queue = record { ledger = ledger; watch = watch; rooms = rooms; queue = queue }
 
 -- the monitor that the words say, or none
-abbrev pub watch_said : HostWatch → Watch
-watch_said alone = Absent
-watch_said (watching words) = Present (monitor_at words)
+abbrev pub watch_said : HostWatch → Option Monitor
+watch_said alone = None
+watch_said (watching words) = Some (monitor_at words)
 
 -- the link that the words say, with the rooms and the queue as they are
 abbrev pub said : HostLink → LinkStand

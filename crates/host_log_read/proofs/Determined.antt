@@ -1,4 +1,6 @@
 -- Each contract determines the number and every lent word, and a refusal changes none. Assumes nothing.
+use Rattle.std.specs.Prelude.{Option, Some, None, Err, Ok, Result}
+use Rattle.call_types.specs.declared.Call.{Call}
 use mathlib.Core.Path.{◌≡◌, refl, sym, ap, ◌∙◌}
 use mathlib.Core.List.{List}
 use Prim.Native.Nat.{ℕ}
@@ -6,10 +8,9 @@ use contract.Lifetimes.{Lfts}
 use borrow.Fn.World as World
 use borrow.Fn.Kinds as Kinds'
 use denote.Triple.Clauses as Clauses
-use Rattle.log_whole.specs.declared.Log.{Log}
-use Rattle.log_whole.specs.declared.Log.TheVariants as log'
-use Rattle.log_whole.specs.declared.PlayedCall.{PlayedCall}
-use Rattle.log_whole.specs.declared.PlayedCall.TheVariants as played
+use Rattle.log_whole.specs.declared.Fault.{Fault}
+use Rattle.log_whole.specs.declared.Settings.{Settings}
+use Rattle.log_whole.specs.declared.Fault.TheVariants as fault
 use Rattle.log_whole.specs.Logs.{log_of, call_at}
 use Rattle.host_log_read.specs.Answers.{Left, checked_by, check_to, first_by, first_bad_to, read_by, read_to}
 use Rattle.host_log_read.specs.contracts.ambrulicciu_log_check as check
@@ -46,26 +47,24 @@ pub check-refused : (log ws : List ℕ) → ((check_to log ws).number ≡ 0 → 
 unfolding check_to
 check-refused log ws = by (log_of log)
   where
-    by : (l : Log) → ((checked_by l ws).number ≡ 0 → ⊥) → (checked_by l ws).words ≡ ws
-    by log'.TooLong h = refl
-    by log'.BadTrailer h = refl
-    by (log'.BadRecord n) h = refl
-    by (log'.Good s) h = absurd (h refl)
+    by : (l : Result Settings Fault) → ((checked_by l ws).number ≡ 0 → ⊥) → (checked_by l ws).words ≡ ws
+    by (Err f) h = refl
+    by (Ok s) h = absurd (h refl)
 
 pub first_bad-refused : (log ws : List ℕ) → ((first_bad_to log ws).number ≡ 0 → ⊥) → (first_bad_to log ws).words ≡ ws
 unfolding first_bad_to
 first_bad-refused log ws = by (log_of log)
   where
-    by : (l : Log) → ((first_by l ws).number ≡ 0 → ⊥) → (first_by l ws).words ≡ ws
-    by log'.TooLong h = refl
-    by log'.BadTrailer h = refl
-    by (log'.BadRecord n) h = absurd (h refl)
-    by (log'.Good s) h = absurd (h refl)
+    by : (l : Result Settings Fault) → ((first_by l ws).number ≡ 0 → ⊥) → (first_by l ws).words ≡ ws
+    by (Err fault.TooLong) h = refl
+    by (Err fault.BadTrailer) h = refl
+    by (Err (fault.BadRecord n)) h = absurd (h refl)
+    by (Ok s) h = absurd (h refl)
 
 pub read-refused : (log : List ℕ) (at : ℕ) (ws : List ℕ) → ((read_to log at ws).number ≡ 0 → ⊥) → (read_to log at ws).words ≡ ws
 unfolding read_to
 read-refused log at ws = by (call_at log at)
   where
-    by : (p : PlayedCall) → ((read_by p (log_of log) ws).number ≡ 0 → ⊥) → (read_by p (log_of log) ws).words ≡ ws
-    by played.Nothing h = refl
-    by (played.Call c) h = absurd (h refl)
+    by : (p : Option Call) → ((read_by p (log_of log) ws).number ≡ 0 → ⊥) → (read_by p (log_of log) ws).words ≡ ws
+    by None h = refl
+    by (Some c) h = absurd (h refl)

@@ -1,5 +1,7 @@
 -- A log that a host has written, the records of entries and then the trailer, is checked as it was written and read as the calls that the records
 -- make. Assumes nothing.
+use Rattle.std.specs.Prelude.{Option, Result}
+use Rattle.call_types.specs.declared.Call.{Call}
 use mathlib.Core.Path.{◌≡◌, ap}
 use mathlib.Core.List.{List, [], ◌∷◌}
 use Prim.Native.Nat.{ℕ, ◌≤◌, ◌<◌}
@@ -8,8 +10,8 @@ use Rattle.record_parts.specs.declared.Entry.{Entry}
 use Rattle.record_parts.specs.declared.Entry.TheVariants as entry
 use Rattle.record_parts.specs.Parts.{call_of}
 use Rattle.record_parts.specs.Fits.{U16, U64}
-use Rattle.log_whole.specs.declared.Log.{Log}
-use Rattle.log_whole.specs.declared.PlayedCall.{PlayedCall}
+use Rattle.log_whole.specs.declared.Fault.{Fault}
+use Rattle.log_whole.specs.declared.Settings.{Settings}
 use Rattle.log_whole.specs.Logs.{log_of}
 use Rattle.log_whole.specs.Written.{AllFit, log_bytes}
 use Rattle.log_whole.proofs.Back.{log_back, calls_back}
@@ -21,14 +23,14 @@ module _ (before : List ℕ) (es : List Entry) (room : List ℕ) (copies thresho
     (fc : U16 copies) (ft : U16 threshold) (fo : U64 timeout) (small : length (log_bytes before es room copies threshold timeout) ≤ 65536) (ws : List ℕ) where
   pub check-written : check_to (log_bytes before es room copies threshold timeout) ws ≡ left 0 (length es ∷ copies ∷ threshold ∷ timeout ∷ [])
   unfolding check_to
-  check-written = ap (λ (l : Log). checked_by l ws) (log_back before es room copies threshold timeout sized fits fc ft fo small)
+  check-written = ap (λ (l : Result Settings Fault). checked_by l ws) (log_back before es room copies threshold timeout sized fits fc ft fo small)
 
   pub first_bad-written : first_bad_to (log_bytes before es room copies threshold timeout) ws ≡ left 0 (length es ∷ [])
   unfolding first_bad_to
-  first_bad-written = ap (λ (l : Log). first_by l ws) (log_back before es room copies threshold timeout sized fits fc ft fo small)
+  first_bad-written = ap (λ (l : Result Settings Fault). first_by l ws) (log_back before es room copies threshold timeout sized fits fc ft fo small)
 
   pub read-written : (i : ℕ) → i < length es → read_to (log_bytes before es room copies threshold timeout) i ws ≡ left 0 (call_words (call_of (get_or es i entry.Idle)))
   unfolding read_to
   read-written i l =
-      ap (λ (p : PlayedCall). read_by p (log_of (log_bytes before es room copies threshold timeout)) ws)
+      ap (λ (p : Option Call). read_by p (log_of (log_bytes before es room copies threshold timeout)) ws)
       (calls_back before es room copies threshold timeout sized fits fc ft fo small i l)

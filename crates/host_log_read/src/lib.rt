@@ -1,15 +1,16 @@
 // What a host calls to read a log (document 01, 'Log and program'): whether the bytes are a log, its first bad record, and one record as a call.
 ghost use Rattle.std.specs.Prelude.{◌≡◌};
-ghost use Rattle.host_log_read.specs.Answers.{left, settings_words, check_to, first_bad_to, no_call, read_to};
+ghost use Rattle.host_log_read.specs.Answers.{left, number_in, settings_words, check_to, first_bad_to, no_call, read_to};
 
-use log_whole::{Log, PlayedCall, Settings};
+use limits::Refusal;
+use log_whole::{Fault, Settings};
 
-// Document 01's answers to bytes that are no log.
-const TOO_LONG: u8 = 9;
-
-const BAD_TRAILER: u8 = 7;
-
-const BAD_RECORD: u8 = 8;
+// The number that a host is told of bytes that are no log.
+fn number_in(fault: Fault) -> u8
+    ensures { result ≡ number_in fault }
+{
+    u8::from(Refusal::from(fault))
+}
 
 fn settings_words(s: Settings) -> [u64; 4]
     ensures { result ≡ settings_words s }
@@ -28,16 +29,12 @@ fn settings_words(s: Settings) -> [u64; 4]
 pub extern "C" fn ambrulicciu_log_check(log: &[u8], answer: &mut [u64; 4]) -> u8
     ensures { left result answer.new ≡ check_to log.now answer.old }
 {
-    let checked = log_whole::check(log);
-    match checked {
-        Log::TooLong => TOO_LONG,
-        Log::BadTrailer => BAD_TRAILER,
-        Log::BadRecord(_) => BAD_RECORD,
-        Log::Good(settings) => {
-            let words = settings_words(settings);
-            *answer = words;
+    match log_whole::check(log) {
+        Ok(settings) => {
+            *answer = settings_words(settings);
             0
         }
+        Err(fault) => number_in(fault),
     }
 }
 
@@ -46,32 +43,29 @@ pub extern "C" fn ambrulicciu_log_check(log: &[u8], answer: &mut [u64; 4]) -> u8
 pub extern "C" fn ambrulicciu_log_first_bad(log: &[u8], answer: &mut [u64; 1]) -> u8
     ensures { left result answer.new ≡ first_bad_to log.now answer.old }
 {
-    let checked = log_whole::check(log);
-    match checked {
-        Log::TooLong => TOO_LONG,
-        Log::BadTrailer => BAD_TRAILER,
-        Log::BadRecord(first) => {
-            let words = [first as u64];
-            *answer = words;
+    match log_whole::check(log) {
+        Ok(settings) => {
+            *answer = [settings.count as u64];
             0
         }
-        Log::Good(settings) => {
-            let words = [settings.count as u64];
-            *answer = words;
-            0
-        }
+        Err(fault) => match fault {
+            Fault::BadRecord(first) => {
+                *answer = [first as u64];
+                0
+            }
+            Fault::TooLong => number_in(fault),
+            Fault::BadTrailer => number_in(fault),
+        },
     }
 }
 
 // Why there is no call to read: the log's 9 or 7, and otherwise 8, since no good record stands there.
-fn no_call(checked: Log) -> u8
+fn no_call(checked: Result<Settings, Fault>) -> u8
     ensures { result ≡ no_call checked }
 {
     match checked {
-        Log::TooLong => TOO_LONG,
-        Log::BadTrailer => BAD_TRAILER,
-        Log::BadRecord(_) => BAD_RECORD,
-        Log::Good(_) => BAD_RECORD,
+        Ok(_) => u8::from(Refusal::BadRecord),
+        Err(fault) => number_in(fault),
     }
 }
 
@@ -90,11 +84,11 @@ pub extern "C" fn ambrulicciu_log_read(log: &[u8], at: u32, call: &mut [u32; 44]
 {
     let played = log_whole::call_at(log, at);
     match played {
-        PlayedCall::Call(told) => {
+        Some(told) => {
             let words = host_call_words::call_words(told);
             *call = words;
             0
         }
-        PlayedCall::Nothing => no_call(log_whole::check(log)),
+        None => no_call(log_whole::check(log)),
     }
 }

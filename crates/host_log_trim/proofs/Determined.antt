@@ -6,8 +6,10 @@ use contract.Lifetimes.{Lfts}
 use borrow.Fn.World as World
 use borrow.Fn.Kinds as Kinds'
 use denote.Triple.Clauses as Clauses
-use Rattle.log_trim.specs.declared.Trimmed.{Trimmed}
-use Rattle.log_trim.specs.declared.Trimmed.TheVariants as trimmed
+use Rattle.std.specs.Prelude.{Result, Ok, Err}
+use Rattle.limits.specs.declared.Refusal.{Refusal}
+use Rattle.limits.specs.Numbers.{number_of}
+use Rattle.log_trim.specs.declared.Cut.{Cut}
 use Rattle.log_trim.specs.Trimmed.{trim_to}
 use Rattle.log_trim.proofs.Determined.{refused_writes_nothing}
 use Rattle.host_log_trim.specs.Told as told
@@ -31,7 +33,7 @@ pub log_trim-refused : (log : List ℕ) (copies threshold timeout : ℕ) (bs ws 
 unfolding trim_told
 log_trim-refused log copies threshold timeout bs ws = by (trim_to log copies threshold timeout bs).answer refl
   where
-    by : (t : Trimmed) → (trim_to log copies threshold timeout bs).answer ≡ t → ((told_by t (trim_to log copies threshold timeout bs).room ws).number ≡ 0 → ⊥)
+    by : (t : Result Cut Refusal) → (trim_to log copies threshold timeout bs).answer ≡ t → ((told_by t (trim_to log copies threshold timeout bs).room ws).number ≡ 0 → ⊥)
         → told_by t (trim_to log copies threshold timeout bs).room ws ≡ told.left (told_by t (trim_to log copies threshold timeout bs).room ws).number bs ws
-    by (trimmed.Kept c) e h = absurd (h refl)
-    by (trimmed.Refused n) e h = ap (λ (x : List ℕ). told.left n x ws) (refused_writes_nothing log copies threshold timeout bs n e)
+    by (Ok c) e h = absurd (h refl)
+    by (Err r) e h = ap (λ (x : List ℕ). told.left (number_of r) x ws) (refused_writes_nothing log copies threshold timeout bs r e)

@@ -1,8 +1,8 @@
 -- What a host is told of a log that it has trimmed: the number, the lent bytes and the words of the answer. Assumes nothing.
-use Rattle.std.specs.Prelude.{List, [], ◌∷◌, ℕ}
+use Rattle.std.specs.Prelude.{List, [], ◌∷◌, ℕ, Result, Ok, Err}
 use Rattle.log_trim.specs.declared.Cut.{Cut}
-use Rattle.log_trim.specs.declared.Trimmed.{Trimmed}
-use Rattle.log_trim.specs.declared.Trimmed.TheVariants as trimmed
+use Rattle.limits.specs.declared.Refusal.{Refusal}
+use Rattle.limits.specs.Numbers.{number_of}
 use Rattle.log_trim.specs.Trimmed.{trim_to}
 
 -- what a call leaves: its number, the lent bytes, and the lent words
@@ -20,9 +20,9 @@ abbrev pub cut_words : Cut → List ℕ
 cut_words c = c.kept ∷ c.stop ∷ c.dropped ∷ []
 
 -- 0 and the words of what was kept; a refusal is its number, and the words are as they were
-abbrev pub told_by : Trimmed → List ℕ → List ℕ → Left
-told_by (trimmed.Kept c) bs ws = left 0 bs (cut_words c)
-told_by (trimmed.Refused n) bs ws = left n bs ws
+abbrev pub told_by : Result Cut Refusal → List ℕ → List ℕ → Left
+told_by (Ok c) bs ws = left 0 bs (cut_words c)
+told_by (Err r) bs ws = left (number_of r) bs ws
 
 -- of the log's bytes, the settings, and what the bytes and the words held
 unfoldable pub trim_told : List ℕ → (copies threshold timeout : ℕ) → List ℕ → List ℕ → Left

@@ -2,7 +2,7 @@
 ghost use Rattle.std.specs.Prelude.{◌≡◌};
 ghost use Rattle.host_log_trim.specs.Told.{left, cut_words, trim_told};
 
-use log_trim::{Cut, Trimmed};
+use log_trim::Cut;
 
 fn cut_words(cut: Cut) -> [u64; 3]
     ensures { result ≡ cut_words cut }
@@ -26,11 +26,10 @@ pub extern "C" fn ambrulicciu_log_trim(
 {
     let trimmed = log_trim::trim(log, copies, threshold, timeout, bytes);
     match trimmed {
-        Trimmed::Refused(number) => number,
-        Trimmed::Kept(cut) => {
-            let words = cut_words(cut);
-            *answer = words;
+        Ok(cut) => {
+            *answer = cut_words(cut);
             0
         }
+        Err(refusal) => u8::from(refusal),
     }
 }

@@ -1,5 +1,7 @@
 -- Every entry that a host's numbers name fits its record, so that nothing of it is lost: host_log_read's `read-written` is about such entries.
 -- Assumes nothing.
+use Rattle.std.specs.Prelude.{Option, Some, None}
+use Rattle.call_types.specs.declared.FollowUpTelemetry.{FollowUpTelemetry}
 use mathlib.Core.Path.{refl}
 use mathlib.Core.Bool.{Bool, true, false}
 use mathlib.Core.List.{List}
@@ -10,9 +12,6 @@ use mir.ValLaws.{to_z-Fits}
 use Rattle.estimate.specs.Wire.{estimate_of}
 use Rattle.record_parts.specs.Parts.{flag, pending_by, time_by, ordinal_by, counters_by, follow_by, estimates_by}
 use Rattle.record_parts.specs.Fits.{U32, U64, PendingFits, TimeFits, OrdinalFits, CountersFit, FollowFits, ConvertedFits, EstimateFits, EstimatesFit, EntryFits}
-use Rattle.call_types.specs.declared.FollowUp.{FollowUp}
-use Rattle.call_types.specs.declared.FollowUp.TheVariants as follow
-use Rattle.call_types.specs.declared.Time.TheVariants as time
 use Rattle.host_numbers.specs.Numbers.{is_set}
 use Rattle.host_numbers.proofs.Back.{joined-below}
 use Rattle.host_observation.specs.Observation.{word, double, flags_at, observation_at}
@@ -41,9 +40,9 @@ follow-fits true unknown s t hs ht = record { sequence = hs; timestamp = ht }
 follow-fits false unknown s t hs ht = tt
 
 -- no converted T3 fits beside any follow-up
-converted-fits : (f : FollowUp) → ConvertedFits f time.Absent
-converted-fits follow.Absent = refl
-converted-fits (follow.Telemetry f) = tt
+converted-fits : (f : Option FollowUpTelemetry) → ConvertedFits f None
+converted-fits None = refl
+converted-fits (Some f) = tt
 
 estimate_fits : (n : ℕ) → EstimateFits (estimate_of n)
 estimate_fits n = record { scale = omega arith; multiplier = omega arith }

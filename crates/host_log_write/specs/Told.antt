@@ -1,7 +1,6 @@
 -- What a host's numbers have written in a log: a entry. What is written of it is log_record's `written_to`: its record over 96 bytes, 5 for another number of
 -- bytes, and a refusal changes nothing. Assumes nothing.
-use Rattle.std.specs.Prelude.{List, ℕ}
-use Rattle.call_types.specs.declared.Time.TheVariants.{Absent}
+use Rattle.std.specs.Prelude.{List, ℕ, None}
 use Rattle.record_parts.specs.declared.Entry.{Entry}
 use Rattle.record_parts.specs.declared.Entry.TheVariants as entry
 use Rattle.record_parts.specs.Parts.{pending_by}
@@ -15,7 +14,7 @@ accept_told sender reflector t3 pending time tag =
 
 -- "2 observe": the observation that the lent words say, without the converted T3 of flag 16
 abbrev pub observe_told : List ℕ → Entry
-observe_told words = entry.Observe (observation_at words) Absent
+observe_told words = entry.Observe (observation_at words) None
 
 -- "3 advance (4 now). 4 idle."
 abbrev pub advance_told : ℕ → Entry

@@ -1,11 +1,11 @@
 // What a host calls to write a log (document 01, 'Log and program'): the 96 bytes of each call's record, and the 24 bytes of the trailer. That of a `sent` is
 // crate host_log_write_sent.
 ghost use Rattle.std.specs.Prelude.{◌≡◌};
-ghost use Rattle.log_record.specs.Records.{wrote, written_to};
-ghost use Rattle.log_whole.specs.Logs.{wrote as wroteTrailer, trailer_to};
+ghost use Rattle.log_record.specs.Records.{told, told_of, written_to};
+ghost use Rattle.log_whole.specs.Logs.{trailer_to};
 ghost use Rattle.host_log_write.specs.Told.{accept_told, observe_told, advance_told, idle_told};
 
-use call_types::{Reply, ReplyKey, Time};
+use call_types::{Reply, ReplyKey};
 use record_parts::Entry;
 
 // The record of an `accept`, over 96 lent bytes; 5 for another number of bytes. Where `pending` is 0 there is no pending packet, and time and tag are not looked at.
@@ -19,7 +19,7 @@ pub extern "C" fn ambrulicciu_log_write_accept(
     time: u64,
     tag: u64,
 ) -> u8
-    ensures { wrote result bytes.new ≡ written_to bytes.old (accept_told sender reflector t3 pending time tag) }
+    ensures { told result bytes.new ≡ told_of (written_to bytes.old (accept_told sender reflector t3 pending time tag)) }
 {
     let key = ReplyKey {
         sender,
@@ -28,7 +28,7 @@ pub extern "C" fn ambrulicciu_log_write_accept(
     };
     let held = record_parts::pending_by(pending != 0, time, tag);
     let reply = Reply { key, pending: held };
-    log_record::write(bytes, Entry::Accept(reply))
+    log_record::number_in(log_record::write(bytes, Entry::Accept(reply)))
 }
 
 // The record of an `observe`, whose observation is lent as `ambrulicciu_observe` takes it. It is not held to the ranges of `observe`: the record
@@ -38,26 +38,26 @@ pub extern "C" fn ambrulicciu_log_write_accept(
 // 20 sender_estimate (u16), reflector_estimate (u16), 21 flags, 22 unused (2).
 #[unsafe(no_mangle)]
 pub extern "C" fn ambrulicciu_log_write_observe(bytes: &mut [u8], observation: &[u32; 24]) -> u8
-    ensures { wrote result bytes.new ≡ written_to bytes.old (observe_told observation.now) }
+    ensures { told result bytes.new ≡ told_of (written_to bytes.old (observe_told observation.now)) }
 {
     let told = host_observation::observation_of(observation);
-    log_record::write(bytes, Entry::Observe(told, Time::Absent))
+    log_record::number_in(log_record::write(bytes, Entry::Observe(told, None)))
 }
 
 // The record of the monitor's `advance`.
 #[unsafe(no_mangle)]
 pub extern "C" fn ambrulicciu_log_write_advance(bytes: &mut [u8], time: u64) -> u8
-    ensures { wrote result bytes.new ≡ written_to bytes.old (advance_told time) }
+    ensures { told result bytes.new ≡ told_of (written_to bytes.old (advance_told time)) }
 {
-    log_record::write(bytes, Entry::Advance(time))
+    log_record::number_in(log_record::write(bytes, Entry::Advance(time)))
 }
 
 // The record of the monitor's `idle`.
 #[unsafe(no_mangle)]
 pub extern "C" fn ambrulicciu_log_write_idle(bytes: &mut [u8]) -> u8
-    ensures { wrote result bytes.new ≡ written_to bytes.old idle_told }
+    ensures { told result bytes.new ≡ told_of (written_to bytes.old idle_told) }
 {
-    log_record::write(bytes, Entry::Idle)
+    log_record::number_in(log_record::write(bytes, Entry::Idle))
 }
 
 // The trailer of a log of `count` records, over 24 lent bytes; 5 for another number of bytes, and 9 for more records than 65,536 bytes hold.
@@ -69,7 +69,8 @@ pub extern "C" fn ambrulicciu_log_write_trailer(
     threshold: u16,
     timeout: u64,
 ) -> u8
-    ensures { wroteTrailer result bytes.new ≡ trailer_to bytes.old count copies threshold timeout }
+    ensures { told result bytes.new ≡ told_of (trailer_to bytes.old count copies threshold timeout) }
 {
-    log_whole::trailer::write(bytes, count, copies, threshold, timeout)
+    let answer = log_whole::trailer::write(bytes, count, copies, threshold, timeout);
+    log_record::number_in(answer)
 }

@@ -1,7 +1,7 @@
 // What a host calls to write the record of a `sent` (document 01, 'Log and program'). It stands alone, since the writer of records is compiled into a call only
 // where it has one caller: then no entry goes through memory, and nothing is left of the other kinds.
 ghost use Rattle.std.specs.Prelude.{◌≡◌};
-ghost use Rattle.log_record.specs.Records.{wrote, written_to};
+ghost use Rattle.log_record.specs.Records.{told, told_of, written_to};
 ghost use Rattle.host_log_write_sent.specs.Told.{sent_told};
 
 use call_types::{PendingPacket, SentProbe};
@@ -17,7 +17,7 @@ pub extern "C" fn ambrulicciu_log_write_sent(
     time: u64,
     tag: u64,
 ) -> u8
-    ensures { wrote result bytes.new ≡ written_to bytes.old (sent_told sequence ordinal train time tag) }
+    ensures { told result bytes.new ≡ told_of (written_to bytes.old (sent_told sequence ordinal train time tag)) }
 {
     let packet = PendingPacket { time, tag };
     let probe = SentProbe {
@@ -26,5 +26,5 @@ pub extern "C" fn ambrulicciu_log_write_sent(
         train,
         packet,
     };
-    log_record::write(bytes, Entry::Sent(probe))
+    log_record::number_in(log_record::write(bytes, Entry::Sent(probe)))
 }

@@ -10,7 +10,6 @@ use Rattle.probe_queue.specs.declared.QueuedProbe.{QueuedProbe}
 use Rattle.monitor.specs.Operations.{MonitorStand}
 use Rattle.monitor_model.specs.Playing as monitor
 use Rattle.history.specs.Ledger.{copies_of}
-use Rattle.link_steps.specs.declared.Watch.TheVariants.{Present}
 use Rattle.link_steps.specs.Steps.{LinkStand, refuses, after}
 use Rattle.link_history.specs.Fresh.{Making, MakingFits, fresh_link}
 use Rattle.link_mixed_history.specs.Mixed.{number_of, leaves, mixed_played, ledger_served, monitor_served}

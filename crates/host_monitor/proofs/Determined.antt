@@ -1,6 +1,7 @@
 -- Of each of the monitor's calls for a host: the contract determines the number and every lent word; the number is document 01's refusal of the monitor
 -- that the words say; a refusal changes no lent word. These hold of all words and every queue.
 -- Assumes nothing.
+use Rattle.std.specs.Prelude.{Ok, Err, Some, None}
 use mathlib.Core.Path.{◌≡◌, refl, sym, ap, ◌∙◌}
 use mathlib.Core.Bool.{Bool, true, false}
 use mathlib.Core.List.{List}
@@ -23,8 +24,6 @@ use Rattle.limits.specs.Limits.{capacity}
 use Rattle.limits.specs.Refusals.{wrong_room}
 use Rattle.probe_queue.specs.declared.QueuedProbe.{QueuedProbe}
 use Rattle.probe_queue.specs.Queue.{choose, nil}
-use Rattle.monitor.specs.declared.MonitorAnswer.TheVariants.{Refused}
-use Rattle.monitor.specs.declared.Deadline.TheVariants.{Absent, At, Refused as Refused'}
 use Rattle.monitor.specs.Refusals.{misplaced, refusal_of, refusal_of_sent}
 use Rattle.monitor.specs.Answers.{Outcome, number, deadline_of}
 use Rattle.monitor_model.proofs.Outcomes as monitor
@@ -114,7 +113,7 @@ idle-number words = monitor.idle-number (monitor_at words)
 
 -- ---- a refusal changes nothing
 
-refused-by : (words : List ℕ) (queue : List QueuedProbe) (o : Outcome) (n : ℕ) → (o.answer ≡ Refused n) × (o.room ≡ queue) → ended words o ≡ left n words queue
+refused-by : (words : List ℕ) (queue : List QueuedProbe) (o : Outcome) (n : ℕ) → (o.answer ≡ Err n) × (o.room ≡ queue) → ended words o ≡ left n words queue
 refused-by words queue o n e = λ i. left (number (e.0 i)) (words_after words (e.0 i)) (e.1 i)
 
 pub sent-refused : (words : List ℕ) (queue : List QueuedProbe) (s t : ℕ) → (refusal_of_sent (monitor_at words) (length queue) t ≡ 0 → ⊥) → sent_to words queue s t ≡ left (refusal_of_sent (monitor_at words) (length queue) t) words queue
@@ -137,7 +136,7 @@ pub deadline-refused : (words : List ℕ) (queue : List QueuedProbe) (answer : L
 unfolding deadline_to deadline_of
 deadline-refused words queue answer h =
     let m = monitor_at words in
-    ap (λ (b : Bool). answered_by answer (choose b (Refused' wrong_room) (choose (eqb m.ring.len 0) Absent (At (get_or queue m.ring.head nil).deadline)))) h
+    ap (λ (b : Bool). answered_by answer (choose b (Err wrong_room) (choose (eqb m.ring.len 0) (Ok None) (Ok (Some (get_or queue m.ring.head nil).deadline))))) h
 
 pub summary-number : (words shown : List ℕ) → (summary_to words shown).number ≡ choose (misplaced (monitor_at words) capacity) wrong_room 0
 unfolding summary_to

@@ -1,6 +1,7 @@
 -- Calls one after another: the words that each call leaves say the monitor that the library's own call leaves, where it is refused too. So what holds of
 -- the library's calls from fresh (crate monitor_model) holds of a host's.
 -- Assumes nothing.
+use Rattle.std.specs.Prelude.{Ok, Err}
 use mathlib.Core.Path.{◌≡◌, refl, sym, ap}
 use mathlib.Core.Bool.{Bool, true, false, ◌&&◌}
 use mathlib.Core.List.{List}
@@ -11,7 +12,6 @@ use Rattle.limits.specs.Limits.{capacity}
 use Rattle.probe_queue.specs.declared.QueuedProbe.{QueuedProbe}
 use Rattle.probe_queue.specs.Queue.{choose}
 use Rattle.monitor.specs.declared.Monitor.{Monitor}
-use Rattle.monitor.specs.declared.MonitorAnswer.TheVariants.{Served, Refused}
 use Rattle.monitor.specs.Refusals.{refusal_of, refusal_of_sent}
 use Rattle.monitor.specs.Operations.{MonitorStand, fresh, sent_on, reply_on, advance_on, idle_on, unchanged, sent_if, reply_if, advance_if}
 use Rattle.monitor.specs.Answers.{answered}
@@ -22,7 +22,7 @@ use Rattle.host_monitor_words.proofs.Fitting.{fits-at, fits_fresh, fits-sent, fi
 use Rattle.host_monitor.specs.Calls.{fresh_to, sent_to, reply_to, advance_to, idle_to}
 
 -- a call that goes on exactly where its refusal is 0: next is what it leaves then
-stands : (words : List ℕ) (next : Monitor) (b : Bool) (n : ℕ) → Fits next → (b ≡ false → next ≡ monitor_at words) → monitor_at (words_after words (choose b (Served next) (Refused n))) ≡ next
+stands : (words : List ℕ) (next : Monitor) (b : Bool) (n : ℕ) → Fits next → (b ≡ false → next ≡ monitor_at words) → monitor_at (words_after words (choose b (Ok next) (Err n))) ≡ next
 stands words next true n f i = stored next f
 stands words next false n f i = sym (i refl)
 
@@ -57,7 +57,7 @@ advance_stands words queue t =
     let n = refusal_of m (length queue) in
     (stands words (advance_if true m queue t).monitor (eqb n 0) n (fits-advance true m queue t (fits-at words)) (λ e. ap (λ (b : Bool). (choose b (advance_on m queue t) (unchanged m queue)).monitor) e), refl)
 
-idle-by : (words : List ℕ) (next : Monitor) (b : Bool) (n : ℕ) → Fits next → monitor_at (words_after words (choose b (Served next) (Refused n))) ≡ choose b next (monitor_at words)
+idle-by : (words : List ℕ) (next : Monitor) (b : Bool) (n : ℕ) → Fits next → monitor_at (words_after words (choose b (Ok next) (Err n))) ≡ choose b next (monitor_at words)
 idle-by words next true n f = stored next f
 idle-by words next false n f = refl
 

@@ -1,15 +1,13 @@
 -- What each of the monitor's calls for a host answers and leaves, on every input: the monitor's own definitions, of the monitor that the words say.
 -- A refusal changes no lent word.
 -- Assumes nothing.
-use Rattle.std.specs.Prelude.{List, [], ◌∷◌, ℕ}
+use Rattle.monitor.specs.declared.Monitor.{Monitor}
+use Rattle.std.specs.Prelude.{List, [], ◌∷◌, ℕ, Result, Ok, Err, Option, Some, None}
 use Rattle.limits.specs.Limits.{capacity}
 use Rattle.limits.specs.Refusals.{wrong_room}
 use Rattle.probe_queue.specs.declared.QueuedProbe.{QueuedProbe}
 use Rattle.probe_queue.specs.Queue.{choose}
 use Rattle.monitor.specs.declared.Summary.{Summary}
-use Rattle.monitor.specs.declared.MonitorAnswer.{MonitorAnswer}
-use Rattle.monitor.specs.declared.Deadline.{Deadline}
-use Rattle.monitor.specs.declared.Deadline.TheVariants.{Absent, At, Refused}
 use Rattle.monitor.specs.Refusals.{misplaced}
 use Rattle.monitor.specs.Operations.{fresh}
 use Rattle.monitor.specs.Answers.{Outcome, number, deadline_number}
@@ -56,7 +54,7 @@ unfoldable pub advance_to : List ℕ → List QueuedProbe → ℕ → Left
 advance_to words queue time = ended words (monitor.advance_to (monitor_at words) queue time)
 
 -- an answer of `idle`, which is lent no queue: its number, and the monitor's words
-abbrev pub stopped : List ℕ → MonitorAnswer → Told
+abbrev pub stopped : List ℕ → Result Monitor ℕ → Told
 stopped words a = told (number a) (words_after words a)
 
 -- `idle`, on the monitor that the words say
@@ -64,13 +62,13 @@ unfoldable pub idle_to : List ℕ → Told
 idle_to words = stopped words (monitor.idle_to (monitor_at words))
 
 -- the words of a deadline: 1 and the deadline, or zeros where there is none
-abbrev pub answer_words : List ℕ → Deadline → List ℕ
-answer_words words Absent = 0 ∷ 0 ∷ []
-answer_words words (At time) = 1 ∷ time ∷ []
-answer_words words (Refused n) = words
+abbrev pub answer_words : List ℕ → Result (Option ℕ) ℕ → List ℕ
+answer_words words (Ok None) = 0 ∷ 0 ∷ []
+answer_words words (Ok (Some time)) = 1 ∷ time ∷ []
+answer_words words (Err n) = words
 
 -- a deadline's number, and the two words lent for it: a refusal leaves them as they were
-abbrev pub answered_by : List ℕ → Deadline → Told
+abbrev pub answered_by : List ℕ → Result (Option ℕ) ℕ → Told
 answered_by answer d = told (deadline_number d) (answer_words answer d)
 
 -- the front probe's deadline, of the monitor that the words say; only the two words of the answer are written

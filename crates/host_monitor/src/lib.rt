@@ -1,13 +1,14 @@
 // The monitor's calls for a host: the monitor in twelve lent words, the queue in a lent slice of probe records, document 01's number back (0 where the call was served).
 // A call that is lent the queue is a straight line of calls; what depends on a test is in the functions that it calls.
-#![tactic(auto)]
+#![tactic(auto, unfolding(crate::specs::Calls::fresh_to, crate::specs::Calls::sent_to, crate::specs::Calls::reply_to, crate::specs::Calls::advance_to, crate::specs::Calls::idle_to, crate::specs::Calls::deadline_to, crate::specs::Calls::summary_to))]
 
 ghost use Rattle.std.specs.Prelude.{◌≡◌};
 ghost use Rattle.host_monitor.specs.Calls.{told, left, shows, fresh_to, sent_to, reply_to, advance_to, idle_to, deadline_to, summary_to, answer_words};
-ghost use Rattle.monitor.specs.Answers.{deadline_number};
+ghost use Rattle.limits.specs.Numbers.{answer_number, numbered};
 
 use host_monitor_words::{finish, load, state_number, store};
-use monitor::{Deadline, Monitor, Summary};
+use limits::Refusal;
+use monitor::{Monitor, Summary};
 use probe_queue::QueuedProbe;
 
 // Makes a monitor fresh, whatever its words held. Threshold 0 counts as 1.
@@ -77,19 +78,19 @@ pub extern "C" fn ambrulicciu_monitor_idle(monitor: &mut [u64; 12]) -> u8
 }
 
 // The number of a deadline's answer; where it is served, its two words: 1 if there is one, and the deadline.
-fn finish_deadline(answer: &mut [u64; 2], deadline: Deadline) -> u8
-    ensures { (result ≡ deadline_number deadline) × (answer.new ≡ answer_words answer.old deadline) }
+fn finish_deadline(answer: &mut [u64; 2], deadline: Result<Option<u64>, Refusal>) -> u8
+    ensures { (result ≡ answer_number (numbered deadline)) × (answer.new ≡ answer_words answer.old (numbered deadline)) }
 {
     match deadline {
-        Deadline::Absent => {
+        Ok(None) => {
             *answer = [0, 0];
             0
         }
-        Deadline::At(time) => {
+        Ok(Some(time)) => {
             *answer = [1, time];
             0
         }
-        Deadline::Refused(number) => number,
+        Err(refusal) => u8::from(refusal),
     }
 }
 
@@ -130,7 +131,7 @@ pub extern "C" fn ambrulicciu_monitor_summary(monitor: &[u64; 12], shown: &mut [
 {
     let before = load(monitor);
     if before.out_of_place(limits::CAPACITY) {
-        return limits::WRONG_ROOM;
+        return u8::from(Refusal::WrongRoom);
     }
     let summary = before.summary();
     *shown = summary_words(summary);

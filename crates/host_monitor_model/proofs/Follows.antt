@@ -1,6 +1,7 @@
 -- A host's calls of the monitor from fresh, refused ones included: the numbers of all answers are the plain model's, and so are the summary, the queued
 -- probes and the set of marked sequences that the words and the queue say after them. The words and the queue may have held anything before.
 -- Assumes nothing.
+use Rattle.std.specs.Prelude.{Result, Ok, Err}
 use mathlib.Core.Path.{◌≡◌, refl, sym, ap, subst, ◌∙◌}
 use mathlib.Core.Bool.{Bool, true, false}
 use mathlib.Core.List.{List, [], ◌∷◌}
@@ -11,8 +12,6 @@ use Rattle.limits.specs.Limits.{capacity}
 use Rattle.probe_queue.specs.declared.QueuedProbe.{QueuedProbe}
 use Rattle.probe_queue.specs.Queue.{choose}
 use Rattle.monitor.specs.declared.Monitor.{Monitor}
-use Rattle.monitor.specs.declared.MonitorAnswer.{MonitorAnswer}
-use Rattle.monitor.specs.declared.MonitorAnswer.TheVariants.{Served, Refused}
 use Rattle.monitor.specs.Refusals.{refusal_of, refusal_of_sent}
 use Rattle.monitor.specs.Operations.{MonitorStand, fresh, idle_on, sent_if, reply_if, advance_if}
 use Rattle.monitor.specs.Answers.{answered, deadline_of}
@@ -28,18 +27,18 @@ use Rattle.host_monitor.proofs.Standing.{fresh_stands}
 use Rattle.host_monitor_model.specs.Hosted.{Lent, said, play_host, host_numbers, host_after, begun, Typed, AllTyped}
 
 -- an answer whose monitor fits its types
-abbrev Fitting : MonitorAnswer → Type 0
-Fitting (Served m) = Fits m
-Fitting (Refused n) = Unit {0}
+abbrev Fitting : Result Monitor ℕ → Type 0
+Fitting (Ok m) = Fits m
+Fitting (Err n) = Unit {0}
 
-fitting : (b : Bool) (m : Monitor) (n : ℕ) → Fits m → Fitting (choose b (Served m) (Refused n))
+fitting : (b : Bool) (m : Monitor) (n : ℕ) → Fits m → Fitting (choose b (Ok m) (Err n))
 fitting true m n f = f
 fitting false m n f = tt
 
 -- the words after a call say the monitor that whoever calls the library keeps
-kept : (x : Lent) (a : MonitorAnswer) (room : List QueuedProbe) → Fitting a → said (record { words = words_after x.words a; queue = room }) ≡ keep (said x) a room
-kept x (Served m) room f = ap (λ (n : Monitor). record { monitor = n; room = room }) (stored m f)
-kept x (Refused n) room f = refl
+kept : (x : Lent) (a : Result Monitor ℕ) (room : List QueuedProbe) → Fitting a → said (record { words = words_after x.words a; queue = room }) ≡ keep (said x) a room
+kept x (Ok m) room f = ap (λ (n : Monitor). record { monitor = n; room = room }) (stored m f)
+kept x (Err n) room f = refl
 
 -- ---- one call
 abbrev Agrees : Call → Lent → Type 0

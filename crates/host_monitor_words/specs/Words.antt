@@ -1,15 +1,13 @@
 -- The monitor in twelve words, in the order of its fields: state, loss threshold, consecutive losses, active, failed and idle notifications, timeout,
 -- whether it is transmitting, the ring's head and length, the run and the latest sequence. Every twelve words say a monitor.
 -- Assumes nothing.
-use Rattle.std.specs.Prelude.{List, [], ◌∷◌, ℕ, ◌<◌, ◌%◌, ◌^◌, get_or, eqb}
+use Rattle.std.specs.Prelude.{List, [], ◌∷◌, ℕ, ◌<◌, ◌%◌, ◌^◌, get_or, eqb, Result, Ok, Err}
 use Rattle.host_numbers.specs.Numbers.{lower, flag_word, is_set}
 use Rattle.probe_queue.specs.Queue.{choose}
 use Rattle.monitor.specs.declared.State.{State}
 use Rattle.monitor.specs.declared.State.TheVariants.{Idle, Active, Failed}
 use Rattle.monitor.specs.declared.Summary.{Summary}
 use Rattle.monitor.specs.declared.Monitor.{Monitor}
-use Rattle.monitor.specs.declared.MonitorAnswer.{MonitorAnswer}
-use Rattle.monitor.specs.declared.MonitorAnswer.TheVariants.{Served, Refused}
 
 -- the word at a place
 abbrev pub word : List ℕ → ℕ → ℕ
@@ -67,9 +65,9 @@ words_of m =
     ∷ []
 
 -- the words after a call: the next monitor's, or as they were where it was refused
-abbrev pub words_after : List ℕ → MonitorAnswer → List ℕ
-words_after words (Served m) = words_of m
-words_after words (Refused n) = words
+abbrev pub words_after : List ℕ → Result Monitor ℕ → List ℕ
+words_after words (Ok m) = words_of m
+words_after words (Err n) = words
 
 -- a monitor whose numbers fit their types
 pub record Fits (m : Monitor) : Type 0 where

@@ -1,12 +1,13 @@
 // The monitor in twelve words that a host lends: what any words say, and the words of a monitor. Nothing is asked of what the words hold.
-#![tactic(auto)]
+#![tactic(auto, unfolding(crate::specs::Words::summary_at, crate::specs::Words::monitor_at, crate::specs::Words::words_of))]
 
 ghost use Rattle.std.specs.Prelude.{◌≡◌, ◌%◌, ◌^◌};
-ghost use Rattle.monitor.specs.Answers.{number};
+ghost use Rattle.limits.specs.Numbers.{answer_number, numbered};
 ghost use Rattle.host_monitor_words.specs.Words.{state_at, state_number, summary_at, monitor_at, words_of, words_after};
 
 use host_numbers::{flag, is_set, low};
-use monitor::{Monitor, MonitorAnswer, State, Summary};
+use limits::Refusal;
+use monitor::{Monitor, State, Summary};
 use probe_queue::QueueRing;
 
 fn state_at(word: u64) -> State
@@ -100,14 +101,14 @@ pub fn store(words: &mut [u64; 12], monitor: Monitor)
 }
 
 // The number of an answer. The words change where the call was served, and not otherwise.
-pub fn finish(words: &mut [u64; 12], answer: MonitorAnswer) -> u8
-    ensures { (result ≡ number answer) × (words.new ≡ words_after words.old answer) }
+pub fn finish(words: &mut [u64; 12], answer: Result<Monitor, Refusal>) -> u8
+    ensures { (result ≡ answer_number (numbered answer)) × (words.new ≡ words_after words.old (numbered answer)) }
 {
     match answer {
-        MonitorAnswer::Served(monitor) => {
+        Ok(monitor) => {
             store(words, monitor);
             0
         }
-        MonitorAnswer::Refused(number) => number,
+        Err(refusal) => u8::from(refusal),
     }
 }

@@ -1,4 +1,4 @@
-// Small numbers in the words that a host lends: two u32 in one word, a flag, the bits of an f64. Two's complement is crate `signed_words`.
+// Small numbers in the words that a host lends: two u32 in one word, a flag, the bits of an f64. Two's complement is the library's `cast_unsigned` and `cast_signed`.
 ghost use Rattle.std.specs.Prelude.{◌≡◌, ◌<◌, ◌^◌};
 ghost use Rattle.std.specs.Float.{binary64};
 ghost use Rattle.std.specs.Float.Ieee.{of_bits, to_bits};

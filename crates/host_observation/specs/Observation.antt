@@ -2,13 +2,13 @@
 -- program', kind 2) without the converted T3, the 8-byte ones first, each as two words with the low one first; the flags are that record's
 -- byte 1, of which 16 is ignored.
 -- Every word pattern says an observation. Assumes nothing.
-use Rattle.std.specs.Prelude.{List, ℕ, ◌+◌, ◌/◌, ◌%◌, get_or}
+use Rattle.call_types.specs.declared.CounterPoint.{CounterPoint}
+use Rattle.call_types.specs.declared.FollowUpTelemetry.{FollowUpTelemetry}
+use Rattle.estimate.specs.declared.ErrorEstimate.{ErrorEstimate}
+use Rattle.std.specs.Prelude.{List, ℕ, ◌+◌, ◌/◌, ◌%◌, get_or, Option}
 use Rattle.std.specs.Int.{w32, w64}
 use Rattle.std.proofs.Common.{to_z}
-use Rattle.estimate.specs.declared.Estimates.{Estimates}
 use Rattle.estimate.specs.Make.{format_of}
-use Rattle.call_types.specs.declared.Counters.{Counters}
-use Rattle.call_types.specs.declared.FollowUp.{FollowUp}
 use Rattle.call_types.specs.declared.ReplyKey.{ReplyKey}
 use Rattle.call_types.specs.declared.ReplyObservation.{ReplyObservation}
 use Rattle.host_numbers.specs.Numbers.{joined}
@@ -31,15 +31,15 @@ abbrev pub key_at : List ℕ → ReplyKey
 key_at w = record { sender = word w 12; reflector = word w 13; t3 = double w 0 }
 
 -- 15 S_TxC, 16 R_RxC, 17 R_TxC: flag 4
-abbrev pub counters_at : List ℕ → Counters
+abbrev pub counters_at : List ℕ → Option CounterPoint
 counters_at w = counters_by (flag 4 (flags_at w)) (word w 15) (word w 16) (word w 17)
 
 -- 18 sequence, 10-11 timestamp: flag 8; within it unknown mode: flag 128
-abbrev pub follow_at : List ℕ → FollowUp
+abbrev pub follow_at : List ℕ → Option FollowUpTelemetry
 follow_at w = follow_by (flag 8 (flags_at w)) (word w 18) (double w 10) (flag 128 (flags_at w))
 
 -- 20 as on the wire, the sender's estimate in the low 16 bits and the reflector's in the high ones: flag 32
-abbrev pub estimates_at : List ℕ → Estimates
+abbrev pub estimates_at : List ℕ → Option (ErrorEstimate × ErrorEstimate)
 estimates_at w = estimates_by (flag 32 (flags_at w)) (word w 20 % 65536) (word w 20 / 65536)
 
 -- 2-3 round trip; 4-5 T4: flag 1; PTP: flag 64; 6-7 reference; 19 offset; 14 ordinal: flag 2. Words 8, 9, 22 and 23 are unused.

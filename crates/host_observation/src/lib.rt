@@ -6,8 +6,8 @@ ghost use Rattle.record_parts.specs.Parts.{flag, time_by, ordinal_by};
 ghost use Rattle.estimate.specs.Make.{format_of};
 ghost use Rattle.host_observation.specs.Observation.{word, double, flags_at, key_at, counters_at, follow_at, estimates_at, observation_at};
 
-use call_types::{Counters, FollowUp, Ordinal, ReplyKey, ReplyObservation, Time};
-use estimate::{ClockFormat, Estimates};
+use call_types::{CounterPoint, FollowUpTelemetry, ReplyKey, ReplyObservation};
+use estimate::{ClockFormat, ErrorEstimate};
 use host_numbers::both;
 use record_parts::flag_set;
 
@@ -28,7 +28,7 @@ fn key(words: &[u32; 24]) -> ReplyKey
     }
 }
 
-fn received_at(words: &[u32; 24]) -> Time
+fn received_at(words: &[u32; 24]) -> Option<i64>
     ensures { result ≡ time_by (flag 1 (flags_at words.now)) (double words.now 4) }
 {
     let there = flag_set(flags(words), 1);
@@ -45,23 +45,23 @@ fn format(words: &[u32; 24]) -> ClockFormat
 fn reference(words: &[u32; 24]) -> i64
     ensures { result ≡ to_z w64 (double words.now 6) }
 {
-    signed_words::signed64(both(words[6], words[7]))
+    both(words[6], words[7]).cast_signed()
 }
 
 fn offset(words: &[u32; 24]) -> i32
     ensures { result ≡ to_z w32 (word words.now 19) }
 {
-    signed_words::signed32(words[19])
+    words[19].cast_signed()
 }
 
-fn ordinal(words: &[u32; 24]) -> Ordinal
+fn ordinal(words: &[u32; 24]) -> Option<u32>
     ensures { result ≡ ordinal_by (flag 2 (flags_at words.now)) (word words.now 14) }
 {
     let there = flag_set(flags(words), 2);
     record_parts::ordinal_by(there, words[14])
 }
 
-fn counters(words: &[u32; 24]) -> Counters
+fn counters(words: &[u32; 24]) -> Option<CounterPoint>
     ensures { result ≡ counters_at words.now }
 {
     let there = flag_set(flags(words), 4);
@@ -69,7 +69,7 @@ fn counters(words: &[u32; 24]) -> Counters
 }
 
 // 128 counts only with 8: without a follow-up there is nothing that it says.
-fn follow(words: &[u32; 24]) -> FollowUp
+fn follow(words: &[u32; 24]) -> Option<FollowUpTelemetry>
     ensures { result ≡ follow_at words.now }
 {
     let flags = flags(words);
@@ -90,7 +90,7 @@ fn high_half(word: u32) -> u16
     (word / 65536) as u16
 }
 
-fn estimates(words: &[u32; 24]) -> Estimates
+fn estimates(words: &[u32; 24]) -> Option<(ErrorEstimate, ErrorEstimate)>
     ensures { result ≡ estimates_at words.now }
 {
     let there = flag_set(flags(words), 32);

@@ -1,5 +1,7 @@
 -- The contract determines the number, every word of the ledger and the three rooms: two exits that meet it are equal. The number is the
 -- table's, and a refusal changes nothing. Assumes nothing.
+use Rattle.std.specs.Prelude.{Option}
+use Rattle.call_types.specs.declared.CounterPoint.{CounterPoint}
 use mathlib.Core.Path.{◌≡◌, refl, sym, ap, ◌∙◌}
 use mathlib.Core.List.{List}
 use Prim.Native.Nat.{ℕ, zero, suc}
@@ -8,7 +10,6 @@ use contract.Lifetimes.{Lfts}
 use borrow.Fn.World as World
 use borrow.Fn.Kinds as Kinds'
 use denote.Triple.Clauses as Clauses
-use Rattle.call_types.specs.declared.Counters.{Counters}
 use Rattle.ledger_steps.specs.Refusals.{refusal_of_observe}
 use Rattle.ledger_steps.specs.Observe.{ObserveOutcome, observe_on}
 use Rattle.ledger_steps.specs.Calls.{observe_by, observe_to}
@@ -31,7 +32,7 @@ observe-unique κs a r₁ r₂ s₁ s₂ p q =
 -- ---- the number, and what a refusal leaves
 
 module _ (w : List ℕ) (keys slots : List (List ℕ)) (offsets : List ℕ) (links : List (List ℕ)) (told : List ℕ) where
-  abbrev counters : Counters
+  abbrev counters : Option CounterPoint
   counters = (observation_at told).counters
 
   number_by : (k : ℕ) (o : ObserveOutcome) → (left_by (observe_by k o slots offsets links) counters w).number ≡ k

@@ -21,5 +21,5 @@ pub extern "C" fn ambrulicciu_observe(
 ) -> u8
     ensures { left result ledger.new slots.new offsets.new links.new ≡ observe_leaves ledger.old keys.now slots.old offsets.old links.old observation.now }
 {
-    observe(ledger, keys, slots, offsets, links, observation)
+    limits::number(observe(ledger, keys, slots, offsets, links, observation))
 }

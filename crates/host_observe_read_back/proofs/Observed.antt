@@ -1,4 +1,8 @@
 -- The words that a served `observe` leaves are read back as the library's next ledger, of every reply whose counters are u32. Assumes nothing.
+use Rattle.correlation.specs.Class.{Class}
+use Rattle.std.specs.Prelude.{Option, Some, None, Ok, Err}
+use Rattle.call_types.specs.declared.CounterPoint.{CounterPoint}
+use Rattle.call_types.specs.declared.FollowUpTelemetry.{FollowUpTelemetry}
 use mathlib.Core.Path.{◌≡◌, refl}
 use mathlib.Core.List.{List}
 use Prim.Native.Nat.{ℕ}
@@ -6,19 +10,13 @@ use lib.IntN.{ℤ}
 use native.Mathlib.Omega.{arith}
 use lib.ListN.{length, get_or}
 use Rattle.limits.specs.Limits.{capacity}
-use Rattle.call_types.specs.declared.Counters.{Counters}
-use Rattle.call_types.specs.declared.Counters.TheVariants as counters
-use Rattle.call_types.specs.declared.FollowUp.{FollowUp}
-use Rattle.call_types.specs.declared.FollowUp.TheVariants as follow
-use Rattle.call_types.specs.declared.Ordinal.{Ordinal}
 use Rattle.call_types.specs.declared.ReplyKey.{ReplyKey}
 use Rattle.call_types.specs.declared.ReplyObservation.{ReplyObservation}
 use Rattle.chains.specs.declared.Ring.{Ring}
 use Rattle.chains.specs.Hash.{number_hash}
 use Rattle.offset_set.specs.Offsets as offset_set
 use Rattle.key_ring.specs.Table.{hash_of}
-use Rattle.correlation.specs.declared.follow.Class.{Class}
-use Rattle.correlation.specs.declared.follow.Class.TheVariants as class
+use Rattle.correlation.specs.declared.follow.Miss.TheVariants as miss
 use Rattle.direct.specs.declared.Direct.{Direct}
 use Rattle.direct.specs.Outcomes as outcomes
 use Rattle.follow_ups.specs.declared.FollowUps.{FollowUps}
@@ -38,41 +36,38 @@ use Rattle.host_observe_read_back.proofs.Quality.{QualityFits, quality-kept, qua
 -- ---- what the direct part and the follow-up leave is read back, or stays as it was
 
 direct-stays :
-    (N : ℕ) (by_number : ℕ → ℕ) (x : Counters) → CountersFit x → (d : Direct) (s : offset_set.OffsetSet) (o : Ordinal) → WindowFits d.window →
+    (N : ℕ) (by_number : ℕ → ℕ) (x : Option CounterPoint) → CountersFit x → (d : Direct) (s : offset_set.OffsetSet) (o : Option ℕ) → WindowFits d.window →
     DirectStays x d (direct_by N by_number x d s o).direct
-direct-stays N by_number counters.Absent f d s o h = refl
-direct-stays N by_number (counters.Point c) f d s o h =
+direct-stays N by_number None f d s o h = refl
+direct-stays N by_number (Some c) f d s o h =
     direct-kept _ (window_again _ (recorded-fits c f N d o (offset_set.contains N by_number s (outcomes.sought_in d.window c)) h))
 
 class_fits : (q : ClockQuality) (c : Class) → QualityFits q → QualityFits (quality_after c q)
-class_fits q class.Unavailable h = h
-class_fits q class.Ambiguous h = h
-class_fits q class.Unmatched h = h
-class_fits q class.Repeated h = h
-class_fits q (class.Matched m) h = sample_fits q m.quality h
+class_fits q (Err why) h = h
+class_fits q (Ok m) h = sample_fits q m.quality h
 
 follow-by :
-    (N : ℕ) (by_key : ReplyKey → ℕ) (by_number : ℕ → ℕ) (x : FollowUp) (f : FollowUps) (ring : Ring) (keys slots links : List (List ℕ)) (o : ReplyObservation) →
+    (N : ℕ) (by_key : ReplyKey → ℕ) (by_number : ℕ → ℕ) (x : Option FollowUpTelemetry) (f : FollowUps) (ring : Ring) (keys slots links : List (List ℕ)) (o : ReplyObservation) →
     QualityFits f.quality → QualityFits (follow_by N by_key by_number x f ring keys slots links o).follow.quality
 unfolding followed
-follow-by N by_key by_number follow.Absent f ring keys slots links o h = h
-follow-by N by_key by_number (follow.Telemetry t) f ring keys slots links o h =
+follow-by N by_key by_number None f ring keys slots links o h = h
+follow-by N by_key by_number (Some t) f ring keys slots links o h =
     class_fits f.quality (class_at N slots (holder_of N by_key by_number ring keys slots links t.sequence) o.key.reflector o.offset t) h
 
 -- a class that is not matched leaves delays and clock quality
 class_stays : (f : FollowUps) (c : Class) (offset : ℤ) → (followed f c offset).counts.matched ≡ f.counts.matched → FollowStays f (followed f c offset)
 unfolding followed
-class_stays f class.Unavailable offset e = record { delay_stays = refl; quality_stays = refl }
-class_stays f class.Ambiguous offset e = record { delay_stays = refl; quality_stays = refl }
-class_stays f class.Unmatched offset e = record { delay_stays = refl; quality_stays = refl }
-class_stays f class.Repeated offset e = record { delay_stays = refl; quality_stays = refl }
-class_stays f (class.Matched m) offset e = absurd (omega (arith, e))
+class_stays f (Err miss.Unavailable) offset e = record { delay_stays = refl; quality_stays = refl }
+class_stays f (Err miss.Ambiguous) offset e = record { delay_stays = refl; quality_stays = refl }
+class_stays f (Err miss.Unmatched) offset e = record { delay_stays = refl; quality_stays = refl }
+class_stays f (Err miss.Repeated) offset e = record { delay_stays = refl; quality_stays = refl }
+class_stays f (Ok m) offset e = absurd (omega (arith, e))
 
 follow-stays :
-    (N : ℕ) (by_key : ReplyKey → ℕ) (by_number : ℕ → ℕ) (x : FollowUp) (f : FollowUps) (ring : Ring) (keys slots links : List (List ℕ)) (o : ReplyObservation) →
+    (N : ℕ) (by_key : ReplyKey → ℕ) (by_number : ℕ → ℕ) (x : Option FollowUpTelemetry) (f : FollowUps) (ring : Ring) (keys slots links : List (List ℕ)) (o : ReplyObservation) →
     (follow_by N by_key by_number x f ring keys slots links o).follow.counts.matched ≡ f.counts.matched → FollowStays f (follow_by N by_key by_number x f ring keys slots links o).follow
-follow-stays N by_key by_number follow.Absent f ring keys slots links o e = record { delay_stays = refl; quality_stays = refl }
-follow-stays N by_key by_number (follow.Telemetry t) f ring keys slots links o e =
+follow-stays N by_key by_number None f ring keys slots links o e = record { delay_stays = refl; quality_stays = refl }
+follow-stays N by_key by_number (Some t) f ring keys slots links o e =
     class_stays f (class_at N slots (holder_of N by_key by_number ring keys slots links t.sequence) o.key.reflector o.offset t) o.offset e
 
 -- ---- the whole

@@ -1,4 +1,5 @@
 -- A clock quality is read back from its words: as any words say it, and after any sample. Assumes nothing.
+use Rattle.std.specs.Prelude.{Option, Some, None}
 use mathlib.Core.Path.{◌≡◌, refl}
 use mathlib.Core.Bool.{Bool, true, false, cond}
 use mathlib.Core.List.{List}
@@ -15,14 +16,8 @@ use Rattle.estimate.specs.declared.ErrorEstimate.{ErrorEstimate}
 use Rattle.estimate.specs.Error.{known_if, error_known, reading_of}
 use Rattle.estimate.specs.Wire as wire
 use Rattle.clock_quality.specs.declared.ClockEstimate.{ClockEstimate}
-use Rattle.clock_quality.specs.declared.LastEstimate.{LastEstimate}
-use Rattle.clock_quality.specs.declared.LastEstimate.TheVariants as last
-use Rattle.clock_quality.specs.declared.LargestError.{LargestError}
-use Rattle.clock_quality.specs.declared.LargestError.TheVariants as largest
 use Rattle.clock_quality.specs.declared.ClockQuality.{ClockQuality}
 use Rattle.clock_quality.specs.Quality as quality
-use Rattle.correlation.specs.declared.Wires.{Wires}
-use Rattle.correlation.specs.declared.Wires.TheVariants as wires
 use Rattle.follow_ups.specs.Followed.{estimates_of}
 use Rattle.host_numbers.specs.Numbers.{is_set}
 use Rattle.host_quality.specs.Words.{error_of, estimate_of, last_of, largest_of, quality_at, ErrorKept, LastKept, LargestKept, QualityKept}
@@ -39,13 +34,13 @@ pub record EstimateFits (e : ClockEstimate) : Type 0 where
   pub multiplier_in : e.multiplier < 256
   pub error_in : ErrorFits e.error
 
-abbrev pub LastFits : LastEstimate → Type 0
-LastFits last.Absent = Unit
-LastFits (last.Seen e) = EstimateFits e
+abbrev pub LastFits : Option ClockEstimate → Type 0
+LastFits None = Unit
+LastFits (Some e) = EstimateFits e
 
-abbrev pub LargestFits : LargestError → Type 0
-LargestFits largest.Absent = Unit
-LargestFits (largest.Ms x) = T (fits binary64 x)
+abbrev pub LargestFits : Option Float → Type 0
+LargestFits None = Unit
+LargestFits (Some x) = T (fits binary64 x)
 
 pub record QualityFits (q : ClockQuality) : Type 0 where
   pub largest_in : LargestFits q.largest
@@ -58,13 +53,13 @@ error_kept : (e : Reading) → ErrorFits e → ErrorKept e
 error_kept (Known x) h = error_again x h
 error_kept (Invalid bits) h = wire_kept bits h
 
-last-kept : (l : LastEstimate) → LastFits l → LastKept l
-last-kept last.Absent h = refl
-last-kept (last.Seen e) h = last_again e h.scale_in h.multiplier_in (error_kept e.error h.error_in)
+last-kept : (l : Option ClockEstimate) → LastFits l → LastKept l
+last-kept None h = refl
+last-kept (Some e) h = last_again e h.scale_in h.multiplier_in (error_kept e.error h.error_in)
 
-largest-kept : (l : LargestError) → LargestFits l → LargestKept l
-largest-kept largest.Absent h = refl
-largest-kept (largest.Ms x) h = largest_again x h
+largest-kept : (l : Option Float) → LargestFits l → LargestKept l
+largest-kept None h = refl
+largest-kept (Some x) h = largest_again x h
 
 pub quality-kept : (q : ClockQuality) → QualityFits q → QualityKept q
 quality-kept q h = quality_again q (largest-kept q.largest h.largest_in) (last-kept q.sender h.sender_in) (last-kept q.reflector h.reflector_in)
@@ -82,11 +77,11 @@ estimate_by : (word bits : ℕ) → EstimateFits (estimate_of word bits)
 unfolding estimate_of
 estimate_by word bits = record { scale_in = in_byte _; multiplier_in = in_byte _; error_in = error_by (eqb (word / 8 % 2) 1) bits }
 
-last-by : (b : Bool) (word bits : ℕ) → LastFits (cond b (last.Seen (estimate_of word bits)) last.Absent)
+last-by : (b : Bool) (word bits : ℕ) → LastFits (cond b (Some (estimate_of word bits)) None)
 last-by true word bits = estimate_by word bits
 last-by false word bits = tt
 
-largest-by : (b : Bool) (bits : ℕ) → LargestFits (cond b (largest.Ms (of_bits binary64 bits)) largest.Absent)
+largest-by : (b : Bool) (bits : ℕ) → LargestFits (cond b (Some (of_bits binary64 bits)) None)
 largest-by true bits = of_bits-fits binary64 bits
 largest-by false bits = tt
 
@@ -116,18 +111,18 @@ wire_fits w =
     in_six : (n : ℕ) → n % 64 < 256
     in_six n = omega arith
 
-larger-fits : (l : LargestError) (x : Float) → LargestFits l → T (fits binary64 x) → LargestFits (quality.larger_of l x)
-larger-fits largest.Absent x h k = k
-larger-fits (largest.Ms most) x h k = cond-fits binary64 (le x most) most x h k
+larger-fits : (l : Option Float) (x : Float) → LargestFits l → T (fits binary64 x) → LargestFits (quality.larger_of l x)
+larger-fits None x h k = k
+larger-fits (Some most) x h k = cond-fits binary64 (le x most) most x h k
 
-largest-after : (l : LargestError) (a b : Reading) → LargestFits l → LargestFits (quality.largest_of l a b)
+largest-after : (l : Option Float) (a b : Reading) → LargestFits l → LargestFits (quality.largest_of l a b)
 largest-after l (Known x) (Known y) h = larger-fits l (add binary64 x y) h (add-fits binary64 x y)
 largest-after l (Known x) (Invalid v) h = h
 largest-after l (Invalid v) b h = h
 
-pub sample_fits : (q : ClockQuality) (x : Wires) → QualityFits q → QualityFits (quality.recorded_of q (estimates_of x))
-sample_fits q wires.Absent h = record { largest_in = h.largest_in; sender_in = tt; reflector_in = tt }
-sample_fits q (wires.Pair s r) h =
+pub sample_fits : (q : ClockQuality) (x : Option (ℕ × ℕ)) → QualityFits q → QualityFits (quality.recorded_of q (estimates_of x))
+sample_fits q None h = record { largest_in = h.largest_in; sender_in = tt; reflector_in = tt }
+sample_fits q (Some (s, r)) h =
     let a = wire_fits s in
     let b = wire_fits r in
     record {

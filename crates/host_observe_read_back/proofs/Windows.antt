@@ -1,4 +1,5 @@
 -- Direct loss is read back from its words: as any words say it, and after any reply whose counters are u32. Assumes nothing.
+use Rattle.std.specs.Prelude.{Option, Some, None}
 use mathlib.Core.Path.{◌≡◌, refl, subst}
 use mathlib.Core.Bool.{Bool, true, false, cond}
 use mathlib.Core.List.{List}
@@ -8,12 +9,8 @@ use native.Mathlib.Omega.{arith}
 use lib.Dec.{eqb, ltb}
 use lib.ListN.{get_or}
 use Rattle.call_types.specs.declared.CounterPoint.{CounterPoint}
-use Rattle.call_types.specs.declared.Ordinal.{Ordinal}
-use Rattle.call_types.specs.declared.Ordinal.TheVariants as ordinal
 use Rattle.direct.specs.declared.Counts.{Counts}
 use Rattle.direct.specs.declared.Epoch.{Epoch}
-use Rattle.direct.specs.declared.Window.{Window}
-use Rattle.direct.specs.declared.Window.TheVariants.{Closed, Open}
 use Rattle.direct.specs.declared.Direct.{Direct}
 use Rattle.direct.specs.Offsets.{offset, sender_offset, received_offset, transmit_offset, jumps}
 use Rattle.direct.specs.Outcomes.{anchored_at, highest, below, above, without_anchor, with_anchor, both_zero, in_window, by_ordinal, recorded}
@@ -30,9 +27,9 @@ pub record EpochFits (e : Epoch) : Type 0 where
   pub sender_in : e.sender < 2 ^ 32
   pub received_in : e.received < 2 ^ 32
 
-abbrev pub WindowFits : Window → Type 0
-WindowFits Closed = Unit
-WindowFits (Open e) = EpochFits e
+abbrev pub WindowFits : Option Epoch → Type 0
+WindowFits None = Unit
+WindowFits (Some e) = EpochFits e
 
 -- ---- such a window is read back
 
@@ -62,9 +59,9 @@ said e h =
       };
     }
 
-pub window_again : (x : Window) → WindowFits x → WindowKept x
-window_again Closed h = closed_kept
-window_again (Open e) h = open_kept e _ _ _ _ _ (said e h)
+pub window_again : (x : Option Epoch) → WindowFits x → WindowKept x
+window_again None h = closed_kept
+window_again (Some e) h = open_kept e _ _ _ _ _ (said e h)
 
 -- ---- any words say such a window
 
@@ -80,7 +77,7 @@ epoch_fits anchor transmitted latest maxima seen = record {
   received_in = in_word _;
 }
 
-window-by : (b : Bool) (e : Epoch) → EpochFits e → WindowFits (cond b (Open e) Closed)
+window-by : (b : Bool) (e : Epoch) → EpochFits e → WindowFits (cond b (Some e) None)
 window-by true e h = h
 window-by false e h = tt
 
@@ -120,15 +117,15 @@ module _ (c : CounterPoint) (c-fits : PointFits c) where
   }
 
   module _ (N : ℕ) where
-    in_window_lem : (n : Counts) (x : Window) (again : Bool) → WindowFits x → WindowFits (in_window N n x c again).direct.window
-    in_window_lem n Closed again h = without (both_zero c) n
-    in_window_lem n (Open e) again h = with' (jumps e.anchor c) again (eqb e.seen N) (ltb (transmit_offset e.anchor c) (highest e)) n e h
+    in_window_lem : (n : Counts) (x : Option Epoch) (again : Bool) → WindowFits x → WindowFits (in_window N n x c again).direct.window
+    in_window_lem n None again h = without (both_zero c) n
+    in_window_lem n (Some e) again h = with' (jumps e.anchor c) again (eqb e.seen N) (ltb (transmit_offset e.anchor c) (highest e)) n e h
 
-    by-ordinal : (b : Bool) (n : Counts) (x : Window) (again : Bool) → WindowFits x → WindowFits (by_ordinal N b n x c again).direct.window
+    by-ordinal : (b : Bool) (n : Counts) (x : Option Epoch) (again : Bool) → WindowFits x → WindowFits (by_ordinal N b n x c again).direct.window
     by-ordinal true n x again h = in_window_lem n x again h
     by-ordinal false n x again h = h
 
-    pub recorded-fits : (d : Direct) (o : Ordinal) (again : Bool) → WindowFits d.window → WindowFits (recorded N d c o again).direct.window
+    pub recorded-fits : (d : Direct) (o : Option ℕ) (again : Bool) → WindowFits d.window → WindowFits (recorded N d c o again).direct.window
     unfolding recorded
-    recorded-fits d ordinal.Absent again h = h
-    recorded-fits d (ordinal.Number m) again h = by-ordinal (eqb c.sender.0 m) d.counts d.window again h
+    recorded-fits d None again h = h
+    recorded-fits d (Some m) again h = by-ordinal (eqb c.sender.0 m) d.counts d.window again h

@@ -4,6 +4,7 @@ use contract.Lifetimes.{Lfts}
 use borrow.Fn.World as World
 use borrow.Fn.Kinds as Kinds'
 use denote.Triple.Clauses as Clauses
+use Rattle.limits.proofs.Numbers.{number_unique}
 use Rattle.host_observe_words.specs.Observe.{Left}
 use Rattle.host_observe_words.specs.contracts.observe as observe
 use Rattle.host_observe_words.proofs.observe.Kinds as observe-kinds
@@ -16,4 +17,4 @@ pub observe-unique :
     → (r₁ ≡ r₂) × (s₁.0.now ≡ s₂.0.now) × (s₁.1.1.0.now ≡ s₂.1.1.0.now) × (s₁.1.1.1.0.now ≡ s₂.1.1.1.0.now) × (s₁.1.1.1.1.0.now ≡ s₂.1.1.1.1.0.now)
 observe-unique κs a r₁ r₂ s₁ s₂ p q =
     let e = p ∙ sym q in
-    (ap (λ (x : Left). x.number) e, ap (λ (x : Left). x.ledger) e, ap (λ (x : Left). x.slots) e, ap (λ (x : Left). x.offsets) e, ap (λ (x : Left). x.links) e)
+    (number_unique r₁ r₂ (ap (λ (x : Left). x.number) e), ap (λ (x : Left). x.ledger) e, ap (λ (x : Left). x.slots) e, ap (λ (x : Left). x.offsets) e, ap (λ (x : Left). x.links) e)

@@ -1,5 +1,6 @@
 -- A matched follow-up in the words: two counts, the delay and the clock quality, one after the other, are all that there is of follow-ups.
 -- Assumes nothing.
+use Rattle.std.specs.Prelude.{Ok}
 use mathlib.Core.Path.{◌≡◌, refl, sym, ap, ◌∙◌, subst}
 use mathlib.Core.List.{List}
 use Prim.Native.Nat.{ℕ, ◌+◌, ◌≤◌}
@@ -10,7 +11,6 @@ use lib.Seq.{sets, set-get_or}
 use Rattle.clock_quality.specs.declared.ClockQuality.{ClockQuality}
 use Rattle.clock_quality.specs.Bounds as quality
 use Rattle.clock_quality.specs.Quality as clock_quality
-use Rattle.correlation.specs.declared.follow.Class.TheVariants as class
 use Rattle.correlation.specs.declared.follow.Match.{Match}
 use Rattle.correlation.specs.Class.{delay_of}
 use Rattle.delays.specs.declared.Delays.{Delays}
@@ -66,7 +66,7 @@ quality_bounded w w₂ d h e = subst quality.Bounded (sym (ap (quality_at 58) e 
 stays : (w : List ℕ) (i : ℕ) → 46 ≤ i → set (two_more w) i (get_or w i 0) ≡ two_more w
 stays w i h = ap (set (two_more w) i) (sym (two_beyond w i h)) ∙ set-get_or (two_more w) i 0
 
-counts-stored : (w : List ℕ) (m : Match) → two_more w ≡ sets w 44 (follow_counts_words (counted (class.Matched m) (follow_at 44 w).counts))
+counts-stored : (w : List ℕ) (m : Match) → two_more w ≡ sets w 44 (follow_counts_words (counted (Ok m) (follow_at 44 w).counts))
 unfolding follow_at
 counts-stored w m = sym (
     ap (λ (v : List ℕ). set (set (set v 47 (get_or w 47 0)) 48 (get_or w 48 0)) 49 (get_or w 49 0)) (stays w 46 (omega arith))
@@ -76,18 +76,18 @@ counts-stored w m = sym (
 
 -- the three parts are the words of all
 joined : (w : List ℕ) (f : ClockQuality) (d : Delays) (m : Match) (offset : ℤ)
-    → d ≡ (followed (follow_at 44 w) (class.Matched m) offset).delay → f ≡ (followed (follow_at 44 w) (class.Matched m) offset).quality
-    → sets (sets (sets w 44 (follow_counts_words (counted (class.Matched m) (follow_at 44 w).counts))) 50 (delays_words d)) 58 (quality_words f)
-    ≡ sets w 44 (follow_words (followed (follow_at 44 w) (class.Matched m) offset))
+    → d ≡ (followed (follow_at 44 w) (Ok m) offset).delay → f ≡ (followed (follow_at 44 w) (Ok m) offset).quality
+    → sets (sets (sets w 44 (follow_counts_words (counted (Ok m) (follow_at 44 w).counts))) 50 (delays_words d)) 58 (quality_words f)
+    ≡ sets w 44 (follow_words (followed (follow_at 44 w) (Ok m) offset))
 unfolding followed follow_words delays_words
 joined w f d m offset ed ef =
-    λ i. sets (sets (sets w 44 (follow_counts_words (counted (class.Matched m) (follow_at 44 w).counts))) 50 (delays_words (ed i))) 58 (quality_words (ef i))
+    λ i. sets (sets (sets w 44 (follow_counts_words (counted (Ok m) (follow_at 44 w).counts))) 50 (delays_words (ed i))) 58 (quality_words (ef i))
 
 pub matched_as :
     (w w₂ w₃ : List ℕ) (m : Match) (offset given : ℤ) → given ≡ offset
     → w₂ ≡ sets (two_more w) 50 (delays_words (recorded_of (delays_at 50 (two_more w)) (nanoseconds_of (delay_of m.t4 m.t3 given))))
     → w₃ ≡ sets w₂ 58 (quality_words (clock_quality.recorded_of (quality_at 58 w₂) (estimates_of m.quality)))
-    → w₃ ≡ sets w 44 (follow_words (followed (follow_at 44 w) (class.Matched m) offset))
+    → w₃ ≡ sets w 44 (follow_words (followed (follow_at 44 w) (Ok m) offset))
 unfolding followed
 matched_as w w₂ w₃ m offset given eg e₂ e₃ =
     e₃

@@ -1,16 +1,15 @@
 -- A part of the ledger is read the same after stores into the words before it. Assumes nothing.
+use Rattle.std.specs.Prelude.{Option, Some, None}
+use Rattle.call_types.specs.declared.CounterPoint.{CounterPoint}
+use Rattle.direct.specs.declared.Epoch.{Epoch}
 use mathlib.Core.Path.{◌≡◌, refl, ◌∙◌}
 use mathlib.Core.List.{List, [], ◌∷◌}
 use Prim.Native.Nat.{ℕ, suc, ◌+◌, ◌≤◌, ◌<◌}
 use native.Mathlib.Omega.{arith}
 use lib.ListN.{length, get_or, set}
 use lib.Seq.{sets, get_or-set_other}
-use Rattle.call_types.specs.declared.Counters.{Counters}
-use Rattle.call_types.specs.declared.Counters.TheVariants as counters
 use Rattle.direct.specs.declared.Direct.{Direct}
 use Rattle.direct.specs.declared.Counts.{Counts}
-use Rattle.direct.specs.declared.Window.{Window}
-use Rattle.direct.specs.declared.Window.TheVariants.{Closed, Open}
 use Rattle.delays.specs.declared.Delays.{Delays}
 use Rattle.host_quality.specs.Words.{quality_at}
 use Rattle.host_ledger.specs.Parts.{delays_at, delays_words, epoch_words, window_at, direct_at, direct_words, follow_at}
@@ -68,16 +67,16 @@ pub direct-same : (w : List ℕ) (d : Delays) → direct_at 33 (timed w d) ≡ d
 direct-same w d = direct_beyond (timed w d) w (timed_beyond w d)
 
 -- direct loss
-long-direct : (n : Counts) (x : Window) → length (direct_words (record { counts = n; window = x })) ≡ 11
+long-direct : (n : Counts) (x : Option Epoch) → length (direct_words (record { counts = n; window = x })) ≡ 11
 unfolding direct_words epoch_words
-long-direct n Closed = refl
-long-direct n (Open e) = refl
+long-direct n None = refl
+long-direct n (Some e) = refl
 
-stored_beyond : (told : Counters) (w : List ℕ) (d : Delays) (x : Direct) → Beyond 44 (direct_stored told (timed w d) x) w
-stored_beyond counters.Absent w d x = λ j l. timed_beyond w d j (omega arith)
-stored_beyond (counters.Point c) w d x =
+stored_beyond : (told : Option CounterPoint) (w : List ℕ) (d : Delays) (x : Direct) → Beyond 44 (direct_stored told (timed w d) x) w
+stored_beyond None w d x = λ j l. timed_beyond w d j (omega arith)
+stored_beyond (Some c) w d x =
     let long = long-direct x.counts x.window in
     beyond_sets (direct_words x) 44 (timed w d) w 33 (omega (arith, long)) (λ j l. timed_beyond w d j (omega arith))
 
-pub follow-same : (told : Counters) (w : List ℕ) (d : Delays) (x : Direct) → follow_at 44 (direct_stored told (timed w d) x) ≡ follow_at 44 w
+pub follow-same : (told : Option CounterPoint) (w : List ℕ) (d : Delays) (x : Direct) → follow_at 44 (direct_stored told (timed w d) x) ≡ follow_at 44 w
 follow-same told w d x = follow_beyond (direct_stored told (timed w d) x) w (stored_beyond told w d x)

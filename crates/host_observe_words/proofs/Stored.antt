@@ -1,4 +1,6 @@
 -- What is stored of the follow-ups, by what was told and by the class. Assumes nothing.
+use Rattle.correlation.specs.Class.{Class}
+use Rattle.std.specs.Prelude.{Option, Some, None, Ok, Err}
 use mathlib.Core.Path.{◌≡◌, refl, sym, ap, ◌∙◌}
 use mathlib.Core.Bool.{Bool, cond}
 use mathlib.Core.List.{List, [], ◌∷◌}
@@ -7,16 +9,15 @@ use native.Mathlib.Omega.{arith}
 use lib.IntN.{ℤ}
 use lib.ListN.{get_or}
 use lib.Seq.{sets, set-get_or}
-use Rattle.call_types.specs.declared.FollowUp.{FollowUp}
-use Rattle.call_types.specs.declared.FollowUp.TheVariants as follow
 use Rattle.call_types.specs.declared.FollowUpTelemetry.{FollowUpTelemetry}
 use Rattle.call_types.specs.declared.ReplyKey.{ReplyKey}
 use Rattle.call_types.specs.declared.ReplyObservation.{ReplyObservation}
 use Rattle.chains.specs.declared.Ring.{Ring}
 use Rattle.chains.proofs.Tests.{eq_true, eq_false}
-use Rattle.correlation.specs.declared.follow.Class.{Class}
-use Rattle.correlation.specs.declared.follow.Class.TheVariants as class
 use Rattle.correlation.specs.declared.follow.Match.{Match}
+use Rattle.correlation.specs.declared.follow.Miss.{Miss}
+use Rattle.correlation.specs.declared.follow.Miss.TheVariants as miss
+use Rattle.follow_ups.specs.declared.FollowCounts.{FollowCounts}
 use Rattle.follow_ups.specs.declared.FollowUps.{FollowUps}
 use Rattle.follow_ups.specs.Followed.{counted, followed}
 use Rattle.ledger_steps.specs.Observe.{FollowOutcome, follow_outcome, follow_by, follow_in}
@@ -25,16 +26,23 @@ use Rattle.host_ledger.specs.Parts.{follow_at, follow_counts_words, follow_words
 use Rattle.host_ledger.specs.Left.{follow_stored}
 use Rattle.host_observe_words.specs.Observe.{follow_left, follow_leaves}
 
+-- a follow-up that is not matched leaves the count of those that are
+pub matched_stays : (why : Miss) (n : FollowCounts) → (counted (Err why) n).matched ≡ n.matched
+matched_stays miss.Unavailable n = refl
+matched_stays miss.Ambiguous n = refl
+matched_stays miss.Unmatched n = refl
+matched_stays miss.Repeated n = refl
+
 -- ---- the follow-up, at any capacity N
 
 module _ (N : ℕ) (by_key : ReplyKey → ℕ) (by_number : ℕ → ℕ) where
   -- an observation, by its follow-up
   follow_as :
-      (fs : FollowUps) (ring : Ring) (keys slots links : List (List ℕ)) (o : ReplyObservation) (x : FollowUp) (out : FollowOutcome)
+      (fs : FollowUps) (ring : Ring) (keys slots links : List (List ℕ)) (o : ReplyObservation) (x : Option FollowUpTelemetry) (out : FollowOutcome)
       → o.follow ≡ x → out ≡ follow_by N by_key by_number x fs ring keys slots links o
       → out ≡ follow_in N by_key by_number fs ring keys slots links o
   unfolding follow_in
-  follow_as fs ring keys slots links o x out e h = h ∙ sym (ap (λ (y : FollowUp). follow_by N by_key by_number y fs ring keys slots links o) e)
+  follow_as fs ring keys slots links o x out e h = h ∙ sym (ap (λ (y : Option FollowUpTelemetry). follow_by N by_key by_number y fs ring keys slots links o) e)
 
   -- a follow-up whose class is known
   counted-as :
@@ -42,7 +50,7 @@ module _ (N : ℕ) (by_key : ReplyKey → ℕ) (by_number : ℕ → ℕ) where
       → class_outcome c slots' ≡ class_in N by_key by_number ring keys slots links o.key.reflector offset f
       → offset ≡ o.offset
       → fs' ≡ followed fs c offset
-      → follow_outcome fs' slots' ≡ follow_by N by_key by_number (follow.Telemetry f) fs ring keys slots links o
+      → follow_outcome fs' slots' ≡ follow_by N by_key by_number (Some f) fs ring keys slots links o
   unfolding class_in
   counted-as fs fs' ring keys slots slots' links o f c offset e₁ e₂ e₃ =
       ap (λ (x : FollowUps). follow_outcome x slots') (e₃ ∙ ap (followed fs c) e₂)
@@ -79,28 +87,28 @@ module _ (w : List ℕ) where
       sym (unmatched (followed (follow_at 44 w) c offset) (ap (λ (x : Class). (counted x (follow_at 44 w).counts).matched) e ∙ h))
 
   -- a matched one
-  pub matched_as : (c : Class) (m : Match) (offset given : ℤ) → given ≡ offset → c ≡ class.Matched m
-      → sets w 44 (follow_words (followed (follow_at 44 w) (class.Matched m) given)) ≡ follow_stored w (followed (follow_at 44 w) c offset)
+  pub matched_as : (c : Class) (m : Match) (offset given : ℤ) → given ≡ offset → c ≡ Ok m
+      → sets w 44 (follow_words (followed (follow_at 44 w) (Ok m) given)) ≡ follow_stored w (followed (follow_at 44 w) c offset)
   unfolding followed follow_at
   matched_as c m offset given q e =
-      ap (λ (x : ℤ). sets w 44 (follow_words (followed (follow_at 44 w) (class.Matched m) x))) q
+      ap (λ (x : ℤ). sets w 44 (follow_words (followed (follow_at 44 w) (Ok m) x))) q
       ∙ sym
       (ap (λ (x : Class). follow_stored w (followed (follow_at 44 w) x offset)) e
-      ∙ ap (λ (b : Bool). cond b (sets w 44 (follow_counts_words (counted (class.Matched m) (follow_at 44 w).counts))) (sets w 44 (follow_words (followed (follow_at 44 w) (class.Matched m) offset))))
+      ∙ ap (λ (b : Bool). cond b (sets w 44 (follow_counts_words (counted (Ok m) (follow_at 44 w).counts))) (sets w 44 (follow_words (followed (follow_at 44 w) (Ok m) offset))))
       (eq_false (get_or w 45 0 + 1) (get_or w 45 0) (λ z. omega arith)))
 
 module _ (N : ℕ) (by_key : ReplyKey → ℕ) (by_number : ℕ → ℕ) (w : List ℕ) (ring : Ring) (keys slots links : List (List ℕ)) (o : ReplyObservation) where
   -- no follow-up
-  pub follow_untold : o.follow ≡ follow.Absent → follow_left w slots ≡ follow_leaves w (follow_in N by_key by_number (follow_at 44 w) ring keys slots links o)
+  pub follow_untold : o.follow ≡ None → follow_left w slots ≡ follow_leaves w (follow_in N by_key by_number (follow_at 44 w) ring keys slots links o)
   unfolding follow_in
   follow_untold e =
       ap (λ (v : List ℕ). follow_left v slots) (sym (untold w))
-      ∙ sym (ap (λ (x : FollowUp). follow_leaves w (follow_by N by_key by_number x (follow_at 44 w) ring keys slots links o)) e)
+      ∙ sym (ap (λ (x : Option FollowUpTelemetry). follow_leaves w (follow_by N by_key by_number x (follow_at 44 w) ring keys slots links o)) e)
 
   -- a follow-up whose class was counted
   pub follow-told :
       (f : FollowUpTelemetry) (c : Class) (offset : ℤ) (slots' : List (List ℕ)) (w' : List ℕ)
-      → o.follow ≡ follow.Telemetry f
+      → o.follow ≡ Some f
       → class_outcome c slots' ≡ class_in N by_key by_number ring keys slots links o.key.reflector offset f
       → offset ≡ o.offset
       → w' ≡ follow_stored w (followed (follow_at 44 w) c offset)
@@ -108,5 +116,5 @@ module _ (N : ℕ) (by_key : ReplyKey → ℕ) (by_number : ℕ → ℕ) (w : Li
   follow-told f c offset slots' w' e₁ e₂ e₃ e₄ =
       ap (λ (v : List ℕ). follow_left v slots') e₄
       ∙ ap (follow_leaves w)
-      (follow_as N by_key by_number (follow_at 44 w) ring keys slots links o (follow.Telemetry f) (follow_outcome (followed (follow_at 44 w) c offset) slots') e₁
+      (follow_as N by_key by_number (follow_at 44 w) ring keys slots links o (Some f) (follow_outcome (followed (follow_at 44 w) c offset) slots') e₁
       (counted-as N by_key by_number (follow_at 44 w) (followed (follow_at 44 w) c offset) ring keys slots slots' links o f c offset e₂ e₃ refl))

@@ -1,9 +1,8 @@
 -- What `observe` returns and leaves in the words and rooms of a host, on every input. A refusal leaves all of them as they were.
 -- Assumes nothing.
-use Rattle.std.specs.Prelude.{List, ℕ}
-use Rattle.call_types.specs.declared.Counters.{Counters}
-use Rattle.ledger_steps.specs.declared.LedgerAnswer.{LedgerAnswer}
-use Rattle.ledger_steps.specs.declared.LedgerAnswer.TheVariants as answer
+use Rattle.ledger_state.specs.declared.Ledger.{Ledger}
+use Rattle.call_types.specs.declared.CounterPoint.{CounterPoint}
+use Rattle.std.specs.Prelude.{List, ℕ, Option, Result, Ok, Err}
 use Rattle.ledger_steps.specs.Observe.{FollowOutcome, ObserveOutcome}
 use Rattle.ledger_steps.specs.Calls.{ObserveResult, number, observe_to}
 use Rattle.host_observation.specs.Observation.{observation_at}
@@ -25,12 +24,12 @@ abbrev pub left : ℕ → List ℕ → List (List ℕ) → List ℕ → List (Li
 left number ledger slots offsets links = record { number = number; ledger = ledger; slots = slots; offsets = offsets; links = links }
 
 -- the words after a call that was told these counters, or none: those of the next ledger, or as they were
-abbrev pub ledger_after : LedgerAnswer → Counters → List ℕ → List ℕ
-ledger_after (answer.Served next) told before = observed_words told before next
-ledger_after (answer.Refused n) told before = before
+abbrev pub ledger_after : Result Ledger ℕ → Option CounterPoint → List ℕ → List ℕ
+ledger_after (Ok next) told before = observed_words told before next
+ledger_after (Err n) told before = before
 
 -- what the library's result leaves of these words
-abbrev pub left_by : ObserveResult → Counters → List ℕ → Left
+abbrev pub left_by : ObserveResult → Option CounterPoint → List ℕ → Left
 left_by r told before = left (number r.answer) (ledger_after r.answer told before) r.slots r.offsets r.links
 
 -- of the words of the ledger, four rooms, and the words of the observation
@@ -42,7 +41,7 @@ observe_leaves ledger keys slots offsets links observation =
 -- ---- its steps
 
 -- a served call
-abbrev pub served_leaves : Counters → List ℕ → ObserveOutcome → Left
+abbrev pub served_leaves : Option CounterPoint → List ℕ → ObserveOutcome → Left
 served_leaves told before out = left 0 (observed_words told before out.ledger) out.slots out.offsets out.links
 
 -- the words of the ledger, and the rows of words

@@ -3,10 +3,10 @@
 // what another call's object is made of.
 ghost use Rattle.std.specs.Prelude.{◌≡◌, length};
 ghost use Rattle.std.proofs.lemmas.List.Edits.{sets};
+ghost use Rattle.limits.specs.Numbers.{number};
 ghost use Rattle.limits.specs.Limits.{capacity};
 ghost use Rattle.chains.specs.Hash.{number_hash};
 ghost use Rattle.chains.specs.Rings.{RingFits};
-ghost use Rattle.correlation.specs.declared.follow.Class.TheVariants as classes;
 ghost use Rattle.correlation.specs.Class.{MatchedInRange, delay_of, OffsetInRange};
 ghost use Rattle.key_ring.specs.Table.{hash_of};
 ghost use Rattle.delays.specs.Bounds as delays;
@@ -24,14 +24,14 @@ ghost use Rattle.host_ledger.specs.Left.{follow_stored};
 ghost use Rattle.host_observe_words.specs.Observe.{follow_left, follow_leaves, left, served_leaves, observe_leaves};
 ghost use Rattle.host_ledger.specs.Places as place;
 
-use call_types::{FollowUp, ReplyObservation};
+use call_types::ReplyObservation;
 use chains::Ring;
-use correlation::follow::{Class, Match};
+use correlation::follow::{Match, Miss};
 use host_ledger::{LEDGER_WORDS, places};
 use host_numbers::is_set;
-use limits::CAPACITY;
+use limits::{CAPACITY, Refusal};
 
-// Why the call is refused, or 0. The key is read only in a room and a ring that fit.
+// Why the call is refused. The key is read only in a room and a ring that fit.
 fn refusal(
     ledger: &[u64; LEDGER_WORDS],
     keys: &[[u64; 2]],
@@ -40,9 +40,9 @@ fn refusal(
     links: usize,
     told: ReplyObservation,
     words: &[u32; 24],
-) -> u8
+) -> Option<Refusal>
     requires { told ≡ observation_at words.now }
-    ensures { result ≡ refusal_of_observe (ledger_at ledger.now) keys.now slots offsets links told }
+    ensures { number result ≡ refusal_of_observe (ledger_at ledger.now) keys.now slots offsets links told }
 {
     let placed = (keys.len() == CAPACITY)
         & (slots == CAPACITY)
@@ -50,11 +50,10 @@ fn refusal(
         & (links == CAPACITY)
         & host_ledger_checks::rings_fit(ledger);
     if !placed {
-        return limits::WRONG_ROOM;
+        return Some(Refusal::WrongRoom);
     }
     let ring = host_ledger_checks::keys_ring(ledger);
-    let key = told.key;
-    let awaiting = is_set(ledger[places::AWAITS]) & key_ring::is_newest(keys, ring, key);
+    let awaiting = is_set(ledger[places::AWAITS]) & key_ring::is_newest(keys, ring, told.key);
     let ranged = host_own_slot::in_range(words);
     let counted = host_ledger_checks::room_for_call(ledger);
     ledger_state::first_refusal(true, ranged, true, counted, awaiting, true)
@@ -62,7 +61,7 @@ fn refusal(
 
 // The delay of a matched follow-up.
 fn count_delay(ledger: &mut [u64; LEDGER_WORDS], times: Match, offset: i32)
-    requires { delays.Bounded (delays_at place.delay ledger.old) × MatchedInRange (classes.Matched times) × OffsetInRange offset }
+    requires { delays.Bounded (delays_at place.delay ledger.old) × MatchedInRange (Ok times) × OffsetInRange offset }
     ensures { ledger.new ≡ sets ledger.old place.delay (delays_words (recorded_of (delays_at place.delay ledger.old) (nanoseconds_of (delay_of times.t4 times.t3 offset)))) }
 {
     let ns = correlation::follow::delay(times.t4, times.t3, offset);
@@ -71,8 +70,8 @@ fn count_delay(ledger: &mut [u64; LEDGER_WORDS], times: Match, offset: i32)
 
 // A matched follow-up changes all that there is of follow-ups: two counts, the delay and the clock quality.
 fn count_matched(ledger: &mut [u64; LEDGER_WORDS], times: Match, offset: i32)
-    requires { follow_ups.InBounds (follow_at place.follow_ups ledger.old) × MatchedInRange (classes.Matched times) × OffsetInRange offset }
-    ensures { ledger.new ≡ sets ledger.old place.follow_ups (follow_words (followed (follow_at place.follow_ups ledger.old) (classes.Matched times) offset)) }
+    requires { follow_ups.InBounds (follow_at place.follow_ups ledger.old) × MatchedInRange (Ok times) × OffsetInRange offset }
+    ensures { ledger.new ≡ sets ledger.old place.follow_ups (follow_words (followed (follow_at place.follow_ups ledger.old) (Ok times) offset)) }
 {
     let observations = ledger[places::FOLLOW_UPS];
     let matched = ledger[places::MATCHED];
@@ -84,7 +83,7 @@ fn count_matched(ledger: &mut [u64; LEDGER_WORDS], times: Match, offset: i32)
 }
 
 // Any other follow-up is only counted.
-fn count_other(ledger: &mut [u64; LEDGER_WORDS], class: Class)
+fn count_other(ledger: &mut [u64; LEDGER_WORDS], class: Result<Match, Miss>)
     requires { follow_ups.CountsIn (follow_at place.follow_ups ledger.old).counts }
     ensures { ledger.new ≡ sets ledger.old place.follow_ups (follow_counts_words (counted class (follow_at place.follow_ups ledger.old).counts)) }
 {
@@ -93,16 +92,13 @@ fn count_other(ledger: &mut [u64; LEDGER_WORDS], class: Class)
 }
 
 // A follow-up whose class is known.
-fn count_class(ledger: &mut [u64; LEDGER_WORDS], class: Class, offset: i32)
+fn count_class(ledger: &mut [u64; LEDGER_WORDS], class: Result<Match, Miss>, offset: i32)
     requires { follow_ups.InBounds (follow_at place.follow_ups ledger.old) × MatchedInRange class × OffsetInRange offset }
     ensures { ledger.new ≡ follow_stored ledger.old (followed (follow_at place.follow_ups ledger.old) class offset) }
 {
     match class {
-        Class::Unavailable => count_other(ledger, class),
-        Class::Ambiguous => count_other(ledger, class),
-        Class::Unmatched => count_other(ledger, class),
-        Class::Repeated => count_other(ledger, class),
-        Class::Matched(times) => count_matched(ledger, times, offset),
+        Err(_) => count_other(ledger, class),
+        Ok(times) => count_matched(ledger, times, offset),
     }
 }
 
@@ -122,8 +118,8 @@ fn count_follow_up(
     let follow_up = told.follow;
     let key = told.key;
     match follow_up {
-        FollowUp::Absent => {}
-        FollowUp::Telemetry(telemetry) => {
+        None => {}
+        Some(telemetry) => {
             let own = key.reflector;
             let class = host_follow_class::class_of_follow_up(
                 keys,
@@ -165,7 +161,7 @@ fn observed(
     host_own_slot::raise_own(copies, keys, slots, links, ring, secret, words);
 }
 
-// The whole call: refused and nothing changed, or served.
+// The whole call: refused and nothing changed, or served. Why it was refused, where it was.
 pub fn observe(
     ledger: &mut [u64; LEDGER_WORDS],
     keys: &[[u64; 2]],
@@ -173,11 +169,11 @@ pub fn observe(
     offsets: &mut [u32],
     links: &mut [[u16; 8]],
     observation: &[u32; 24],
-) -> u8
-    ensures { left result ledger.new slots.new offsets.new links.new ≡ observe_leaves ledger.old keys.now slots.old offsets.old links.old observation.now }
+) -> Option<Refusal>
+    ensures { left (number result) ledger.new slots.new offsets.new links.new ≡ observe_leaves ledger.old keys.now slots.old offsets.old links.old observation.now }
 {
     let told = host_observation::observation_of(observation);
-    let number = refusal(
+    let refused = refusal(
         ledger,
         keys,
         slots.len(),
@@ -186,9 +182,8 @@ pub fn observe(
         told,
         observation,
     );
-    if number == 0 {
+    if refused.is_none() {
         observed(ledger, keys, slots, offsets, links, told, observation);
-        return 0;
     }
-    number
+    refused
 }

@@ -1,4 +1,6 @@
 -- What the words that the code works out say of the observation that its words say. Assumes nothing.
+use Rattle.std.specs.Prelude.{Option, Some}
+use Rattle.correlation.specs.declared.ReplyRecord.{ReplyRecord}
 use mathlib.Core.Path.{◌≡◌, refl, sym, ap, ◌∙◌}
 use mathlib.Core.Bool.{Bool, true, false, ◌&&◌, cond}
 use mathlib.Core.List.{List, [], ◌∷◌}
@@ -12,15 +14,12 @@ use mir.Val.{Fits, SFits, of_z, to_z}
 use mir.ValLaws.{of_z-to_z, to_z-of_z}
 use borrow.Author.Tests.{eq-eqb, ne_eqb, le-leb}
 use Rattle.call_types.specs.declared.ReplyKey.{ReplyKey}
-use Rattle.call_types.specs.declared.Time.{Time}
 use Rattle.chains.specs.declared.Ring.{Ring}
 use Rattle.estimate.specs.Make.{is_ptp, format_of}
 use Rattle.estimate.specs.Wire.{estimate_of, wire_of}
 use Rattle.estimate.specs.RoundTrip.{wire_back}
 use Rattle.ranges.specs.Ranges.{time_fits, reference_within, offset_within, estimates_fit, in_range}
 use Rattle.record_parts.specs.Parts.{flag, time_by, estimates_by}
-use Rattle.correlation.specs.declared.Unique.{Unique}
-use Rattle.correlation.specs.declared.Unique.TheVariants as unique
 use Rattle.correlation.specs.Words as slots
 use Rattle.correlation.specs.Words.{bit, timed, time_word, estimated, sender_wire, reflector_wire, record_flags, words_by, words_of, slot_of}
 use Rattle.correlation.specs.Slots.{next, withheld, recorded, raise_by, raised}
@@ -101,7 +100,7 @@ first_word k e s r h = omega (arith, h)
 pub record_as :
     (w : List ℕ) (kept wires t z : ℕ) → kept ≡ record_flags (record_from (observation_at w)) → wires ≡ wires_in (flag 32 (flags_at w)) (word w 20)
     → t ≡ time_word (time_by (flag 1 (flags_at w)) (double w 4)) → Fits w64 z → z ≡ double w 6
-    → (65537 + 262144 * kept + wires) ∷ t ∷ z ∷ [] ≡ words_by 1 1 (unique.Record (record_from (observation_at w)))
+    → (65537 + 262144 * kept + wires) ∷ t ∷ z ∷ [] ≡ words_by 1 1 (Some (record_from (observation_at w)))
 unfolding observation_at
 record_as w kept wires t z e₁ e₂ e₃ fits e₄ = λ i. first i ∷ e₃ i ∷ third i ∷ []
   where
@@ -115,13 +114,13 @@ record_as w kept wires t z e₁ e₂ e₃ fits e₄ = λ i. first i ∷ e₃ i �
 
 module _ (before : List ℕ) where
   -- a free slot is made anew
-  pub free_as : (u : Unique) → get_or before 0 0 % 65536 ≡ 0 → words_by 1 1 u ≡ words_of (raised (slot_of before) u)
+  pub free_as : (u : Option ReplyRecord) → get_or before 0 0 % 65536 ≡ 0 → words_by 1 1 u ≡ words_of (raised (slot_of before) u)
   unfolding words_of raised slot_of
   free_as u e = sym (ap (λ (b : Bool). words_of (raise_by b (slot_of before) u)) (eq-eqb (get_or before 0 0 % 65536) 0 e))
 
   -- another is raised, and its record is dropped
   pub more-as :
-      (u : Unique) (n c : ℕ) → (get_or before 0 0 % 65536 ≡ 0 → ⊥) → n ≡ next (get_or before 0 0 % 65536) → c ≡ flag_word (slots.flag 17 (get_or before 0 0))
+      (u : Option ReplyRecord) (n c : ℕ) → (get_or before 0 0 % 65536 ≡ 0 → ⊥) → n ≡ next (get_or before 0 0 % 65536) → c ≡ flag_word (slots.flag 17 (get_or before 0 0))
       → (n + 65536 + 131072 * c) ∷ 0 ∷ 0 ∷ [] ≡ words_of (raised (slot_of before) u)
   unfolding words_of raised slot_of
   more-as u n c e en ec =
@@ -181,7 +180,7 @@ through : (w : Width) (z : ℤ) (n m : ℕ) → SFits w z → z ≡ to_z w n →
 through w z n m f e h = to_z-of_z w z f ∙ e ∙ ap (to_z w) h
 
 pub range-as :
-    (w : List ℕ) (a b c there : Bool) (t : Time) (n m : ℕ) (z y : ℤ) → a ≡ time_fits t → t ≡ time_by there n → there ≡ flag 1 (flags_at w) → n ≡ double w 4
+    (w : List ℕ) (a b c there : Bool) (t : Option ℤ) (n m : ℕ) (z y : ℤ) → a ≡ time_fits t → t ≡ time_by there n → there ≡ flag 1 (flags_at w) → n ≡ double w 4
     → b ≡ reference_within (to_z w64 (of_z w64 z)) → z ≡ to_z w64 m → SFits w64 z → m ≡ double w 6
     → c ≡ offset_within (to_z w32 (of_z w32 y)) → y ≡ to_z w32 (word w 19) → SFits w32 y → (a && b && c) ≡ in_range (observation_at w)
 unfolding observation_at in_range

@@ -5,7 +5,6 @@ ghost use Rattle.std.specs.Prelude.{◌≡◌, ◌+◌, ◌*◌, ◌^◌, ◌≤
 ghost use Rattle.limits.specs.Limits.{capacity};
 ghost use Rattle.chains.specs.Hash.{number_hash};
 ghost use Rattle.chains.specs.Rings.{RingFits};
-ghost use Rattle.correlation.specs.declared.Unique.TheVariants as unique;
 ghost use Rattle.correlation.specs.Words.{sender_wire, reflector_wire, time_word, record_flags, words_by, words_of, slot_of};
 ghost use Rattle.correlation.specs.Slots.{next, raised};
 ghost use Rattle.follow_ups.specs.Followed.{wires_of};
@@ -34,8 +33,8 @@ pub fn in_range(words: &[u32; 24]) -> bool
 {
     let timed = has(words, 1);
     let t4 = record_parts::time_by(timed, both(words[4], words[5]));
-    let reference = signed_words::signed64(both(words[6], words[7]));
-    let offset = signed_words::signed32(words[19]);
+    let reference = both(words[6], words[7]).cast_signed();
+    let offset = words[19].cast_signed();
     ranges::time_fits(t4) & ranges::reference_within(reference) & ranges::offset_within(offset)
 }
 
@@ -76,7 +75,7 @@ fn received_word(words: &[u32; 24]) -> u64
 
 // The words of a slot that the observation is the first of.
 fn record_words(words: &[u32; 24]) -> [u64; 3]
-    ensures { result ≡ words_by 1 1 (unique.Record (record_from (observation_at words.now))) }
+    ensures { result ≡ words_by 1 1 (Some (record_from (observation_at words.now))) }
 {
     let kept = record_flags(words);
     let estimates = wires(words);

@@ -1,8 +1,8 @@
 -- The exported calls on plain memory are those of crate host_mixed_history on a link with a monitor: same numbers, same memory, same served calls. Assumes nothing.
+use Rattle.std.specs.Prelude.{None, Some}
 use mathlib.Core.Path.{◌≡◌, refl, sym, ap, ◌∙◌, subst}
 use mathlib.Core.Bool.{Bool, true, false, ◌&&◌, cond}
 use mathlib.Core.List.{List, [], ◌∷◌, map}
-use mathlib.Core.Option.{none, some}
 use Prim.Native.Nat.{ℕ, zero, suc, ◌+◌, ◌^◌}
 use lib.Dec.{leb, ltb}
 use lib.ListN.{length}
@@ -121,7 +121,7 @@ ledger_onto (suc n) (monitor_advance time) h = refl
 ledger_onto (suc n) monitor_idle h = refl
 
 reply-onto : (b : Bool) (sender : ℕ) (ops : List monitor.Call)
-    → onto 0 (cond b (some (monitor.replying sender)) none) ops ≡ cond b (monitor.replying sender ∷ ops) ops
+    → onto 0 (cond b (Some (monitor.replying sender)) None) ops ≡ cond b (monitor.replying sender ∷ ops) ops
 reply-onto true sender ops = refl
 reply-onto false sender ops = refl
 

@@ -1,5 +1,8 @@
 -- WHAT A HOST READS, after any calls, is the one plain record of its served calls. The code's own types stand behind it: this follows from
 -- `any_typed_calls-show` of crate host_typed_history, whose statement is over them. Assumes nothing.
+use Rattle.std.specs.Prelude.{Result, Ok, Err, Some, None}
+use Rattle.ledger_state.specs.declared.Ledger.{Ledger}
+use Rattle.ledger_steps.specs.declared.Accepted.{Accepted}
 use mathlib.Core.Path.{◌≡◌, refl, sym, ap, ◌∙◌, subst}
 use mathlib.Core.Bool.{Bool, true, false, not, ◌||◌, ◌&&◌, cond}
 use mathlib.Core.List.{List, [], ◌∷◌, map}
@@ -15,7 +18,6 @@ use Rattle.probe_queue.specs.declared.QueuedProbe.{QueuedProbe}
 use Rattle.probe_queue.specs.Queue.{choose, nil}
 use Rattle.monitor.specs.declared.Monitor.{Monitor}
 use Rattle.monitor.specs.declared.Summary.{Summary}
-use Rattle.monitor.specs.declared.Deadline.TheVariants.{Absent, At, Refused}
 use Rattle.monitor.specs.Refusals.{misplaced}
 use Rattle.monitor.specs.Refusals as refusals
 use Rattle.monitor.specs.Operations.{reply_if}
@@ -24,9 +26,6 @@ use Rattle.monitor_model.specs.Plain.{Sent, Plain, deadline}
 use Rattle.monitor_model.specs.Playing as monitor
 use Rattle.ledger_state.specs.BurstWait.{burst_wait}
 use Rattle.ledger_state.specs.Refusal.{first_refusal, sized, rings_fit, room_for_call}
-use Rattle.ledger_steps.specs.declared.AcceptAnswer.{AcceptAnswer}
-use Rattle.ledger_steps.specs.declared.AcceptAnswer.TheVariants as accepts
-use Rattle.ledger_steps.specs.declared.AnsweredAnswer.{AnsweredAnswer}
 use Rattle.ledger_steps.specs.Refusals.{earlier, refusal_of_accept, refusal_of_answered}
 use Rattle.ledger_steps.specs.Accept.{AcceptOutcome, accept_on}
 use Rattle.ledger_steps.specs.Readers.{answered_on}
@@ -66,7 +65,7 @@ use Rattle.host_plain_history.proofs.Host.{link_of, all_of, after_is, fit_all, m
 -- ---- the monitor
 
 -- a ring that is in place: a deadline was answered
-in_place : (o e : Bool) (t : ℕ) (ps : List Sent) → choose o (Refused wrong_room) (choose e Absent (At t)) ≡ deadline ps → o ≡ false
+in_place : (o e : Bool) (t : ℕ) (ps : List Sent) → choose o (Err wrong_room) (choose e (Ok None) (Ok (Some t))) ≡ deadline ps → o ≡ false
 in_place false e t ps q = refl
 in_place true e t [] q = absurd (omega (arith, ap deadline_number q))
 in_place true e t (p ∷ ps) q = absurd (omega (arith, ap deadline_number q))
@@ -111,13 +110,13 @@ rings_fit_lem false true false x e = absurd (omega (arith, e))
 rings_fit_lem false false false x e = absurd (omega (arith, e))
 
 -- the words of an answer with a monitor are those of the ledger's
-both_words : (r : AcceptAnswer) (m : Monitor) (before : List ℕ) → host_watched.answer_after before (watched.both_accept r m) ≡ answer_after before r
-both_words (accepts.Served l a) m before = refl
-both_words (accepts.Refused n) m before = refl
+both_words : (r : Result (Ledger × Accepted) ℕ) (m : Monitor) (before : List ℕ) → host_watched.answer_after before (watched.both_accept r m) ≡ answer_after before r
+both_words (Ok (l, a)) m before = refl
+both_words (Err n) m before = refl
 
-both-number : (r : AcceptAnswer) (m : Monitor) → watched.accept_number (watched.both_accept r m) ≡ accept_number r
-both-number (accepts.Served l a) m = refl
-both-number (accepts.Refused n) m = refl
+both-number : (r : Result (Ledger × Accepted) ℕ) (m : Monitor) → watched.accept_number (watched.both_accept r m) ≡ accept_number r
+both-number (Ok (l, a)) m = refl
+both-number (Err n) m = refl
 
 -- an accept that another part does not refuse is answered as without it
 same_answer : (n k : ℕ) (o : AcceptOutcome) (keys slots probes links : List (List ℕ))
@@ -133,7 +132,7 @@ module _ (copies : ℕ) (h : List Call) (x : Memory) (sh : LedgerShows copies h 
   answered_reads : (sequence : ℕ) (before : List ℕ)
       → answered.answered_leaves x.ledger x.probes x.links sequence before ≡ answered.left 0 (flag_word (has_reply capacity h sequence) ∷ [])
   unfolding answered.answered_leaves
-  answered_reads sequence before = ap (λ (r : AnsweredAnswer). answered.left_by r before) (sh.answered sequence)
+  answered_reads sequence before = ap (λ (r : Result Bool ℕ). answered.left_by r before) (sh.answered sequence)
 
   rings : rings_fit (ledger_at x.ledger) ≡ true
   unfolding answered_to refusal_of_answered
@@ -184,7 +183,7 @@ module _ (copies : ℕ) (h : List Call) (x : Memory) (sh : LedgerShows copies h 
         by : ℕ → AcceptResult
         by n = accept_by (earlier own n) o x.keys x.slots x.probes x.links
 
-        r : AcceptAnswer
+        r : Result (Ledger × Accepted) ℕ
         r = (by other).answer
 
         m : Monitor

@@ -1,8 +1,8 @@
 -- Clock quality by class numbers is that of crate clock_quality, over the same samples; and so are its words. Assumes nothing.
+use Rattle.std.specs.Prelude.{Some, None, Option}
 use mathlib.Core.Path.{◌≡◌, refl, sym, ap, ◌∙◌}
 use mathlib.Core.Bool.{Bool, true, false, ◌&&◌, cond}
 use mathlib.Core.List.{List, [], ◌∷◌, map, ◌++◌, append_assoc}
-use mathlib.Core.Option.{Option, none, some}
 use Prim.Native.Nat.{ℕ, suc, ◌+◌}
 use native.Mathlib.Numerals.{add-one}
 use lib.Dec.{eqb}
@@ -12,9 +12,6 @@ use Rattle.estimate.specs.declared.ErrorEstimate.{ErrorEstimate}
 use Rattle.estimate.specs.Make.{is_ptp, format_of}
 use Rattle.estimate.specs.Error.{known_if, error_known, ms_of}
 use Rattle.estimate.specs.Wire.{wire_of}
-use Rattle.clock_quality.specs.declared.LargestError.{LargestError}
-use Rattle.clock_quality.specs.declared.LargestError.TheVariants as largest
-use Rattle.clock_quality.specs.declared.LastEstimate.TheVariants as last
 use Rattle.clock_quality.specs.Quality as clock
 use Rattle.clock_quality.specs.Quality.{Class, is_known, counted, is_both, is_unsynchronized, is_invalid, is_unknown, is_invalid_sender, is_invalid_reflector, is_invalid_both, clock_estimate_of}
 use Rattle.clock_quality.specs.Samples as samples
@@ -45,7 +42,7 @@ number_of clock.unsynchronized = 4
 number_of clock.both = 5
 
 pair_is : (a b s : Bool) (x y : Float) (v w : ℕ)
-    → number_of (clock.pair_class (is_known (known_if a x v)) (is_known (known_if b y w)) s) ≡ pair_class (cond a (some x) none) (cond b (some y) none) s
+    → number_of (clock.pair_class (is_known (known_if a x v)) (is_known (known_if b y w)) s) ≡ pair_class (cond a (Some x) None) (cond b (Some y) None) s
 pair_is true true true x y v w = refl
 pair_is true true false x y v w = refl
 pair_is true false s x y v w = refl
@@ -53,8 +50,8 @@ pair_is false true s x y v w = refl
 pair_is false false s x y v w = refl
 
 class_is : (q : Sample) → number_of (samples.class_of (given q)) ≡ class_of q
-class_is none = refl
-class_is (some p) =
+class_is None = refl
+class_is (Some p) =
     pair_is (error_known p.sender) (error_known p.reflector) (p.sender.synchronized && p.reflector.synchronized) (ms_of p.sender) (ms_of p.reflector)
     (wire_of p.sender) (wire_of p.reflector)
 
@@ -130,30 +127,30 @@ length_is (m ∷ ms) = ap suc (length_is ms)
 -- ---- the largest error
 
 -- an error in the code's type
-abbrev as_largest : Option Float → LargestError
-as_largest none = largest.Absent
-as_largest (some x) = largest.Ms x
+abbrev as_largest : Option Float → Option Float
+as_largest None = None
+as_largest (Some x) = Some x
 
 larger_is : (m : Option Float) (a b : Bool) (x y : Float) (v w : ℕ)
-    → clock.largest_of (as_largest m) (known_if a x v) (known_if b y w) ≡ as_largest (larger_with m (cond a (some x) none) (cond b (some y) none))
+    → clock.largest_of (as_largest m) (known_if a x v) (known_if b y w) ≡ as_largest (larger_with m (cond a (Some x) None) (cond b (Some y) None))
 larger_is m false b x y v w = refl
 larger_is m true false x y v w = refl
-larger_is none true true x y v w = refl
-larger_is (some e) true true x y v w = refl
+larger_is None true true x y v w = refl
+larger_is (Some e) true true x y v w = refl
 
 with_is : (m : Option Float) (q : Sample) → samples.largest_with (as_largest m) (given q) ≡ as_largest (largest_with m q)
-with_is m none = refl
-with_is m (some p) =
+with_is m None = refl
+with_is m (Some p) =
     larger_is m (error_known p.sender) (error_known p.reflector) (ms_of p.sender) (ms_of p.reflector) (wire_of p.sender) (wire_of p.reflector)
 
 largest_is : (ms : List Measured) → largest_among (estimates ms) ≡ as_largest (largest_error (samples_of ms))
 unfolding largest_among estimates largest_error
 largest_is [] = refl
-largest_is (m ∷ ms) = ap (λ (l : LargestError). samples.largest_with l (given m.quality)) (largest_is ms) ∙ with_is (largest_error (samples_of ms)) m.quality
+largest_is (m ∷ ms) = ap (λ (l : Option Float). samples.largest_with l (given m.quality)) (largest_is ms) ∙ with_is (largest_error (samples_of ms)) m.quality
 
 largest-words : (m : Option Float) → shown.largest_words (as_largest m) ≡ float_words m
-largest-words none = refl
-largest-words (some x) = refl
+largest-words None = refl
+largest-words (Some x) = refl
 
 -- ---- the newest estimates
 
@@ -161,22 +158,22 @@ largest-words (some x) = refl
 estimate_by : (e : ErrorEstimate) (ptp known : Bool)
     → (1 ∷ flag_word e.synchronized ∷ flag_word (is_ptp (format_of ptp)) ∷ e.scale ∷ e.multiplier ∷ shown.error_known (known_if known (ms_of e) (wire_of e))
     ∷ shown.shown_error (known_if known (ms_of e) (wire_of e)) ∷ shown.received_bits (known_if known (ms_of e) (wire_of e)) ∷ [])
-    ≡ (1 ∷ flag_word e.synchronized ∷ flag_word ptp ∷ e.scale ∷ e.multiplier ∷ error_words (cond known (some (ms_of e)) none) e)
+    ≡ (1 ∷ flag_word e.synchronized ∷ flag_word ptp ∷ e.scale ∷ e.multiplier ∷ error_words (cond known (Some (ms_of e)) None) e)
 estimate_by e true true = refl
 estimate_by e true false = refl
 estimate_by e false true = refl
 estimate_by e false false = refl
 
-estimate_is : (e : ErrorEstimate) → shown.estimate_words (last.Seen (clock_estimate_of e)) ≡ estimate_words e
+estimate_is : (e : ErrorEstimate) → shown.estimate_words (Some (clock_estimate_of e)) ≡ estimate_words e
 unfolding shown.estimate_words
 estimate_is e = estimate_by e e.ptp (error_known e)
 
 last_is : (q : Sample) (rest : List ℕ)
     → shown.estimate_words (samples.sender_of (given q)) ++ (shown.estimate_words (samples.reflector_of (given q)) ++ rest) ≡ sample_words q ++ rest
 unfolding shown.estimate_words
-last_is none rest = refl
-last_is (some p) rest =
-    ap (λ (w : List ℕ). w ++ (shown.estimate_words (last.Seen (clock_estimate_of p.reflector)) ++ rest)) (estimate_is p.sender)
+last_is None rest = refl
+last_is (Some p) rest =
+    ap (λ (w : List ℕ). w ++ (shown.estimate_words (Some (clock_estimate_of p.reflector)) ++ rest)) (estimate_is p.sender)
     ∙ ap (λ (w : List ℕ). estimate_words p.sender ++ (w ++ rest)) (estimate_is p.reflector)
     ∙ sym (append_assoc (estimate_words p.sender) (estimate_words p.reflector) rest)
 

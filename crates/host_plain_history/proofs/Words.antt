@@ -1,7 +1,7 @@
 -- The words of a snapshot that holds the figures of a history are those of the plain figures. Assumes nothing.
+use Rattle.std.specs.Prelude.{Option, None, Some}
 use mathlib.Core.Path.{◌≡◌, refl, ap}
 use mathlib.Core.List.{List, [], ◌∷◌, ◌++◌}
-use mathlib.Core.Option.{Option, none, some}
 use Prim.Native.Nat.{ℕ, zero, suc}
 use lib.IntN.{ℤ}
 use Rattle.limits.specs.Limits.{capacity}
@@ -27,43 +27,43 @@ use Rattle.host_plain_history.proofs.Quality.{quality-words}
 reflector_words : (l m : Option ℕ) (rest : List ℕ)
     → (shown.reflector_known (as_reflector l) ∷ shown.reflector_number (as_reflector l) ∷ shown.reflector_known (as_reflector m) ∷ shown.reflector_number (as_reflector m) ∷ rest)
     ≡ number_words l ++ (number_words m ++ rest)
-reflector_words none none rest = refl
-reflector_words none (some n) rest = refl
-reflector_words (some n) none rest = refl
-reflector_words (some n) (some k) rest = refl
+reflector_words None None rest = refl
+reflector_words None (Some n) rest = refl
+reflector_words (Some n) None rest = refl
+reflector_words (Some n) (Some k) rest = refl
 
 loss-words : (n : ℕ) (o : Option ℕ) → (n ∷ known_of (thousandths_from o) ∷ value_of (thousandths_from o) ∷ []) ≡ (n ∷ number_words o)
-loss-words n none = refl
-loss-words n (some t) = refl
+loss-words n None = refl
+loss-words n (Some t) = refl
 
 delay-by : (samples : ℕ) (sum : ℤ) (least most : Option ℤ)
     → shown.delay_words (shown_from (record { samples = samples; sum = sum; minimum = least; maximum = most })) ≡ delay_words (record { samples = samples; sum = sum; minimum = least; maximum = most })
-delay-by zero sum none none = refl
-delay-by zero sum none (some b) = refl
-delay-by zero sum (some a) none = refl
-delay-by zero sum (some a) (some b) = refl
-delay-by (suc n) sum none none = refl
-delay-by (suc n) sum none (some b) = refl
-delay-by (suc n) sum (some a) none = refl
-delay-by (suc n) sum (some a) (some b) = refl
+delay-by zero sum None None = refl
+delay-by zero sum None (Some b) = refl
+delay-by zero sum (Some a) None = refl
+delay-by zero sum (Some a) (Some b) = refl
+delay-by (suc n) sum None None = refl
+delay-by (suc n) sum None (Some b) = refl
+delay-by (suc n) sum (Some a) None = refl
+delay-by (suc n) sum (Some a) (Some b) = refl
 
 delay-words : (f : Figures) → shown.delay_words (shown_from f) ≡ delay_words f
 delay-words f = delay-by f.samples f.sum f.minimum f.maximum
 
 point-words : (o : Option CounterPoint) → shown.point_words (point_of o) ≡ point_words o
 unfolding shown.point_words
-point-words none = refl
-point-words (some p) = refl
+point-words None = refl
+point-words (Some p) = refl
 
 forward_words : (s r t p v : ℕ) (o : Option ℕ)
-    → shown.span_words (spans_shown (some (record { sender_packets = s; reflector_received = r; forward_missing = o; reflector_transmitted = t; replies_received = p; reverse-missing = v })))
-    ≡ span_words (some (record { sender_packets = s; reflector_received = r; forward_missing = o; reflector_transmitted = t; replies_received = p; reverse-missing = v }))
-forward_words s r t p v none = refl
-forward_words s r t p v (some n) = refl
+    → shown.span_words (spans_shown (Some (record { sender_packets = s; reflector_received = r; forward_missing = o; reflector_transmitted = t; replies_received = p; reverse-missing = v })))
+    ≡ span_words (Some (record { sender_packets = s; reflector_received = r; forward_missing = o; reflector_transmitted = t; replies_received = p; reverse-missing = v }))
+forward_words s r t p v None = refl
+forward_words s r t p v (Some n) = refl
 
 span_words_lem : (o : Option Spans) → shown.span_words (spans_shown o) ≡ span_words o
-span_words_lem none = refl
-span_words_lem (some s) =
+span_words_lem None = refl
+span_words_lem (Some s) =
     forward_words s.sender_packets s.reflector_received s.reflector_transmitted s.replies_received s.reverse-missing s.forward_missing
 
 -- ---- the whole
@@ -94,5 +94,5 @@ snapshot_words copies h = λ i.
 pub answer-words : (a : Answer) → accepted_words (as_accepted a) ≡ answer_words a
 answer-words is_duplicate = refl
 answer-words is_unknown = refl
-answer-words (is_unique p none train) = refl
-answer-words (is_unique p (some n) train) = refl
+answer-words (is_unique p None train) = refl
+answer-words (is_unique p (Some n) train) = refl

@@ -1,8 +1,7 @@
 -- The exported calls on one link's memory, one after the other, each given what the last one left; and which calls ledger and monitor were served.
 -- `play` hands the memory of a link to the definition that the call's contract cites (`sent_of`, `accept_of`, ..) and puts what it leaves in its place.
 -- Assumes nothing.
-use Rattle.std.specs.Prelude.{◌≡◌, Bool, cond, List, [], ◌∷◌, ℕ, zero, suc, ◌<◌, ◌^◌, length, get_or}
-use Rattle.std.proofs.Math.Option.{Option, none, some}
+use Rattle.std.specs.Prelude.{◌≡◌, Bool, cond, List, [], ◌∷◌, ℕ, zero, suc, ◌<◌, ◌^◌, length, get_or, Option, None, Some}
 use Rattle.limits.specs.Limits.{capacity}
 use Rattle.chains.specs.Links.{Rows}
 use Rattle.call_types.specs.declared.Call.{Call}
@@ -91,15 +90,15 @@ after x (c ∷ cs) = (play (after x cs) c).memory
 
 -- what the ledger is told, where the call is one of the ledger
 abbrev pub told : HostCall → Option Call
-told (sent sequence ordinal train time tag) = some (Sent (sent_probe_of sequence ordinal train time tag))
-told (watched_sent sequence ordinal train time tag) = some (Sent (sent_probe_of sequence ordinal train time tag))
-told (accept sender reflector t3 pending time tag) = some (Accept (reply_of sender reflector t3 pending time tag))
-told (watched_accept sender reflector t3 pending time tag) = some (Accept (reply_of sender reflector t3 pending time tag))
-told (observe words) = some (Observe (observation_at words))
-told (monitor_sent sequence time) = none
-told (monitor_reply sequence) = none
-told (monitor_advance time) = none
-told monitor_idle = none
+told (sent sequence ordinal train time tag) = Some (Sent (sent_probe_of sequence ordinal train time tag))
+told (watched_sent sequence ordinal train time tag) = Some (Sent (sent_probe_of sequence ordinal train time tag))
+told (accept sender reflector t3 pending time tag) = Some (Accept (reply_of sender reflector t3 pending time tag))
+told (watched_accept sender reflector t3 pending time tag) = Some (Accept (reply_of sender reflector t3 pending time tag))
+told (observe words) = Some (Observe (observation_at words))
+told (monitor_sent sequence time) = None
+told (monitor_reply sequence) = None
+told (monitor_advance time) = None
+told monitor_idle = None
 
 -- whether a reply is unique, after the ledger's served calls h: then a monitor hears it
 abbrev pub is_heard : List Call → (sender reflector t3 pending time tag : ℕ) → Bool
@@ -108,20 +107,20 @@ is_heard h sender reflector t3 pending time tag =
 
 -- what the monitor is told
 abbrev pub heard : List Call → HostCall → Option monitor.Call
-heard h (sent sequence ordinal train time tag) = none
-heard h (watched_sent sequence ordinal train time tag) = some (monitor.sending sequence time)
-heard h (accept sender reflector t3 pending time tag) = none
-heard h (watched_accept sender reflector t3 pending time tag) = cond (is_heard h sender reflector t3 pending time tag) (some (monitor.replying sender)) none
-heard h (observe words) = none
-heard h (monitor_sent sequence time) = some (monitor.sending sequence time)
-heard h (monitor_reply sequence) = some (monitor.replying sequence)
-heard h (monitor_advance time) = some (monitor.advancing time)
-heard h monitor_idle = some monitor.idling
+heard h (sent sequence ordinal train time tag) = None
+heard h (watched_sent sequence ordinal train time tag) = Some (monitor.sending sequence time)
+heard h (accept sender reflector t3 pending time tag) = None
+heard h (watched_accept sender reflector t3 pending time tag) = cond (is_heard h sender reflector t3 pending time tag) (Some (monitor.replying sender)) None
+heard h (observe words) = None
+heard h (monitor_sent sequence time) = Some (monitor.sending sequence time)
+heard h (monitor_reply sequence) = Some (monitor.replying sequence)
+heard h (monitor_advance time) = Some (monitor.advancing time)
+heard h monitor_idle = Some monitor.idling
 
 -- what a call with this number adds: nothing where it was refused
 abbrev pub onto : {A : Type 0} → ℕ → Option A → List A → List A
-onto zero (some c) cs = c ∷ cs
-onto zero none cs = cs
+onto zero (Some c) cs = c ∷ cs
+onto zero None cs = cs
 onto (suc n) c cs = cs
 
 -- the calls that the ledger was served

@@ -1,6 +1,5 @@
 -- Document 01, 'Monitor', from the calls that the monitor was served, newest first: no ring, no room and no refusal stands here. Assumes nothing.
-use Rattle.std.specs.Prelude.{Bool, true, false, not, ◌||◌, ◌&&◌, List, [], ◌∷◌, ◌++◌, ℕ, ◌+◌, eqb, leb, ltb}
-use Rattle.std.proofs.Math.Option.{Option, none, some}
+use Rattle.std.specs.Prelude.{Bool, true, false, not, ◌||◌, ◌&&◌, List, [], ◌∷◌, ◌++◌, ℕ, ◌+◌, eqb, leb, ltb, Option, None, Some}
 use Rattle.probe_queue.specs.Queue.{choose}
 use Rattle.monitor_model.specs.Playing.{Call, sending, replying, advancing, idling}
 
@@ -87,5 +86,5 @@ watch_after threshold timeout (idling ∷ cs) = stops (watch_after threshold tim
 
 -- the deadline of the probe in front, or none
 abbrev pub front_deadline : List Waiting → Option ℕ
-front_deadline [] = none
-front_deadline (p ∷ ps) = some p.deadline
+front_deadline [] = None
+front_deadline (p ∷ ps) = Some p.deadline

@@ -1,7 +1,6 @@
 -- The plain figures as the words that a host reads: the order of the fields is that of `ambrulicciu_snapshot` in the header. A flag is 1 or 0; what may be
 -- absent is a flag and its value, 0 where it is absent; a time in ms is the bits of an f64. Assumes nothing.
-use Rattle.std.specs.Prelude.{List, [], ◌∷◌, ◌++◌, ℕ, zero, suc, ◌+◌, ℤ, Float}
-use Rattle.std.proofs.Math.Option.{Option, none, some}
+use Rattle.std.specs.Prelude.{List, [], ◌∷◌, ◌++◌, ℕ, zero, suc, ◌+◌, ℤ, Float, Option, None, Some}
 use Rattle.std.specs.Float.{binary64}
 use Rattle.std.specs.Float.Ieee.{to_bits}
 use Rattle.estimate.specs.declared.ErrorEstimate.{ErrorEstimate}
@@ -19,18 +18,18 @@ use Rattle.host_plain_history.specs.Monitor.{Watch}
 
 -- a number that may be absent
 abbrev pub number_words : Option ℕ → List ℕ
-number_words none = 0 ∷ 0 ∷ []
-number_words (some n) = 1 ∷ n ∷ []
+number_words None = 0 ∷ 0 ∷ []
+number_words (Some n) = 1 ∷ n ∷ []
 
 -- an f64 that may be absent
 abbrev pub float_words : Option Float → List ℕ
-float_words none = 0 ∷ 0 ∷ []
-float_words (some x) = 1 ∷ to_bits binary64 x ∷ []
+float_words None = 0 ∷ 0 ∷ []
+float_words (Some x) = 1 ∷ to_bits binary64 x ∷ []
 
 -- a delay in ns, shown in ms
 abbrev pub ms_words : Option ℤ → List ℕ
-ms_words none = 0 ∷ 0 ∷ []
-ms_words (some z) = 1 ∷ to_bits binary64 (in_ms z) ∷ []
+ms_words None = 0 ∷ 0 ∷ []
+ms_words (Some z) = 1 ∷ to_bits binary64 (in_ms z) ∷ []
 
 -- the average in ms, none without samples
 abbrev pub average_words : ℤ → ℕ → List ℕ
@@ -54,13 +53,13 @@ direct_words c = c.observations ∷ c.unavailable ∷ c.discontinuities ∷ c.re
 
 -- 31 to 38: S_TxC, R_RxC and R_TxC
 abbrev pub point_words : Option CounterPoint → List ℕ
-point_words none = 0 ∷ 0 ∷ 0 ∷ 0 ∷ []
-point_words (some p) = 1 ∷ p.sender.0 ∷ p.received.0 ∷ p.transmitted.0 ∷ []
+point_words None = 0 ∷ 0 ∷ 0 ∷ 0 ∷ []
+point_words (Some p) = 1 ∷ p.sender.0 ∷ p.received.0 ∷ p.transmitted.0 ∷ []
 
 -- 39 to 50
 abbrev pub span_words : Option Spans → List ℕ
-span_words none = 0 ∷ 0 ∷ 0 ∷ 0 ∷ 0 ∷ 0 ∷ 0 ∷ 0 ∷ 0 ∷ 0 ∷ 0 ∷ 0 ∷ []
-span_words (some s) =
+span_words None = 0 ∷ 0 ∷ 0 ∷ 0 ∷ 0 ∷ 0 ∷ 0 ∷ 0 ∷ 0 ∷ 0 ∷ 0 ∷ 0 ∷ []
+span_words (Some s) =
     1 ∷ s.sender_packets ∷ 1 ∷ s.reflector_received
     ∷ (number_words s.forward_missing ++ (1 ∷ s.reflector_transmitted ∷ 1 ∷ s.replies_received ∷ 1 ∷ s.reverse-missing ∷ []))
 
@@ -70,8 +69,8 @@ follow_words c = c.observations ∷ c.matched ∷ c.repeated ∷ c.unmatched ∷
 
 -- the error in ms, or the 16 bits as received where it is invalid
 abbrev pub error_words : Option Float → ErrorEstimate → List ℕ
-error_words none e = 0 ∷ 0 ∷ wire_of e ∷ []
-error_words (some x) e = 1 ∷ to_bits binary64 x ∷ 0 ∷ []
+error_words None e = 0 ∷ 0 ∷ wire_of e ∷ []
+error_words (Some x) e = 1 ∷ to_bits binary64 x ∷ 0 ∷ []
 
 -- an estimate
 abbrev pub estimate_words : ErrorEstimate → List ℕ
@@ -79,8 +78,8 @@ estimate_words e = 1 ∷ flag_word e.synchronized ∷ flag_word e.ptp ∷ e.scal
 
 -- 72 to 87: the newest estimates
 abbrev pub sample_words : Sample → List ℕ
-sample_words none = 0 ∷ 0 ∷ 0 ∷ 0 ∷ 0 ∷ 0 ∷ 0 ∷ 0 ∷ 0 ∷ 0 ∷ 0 ∷ 0 ∷ 0 ∷ 0 ∷ 0 ∷ 0 ∷ []
-sample_words (some p) = estimate_words p.sender ++ estimate_words p.reflector
+sample_words None = 0 ∷ 0 ∷ 0 ∷ 0 ∷ 0 ∷ 0 ∷ 0 ∷ 0 ∷ 0 ∷ 0 ∷ 0 ∷ 0 ∷ 0 ∷ 0 ∷ 0 ∷ 0 ∷ []
+sample_words (Some p) = estimate_words p.sender ++ estimate_words p.reflector
 
 -- 64 to 89
 abbrev pub quality_words : PlainQuality → List ℕ

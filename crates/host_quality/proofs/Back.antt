@@ -1,4 +1,5 @@
 -- What is written of a clock quality is read back. Assumes nothing.
+use Rattle.std.specs.Prelude.{Some, None}
 use mathlib.Core.Path.{◌≡◌, refl, sym, ap, ◌∙◌}
 use mathlib.Core.Bool.{Bool, true, false, not, cond}
 use Prim.Native.Nat.{ℕ, ◌+◌, ◌*◌, ◌/◌, ◌%◌, ◌<◌}
@@ -14,10 +15,6 @@ use Rattle.estimate.specs.declared.ErrorEstimate.{ErrorEstimate}
 use Rattle.estimate.specs.Wire.{bit, wire_of}
 use Rattle.estimate.specs.Make.{is_ptp, format_of}
 use Rattle.clock_quality.specs.declared.ClockEstimate.{ClockEstimate}
-use Rattle.clock_quality.specs.declared.LastEstimate.{LastEstimate}
-use Rattle.clock_quality.specs.declared.LastEstimate.TheVariants as last
-use Rattle.clock_quality.specs.declared.LargestError.{LargestError}
-use Rattle.clock_quality.specs.declared.LargestError.TheVariants as largest
 use Rattle.clock_quality.specs.declared.ClockQuality.{ClockQuality}
 use Rattle.clock_quality.specs.Quality.{is_known}
 use Rattle.host_numbers.specs.Numbers.{flag_word, is_set}
@@ -114,16 +111,16 @@ word_set : (e : ClockEstimate) → is_set (estimate_word e) ≡ true
 unfolding estimate_word
 word_set e = ap not (ne_eqb (packed (flag_word e.synchronized) (flag_word (is_ptp e.format)) (flag_word (is_known e.error)) e.scale e.multiplier) 0 (never_zero _ _ _ _ _))
 
-pub last_again : (e : ClockEstimate) → e.scale < 256 → e.multiplier < 256 → ErrorKept e.error → LastKept (last.Seen e)
+pub last_again : (e : ClockEstimate) → e.scale < 256 → e.multiplier < 256 → ErrorKept e.error → LastKept (Some e)
 last_again e hs hm kept =
-    ap (λ (b : Bool). cond b (last.Seen (estimate_of (estimate_word e) (error_bits e.error))) last.Absent) (word_set e)
-    ∙ ap last.Seen (estimate_again e hs hm kept)
+    ap (λ (b : Bool). cond b (Some (estimate_of (estimate_word e) (error_bits e.error))) None) (word_set e)
+    ∙ ap Some (estimate_again e hs hm kept)
 
-pub largest-kept : (x : Float) (bits : ℕ) → bits ≡ to_bits binary64 x → of_bits binary64 bits ≡ x → LargestKept (largest.Ms x)
-largest-kept x bits e again = ap largest.Ms (ap (of_bits binary64) (sym e) ∙ again)
+pub largest-kept : (x : Float) (bits : ℕ) → bits ≡ to_bits binary64 x → of_bits binary64 bits ≡ x → LargestKept (Some x)
+largest-kept x bits e again = ap Some (ap (of_bits binary64) (sym e) ∙ again)
 
-pub largest_again : (x : Float) → T (fits binary64 x) → LargestKept (largest.Ms x)
-largest_again x h = ap largest.Ms (float_again x h)
+pub largest_again : (x : Float) → T (fits binary64 x) → LargestKept (Some x)
+largest_again x h = ap Some (float_again x h)
 
 pub quality_again : (q : ClockQuality) → LargestKept q.largest → LastKept q.sender → LastKept q.reflector → QualityKept q
 unfolding quality_at quality_words

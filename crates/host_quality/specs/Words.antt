@@ -1,16 +1,13 @@
 -- A clock quality in fourteen words: eight counts, then whether there is a largest error and its bits, then two words of the sender's last
 -- estimate and two of the reflector's. What is absent is 0; any words say a clock quality. That nothing is lost is shown in proofs/Back.antt.
-use Rattle.std.specs.Prelude.{◌≡◌, Bool, true, false, cond, List, [], ◌∷◌, ℕ, ◌+◌, ◌*◌, ◌/◌, ◌%◌, eqb, get_or}
+use Rattle.std.specs.Float.Ieee.{Float}
+use Rattle.std.specs.Prelude.{◌≡◌, Bool, true, false, cond, List, [], ◌∷◌, ℕ, ◌+◌, ◌*◌, ◌/◌, ◌%◌, eqb, get_or, Option, Some, None}
 use Rattle.std.specs.Float.{binary64}
 use Rattle.std.specs.Float.Ieee.{of_bits, to_bits}
 use Rattle.estimate.specs.declared.Reading.{Reading}
 use Rattle.estimate.specs.declared.Reading.TheVariants.{Known, Invalid}
 use Rattle.estimate.specs.Make.{is_ptp, format_of}
 use Rattle.clock_quality.specs.declared.ClockEstimate.{ClockEstimate}
-use Rattle.clock_quality.specs.declared.LastEstimate.{LastEstimate}
-use Rattle.clock_quality.specs.declared.LastEstimate.TheVariants as last
-use Rattle.clock_quality.specs.declared.LargestError.{LargestError}
-use Rattle.clock_quality.specs.declared.LargestError.TheVariants as largest
 use Rattle.clock_quality.specs.declared.ClockQuality.{ClockQuality}
 use Rattle.clock_quality.specs.Quality.{is_known}
 use Rattle.host_numbers.specs.Numbers.{flag_word, is_set}
@@ -44,34 +41,34 @@ estimate_of word bits = record {
 }
 
 -- the first word of the last estimate, 0 if there was none
-abbrev pub last_word : LastEstimate → ℕ
-last_word last.Absent = 0
-last_word (last.Seen e) = estimate_word e
+abbrev pub last_word : Option ClockEstimate → ℕ
+last_word None = 0
+last_word (Some e) = estimate_word e
 
 -- its second word, the bits of its reading; 0 if there was none
-abbrev pub last_bits : LastEstimate → ℕ
-last_bits last.Absent = 0
-last_bits (last.Seen e) = error_bits e.error
+abbrev pub last_bits : Option ClockEstimate → ℕ
+last_bits None = 0
+last_bits (Some e) = error_bits e.error
 
 -- what two words say: no last estimate where the first is 0
-abbrev pub last_of : ℕ → ℕ → LastEstimate
-last_of word bits = cond (is_set word) (last.Seen (estimate_of word bits)) last.Absent
+abbrev pub last_of : ℕ → ℕ → Option ClockEstimate
+last_of word bits = cond (is_set word) (Some (estimate_of word bits)) None
 
 -- ---- the largest combined error, if there is one
 
 -- whether there is one, 1 or 0
-abbrev pub largest_word : LargestError → ℕ
-largest_word largest.Absent = 0
-largest_word (largest.Ms x) = 1
+abbrev pub largest_word : Option Float → ℕ
+largest_word None = 0
+largest_word (Some x) = 1
 
 -- the bits of its f64 in ms, 0 where there is none
-abbrev pub largest_bits : LargestError → ℕ
-largest_bits largest.Absent = 0
-largest_bits (largest.Ms x) = to_bits binary64 x
+abbrev pub largest_bits : Option Float → ℕ
+largest_bits None = 0
+largest_bits (Some x) = to_bits binary64 x
 
 -- what two words say: none where the first is 0
-abbrev pub largest_of : ℕ → ℕ → LargestError
-largest_of known bits = cond (is_set known) (largest.Ms (of_bits binary64 bits)) largest.Absent
+abbrev pub largest_of : ℕ → ℕ → Option Float
+largest_of known bits = cond (is_set known) (Some (of_bits binary64 bits)) None
 
 -- ---- the whole: what the fourteen words from a place on say, and the words of a clock quality
 
@@ -105,11 +102,11 @@ abbrev pub ErrorKept : Reading → Type 0
 ErrorKept e = error_of (is_known e) (error_bits e) ≡ e
 
 -- a last estimate or none, from its two words
-abbrev pub LastKept : LastEstimate → Type 0
+abbrev pub LastKept : Option ClockEstimate → Type 0
 LastKept l = last_of (last_word l) (last_bits l) ≡ l
 
 -- a largest error or none, from its two words
-abbrev pub LargestKept : LargestError → Type 0
+abbrev pub LargestKept : Option Float → Type 0
 LargestKept l = largest_of (largest_word l) (largest_bits l) ≡ l
 
 -- a clock quality, from its fourteen words

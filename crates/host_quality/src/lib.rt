@@ -2,23 +2,13 @@
 ghost use Rattle.std.specs.Prelude.{◌≡◌, ◌<◌};
 ghost use Rattle.host_quality.specs.Words.{error_of, error_bits, estimate_of, estimate_word, last_of, last_word, last_bits, largest_of, largest_word, largest_bits};
 ghost use Rattle.host_quality.specs.Words.{ErrorKept, LastKept, LargestKept};
-ghost use Rattle.estimate.specs.Make.{format_of};
 ghost use Rattle.clock_quality.specs.Quality.{is_known};
 
-use clock_quality::{ClockEstimate, LargestError, LastEstimate};
-use estimate::{ClockFormat, Reading};
+use clock_quality::ClockEstimate;
+use estimate::{Reading, format_of};
 use host_numbers::{bits_of, flag, float_of, is_set};
 
 // ---- out of their words
-
-fn format_of(ptp: bool) -> ClockFormat
-    ensures { result ≡ format_of ptp }
-{
-    if ptp {
-        return ClockFormat::PTP;
-    }
-    ClockFormat::NTP
-}
 
 fn error_of(known: bool, bits: u64) -> Reading
     ensures { result ≡ error_of known bits }
@@ -32,33 +22,31 @@ fn error_of(known: bool, bits: u64) -> Reading
 fn estimate_of(word: u64, bits: u64) -> ClockEstimate
     ensures { result ≡ estimate_of word bits }
 {
-    let format = format_of(word / 4 % 2 == 1);
-    let error = error_of(word / 8 % 2 == 1, bits);
     ClockEstimate {
         synchronized: word / 2 % 2 == 1,
-        format,
+        format: format_of(word / 4 % 2 == 1),
         scale: (word / 256 % 256) as u8,
         multiplier: (word / 65536 % 256) as u8,
-        error,
+        error: error_of(word / 8 % 2 == 1, bits),
     }
 }
 
-pub fn last_of(word: u64, bits: u64) -> LastEstimate
+pub fn last_of(word: u64, bits: u64) -> Option<ClockEstimate>
     ensures { result ≡ last_of word bits }
 {
     if is_set(word) {
-        return LastEstimate::Seen(estimate_of(word, bits));
+        return Some(estimate_of(word, bits));
     }
-    LastEstimate::Absent
+    None
 }
 
-pub fn largest_of(known: u64, bits: u64) -> LargestError
+pub fn largest_of(known: u64, bits: u64) -> Option<f64>
     ensures { result ≡ largest_of known bits }
 {
     if is_set(known) {
-        return LargestError::Ms(float_of(bits));
+        return Some(float_of(bits));
     }
-    LargestError::Absent
+    None
 }
 
 // ---- and back
@@ -84,11 +72,9 @@ fn error_bits(error: Reading) -> u64
 fn estimate_word(estimate: ClockEstimate) -> u64
     ensures { (result ≡ estimate_word estimate) × (estimate.scale < 256) × (estimate.multiplier < 256) }
 {
-    let format = estimate.format;
-    let error = estimate.error;
     1 + flag(estimate.synchronized) * 2
-        + flag(estimate::is_ptp(format)) * 4
-        + flag(is_known(error)) * 8
+        + flag(estimate::is_ptp(estimate.format)) * 4
+        + flag(is_known(estimate.error)) * 8
         + (estimate.scale as u64) * 256
         + (estimate.multiplier as u64) * 65536
 }
@@ -100,35 +86,32 @@ pub struct LastWords {
     pub bits: u64,
 }
 
-pub fn last_words(last: LastEstimate) -> LastWords
+pub fn last_words(last: Option<ClockEstimate>) -> LastWords
     ensures { (result.word ≡ last_word last) × (result.bits ≡ last_bits last) × LastKept last }
 {
     match last {
-        LastEstimate::Absent => LastWords { word: 0, bits: 0 },
-        LastEstimate::Seen(estimate) => {
-            let error = estimate.error;
-            LastWords {
-                word: estimate_word(estimate),
-                bits: error_bits(error),
-            }
-        }
+        None => LastWords { word: 0, bits: 0 },
+        Some(estimate) => LastWords {
+            word: estimate_word(estimate),
+            bits: error_bits(estimate.error),
+        },
     }
 }
 
-pub fn largest_word(largest: LargestError) -> u64
+pub fn largest_word(largest: Option<f64>) -> u64
     ensures { result ≡ largest_word largest }
 {
     match largest {
-        LargestError::Absent => 0,
-        LargestError::Ms(_) => 1,
+        None => 0,
+        Some(_) => 1,
     }
 }
 
-pub fn largest_bits(largest: LargestError) -> u64
+pub fn largest_bits(largest: Option<f64>) -> u64
     ensures { (result ≡ largest_bits largest) × LargestKept largest }
 {
     match largest {
-        LargestError::Absent => 0,
-        LargestError::Ms(x) => bits_of(x),
+        None => 0,
+        Some(x) => bits_of(x),
     }
 }

@@ -15,7 +15,8 @@ use Rattle.quantiles.specs.declared.Quantiles.{Quantiles}
 use Rattle.quantile_room.specs.Room.{room_size}
 use Rattle.quantiles.specs.Record as record-call
 use Rattle.percentiles.specs.Percentiles as percentiles-call
-use Rattle.percentiles.specs.declared.Showing.TheVariants.{Refused, Empty}
+use Rattle.std.specs.Prelude.{Ok, Err}
+use Rattle.limits.specs.declared.Refusal.TheVariants as why
 use Rattle.quantile_meaning.specs.Words.{Words}
 use Rattle.quantile_meaning.specs.Grown.{Kept, fresh, record_all}
 use Rattle.quantile_meaning.specs.Walk.{walked}
@@ -164,5 +165,5 @@ pub no_samples : (s : Series) (signed : ℕ) (ps : List Float) (shown present : 
 unfolding grown record_each percentiles_to percentiles-call.percentiles_of percentiles-call.outcome percentiles-call.refuses
 no_samples s signed ps shown present four sized same =
     ap (λ (q : Quantiles). let o = percentiles-call.percentiles_of q s.room ps shown in percentiles_by o.number o shown present) (fresh_is_read s.words signed four)
-    ∙ ap₂ (λ (a b : Bool). let o = percentiles-call.pick_outcome (not a || (not b || false)) (percentiles-call.outcome Refused shown) (percentiles-call.outcome Empty shown) in percentiles_by o.number o shown present)
+    ∙ ap₂ (λ (a b : Bool). let o = percentiles-call.pick_outcome (not a || (not b || false)) (percentiles-call.outcome (Err why.WrongRoom) shown) (percentiles-call.outcome (Ok false) shown) in percentiles_by o.number o shown present)
     (eq-eqb (length s.room) (room_size (is_set signed)) sized) (eq-eqb (length shown) (length ps) same)

@@ -1,9 +1,8 @@
 -- What an answer of `record` leaves in the lent words. Assumes nothing.
-use Rattle.std.specs.Prelude.{Bool, List, ℕ, get_or, set}
-use Rattle.limits.specs.Refusals.{wrong_room}
+use Rattle.std.specs.Prelude.{Bool, List, ℕ, get_or, set, Option, Some, None, Result, Ok, Err}
+use Rattle.limits.specs.declared.Refusal.{Refusal}
+use Rattle.limits.specs.Numbers.{number_of}
 use Rattle.quantiles.specs.declared.Quantiles.{Quantiles}
-use Rattle.quantiles.specs.declared.Recording.{Recording}
-use Rattle.quantiles.specs.declared.Recording.TheVariants.{Refused, Full, Counted}
 use Rattle.host_quantiles.specs.Calls.{words_with}
 
 -- a state of a kind, with the count, the least and the greatest value that four words say
@@ -21,7 +20,7 @@ abbrev pub kept : ℕ → List ℕ → List ℕ → Kept
 kept n ws recorded = record { number = n; words = ws; recorded = recorded }
 
 -- a refusal leaves nothing, Rust's false its 0, a counted sample its state and a 1
-abbrev pub kept_by : Recording → List ℕ → List ℕ → Kept
-kept_by Refused ws recorded = kept wrong_room ws recorded
-kept_by Full ws recorded = kept 0 ws (set recorded 0 0)
-kept_by (Counted next) ws recorded = kept 0 (words_with ws next) (set recorded 0 1)
+abbrev pub kept_by : Result (Option Quantiles) Refusal → List ℕ → List ℕ → Kept
+kept_by (Err refusal) ws recorded = kept (number_of refusal) ws recorded
+kept_by (Ok None) ws recorded = kept 0 ws (set recorded 0 0)
+kept_by (Ok (Some next)) ws recorded = kept 0 (words_with ws next) (set recorded 0 1)

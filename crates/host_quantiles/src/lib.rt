@@ -1,11 +1,13 @@
 // The host's calls of crates quantiles and percentiles. The state is four lent words: 0 unless the values are signed, the count, the least and the
 // greatest value. Values, and what is shown, are the room's words: a signed value is its two's complement word.
+#![tactic(auto)]
+
 ghost use Rattle.std.specs.Prelude.{◌≡◌};
 ghost use Rattle.host_quantiles.specs.Calls.{quantiles_at, started, fresh_to, record_left, record_to, percentiles_left, percentiles_to};
 ghost use Rattle.host_quantiles.specs.Kept.{state_of, kept, kept_by};
 
-use percentiles::Showing;
-use quantiles::{Quantiles, Recording};
+use limits::Refusal;
+use quantiles::Quantiles;
 
 // The state that the words say.
 fn load(words: &[u64; 4]) -> Quantiles
@@ -44,16 +46,20 @@ pub extern "C" fn ambrulicciu_quantiles_fresh(quantiles: &mut [u64; 4], signed: 
 }
 
 // The number of an answer; where a sample was counted, the words have the state with it.
-fn keep(quantiles: &mut [u64; 4], recorded: &mut [u64; 1], answer: Recording) -> u8
+fn keep(
+    quantiles: &mut [u64; 4],
+    recorded: &mut [u64; 1],
+    answer: Result<Option<Quantiles>, Refusal>,
+) -> u8
     ensures { kept result quantiles.new recorded.new ≡ kept_by answer quantiles.old recorded.old }
 {
     match answer {
-        Recording::Refused => limits::WRONG_ROOM,
-        Recording::Full => {
+        Err(refusal) => u8::from(refusal),
+        Ok(None) => {
             recorded[0] = 0;
             0
         }
-        Recording::Counted(next) => {
+        Ok(Some(next)) => {
             // the flag stays
             quantiles[1] = next.count;
             quantiles[2] = next.min;
@@ -117,13 +123,9 @@ pub extern "C" fn ambrulicciu_quantiles_percentiles(
     let state = load(quantiles);
     let answer = percentiles::percentiles(state, room, percents, shown);
     match answer {
-        Showing::Refused => limits::WRONG_ROOM,
-        Showing::Empty => {
-            present[0] = 0;
-            0
-        }
-        Showing::Shown => {
-            present[0] = 1;
+        Err(refusal) => u8::from(refusal),
+        Ok(values) => {
+            present[0] = host_numbers::flag(values);
             0
         }
     }

@@ -1,4 +1,5 @@
 -- The contract determines the number, the text's buffer, the word of its length and both rooms, and a refusal changes none. Assumes nothing.
+use Rattle.std.specs.Prelude.{Result, Ok, Err}
 use mathlib.Core.Path.{◌≡◌, refl, sym, ap, ◌∙◌}
 use mathlib.Core.List.{List}
 use Prim.Native.Nat.{ℕ}
@@ -8,8 +9,8 @@ use borrow.Fn.Kinds as Kinds'
 use denote.Triple.Clauses as Clauses
 use lib.ListN.{length}
 use Rattle.log_whole.specs.Logs.{log_of}
-use Rattle.recount.specs.declared.Checked.{Checked}
-use Rattle.recount.specs.declared.Checked.TheVariants.{Refused, Good}
+use Rattle.limits.specs.declared.Refusal.{Refusal}
+use Rattle.log_whole.specs.declared.Settings.{Settings}
 use Rattle.recount.specs.Recount.{rooms_fit, checked_by, recount_by, recount_of_log}
 use Rattle.host_recount_log.specs.LogTold.{Left, left_by, recount_log_to}
 use Rattle.host_recount_log.specs.contracts.ambrulicciu_recount_log as recount-log
@@ -44,6 +45,6 @@ pub refused-unchanged : (log marks fronts text word : List ℕ) → ((recount_lo
 unfolding recount_log_to recount_of_log
 refused-unchanged log marks fronts text word = go (checked_by (rooms_fit (length marks) (length fronts) (length text)) (log_of log))
   where
-    go : (c : Checked) → ((left_by (recount_by c log marks fronts text) word).told.number ≡ 0 → ⊥) → Unchanged marks fronts text word (left_by (recount_by c log marks fronts text) word)
-    go (Refused n) h = record { same_marks = refl; same_fronts = refl; same_text = refl; same_length = refl }
-    go (Good s) h = absurd (h refl)
+    go : (c : Result Settings Refusal) → ((left_by (recount_by c log marks fronts text) word).told.number ≡ 0 → ⊥) → Unchanged marks fronts text word (left_by (recount_by c log marks fronts text) word)
+    go (Err r) h = record { same_marks = refl; same_fronts = refl; same_text = refl; same_length = refl }
+    go (Ok s) h = absurd (h refl)

@@ -1,7 +1,5 @@
 -- What a host is told of a report: document 01's number, the buffer of the text, and the lent word of its length. Assumes nothing.
-use Rattle.std.specs.Prelude.{List, [], ◌∷◌, ℕ}
-use Rattle.report.specs.declared.ReportAnswer.{ReportAnswer}
-use Rattle.report.specs.declared.ReportAnswer.TheVariants.{Written, Refused}
+use Rattle.std.specs.Prelude.{List, [], ◌∷◌, ℕ, Result, Ok, Err}
 use Rattle.report.specs.Report.{Outcome}
 
 -- what a call leaves
@@ -26,11 +24,11 @@ told_of o word = told o.number o.buffer (length_after o.values word)
 -- ---- the same of the answer as the code has it
 
 -- 0 where the report is written, else the refusal's number
-abbrev pub number_of : ReportAnswer → ℕ
-number_of (Written n) = 0
-number_of (Refused n) = n
+abbrev pub number_of : Result ℕ ℕ → ℕ
+number_of (Ok n) = 0
+number_of (Err n) = n
 
 -- the word of the length: that of the report where it is written, else as it was
-abbrev pub word_after : ReportAnswer → List ℕ → List ℕ
-word_after (Written n) word = n ∷ []
-word_after (Refused n) word = word
+abbrev pub word_after : Result ℕ ℕ → List ℕ → List ℕ
+word_after (Ok n) word = n ∷ []
+word_after (Err n) word = word

@@ -1,4 +1,5 @@
 -- From what the parts of the call answer to what a host is told. Assumes nothing.
+use Rattle.std.specs.Prelude.{Option, Some, None, Result}
 use mathlib.Core.Path.{◌≡◌, refl, sym, ap, ◌∙◌}
 use mathlib.Core.Bool.{Bool, true, false, not, ◌||◌, cond}
 use mathlib.Core.List.{List}
@@ -9,10 +10,7 @@ use Rattle.ledger_state.specs.declared.Ledger.{Ledger}
 use Rattle.ledger_state.specs.Refusal.{rings_fit}
 use Rattle.monitor.specs.declared.Monitor.{Monitor}
 use Rattle.monitor.specs.Refusals.{misplaced}
-use Rattle.link_steps.specs.declared.Watch.{Watch}
-use Rattle.link_steps.specs.declared.Watch.TheVariants.{Absent, Present}
 use Rattle.link_figures.specs.Figures.{figures_of}
-use Rattle.report.specs.declared.ReportAnswer.{ReportAnswer}
 use Rattle.report.specs.declared.figures.Figures.{Figures}
 use Rattle.report.specs.Report.{Outcome, outcome, report_of}
 use Rattle.host_ledger.specs.Words.{ledger_at}
@@ -21,33 +19,33 @@ use Rattle.host_report_answer.specs.Told.{number_of, word_after, told, told_of}
 use Rattle.host_report_answer.proofs.Laws.{tells-outcome}
 use Rattle.host_report_link.specs.LinkTold.{watch_at, link_at, out_of_place, report_link_to}
 
-pub watched_is : (n : ℕ) (monitor : List ℕ) (m : Monitor) → (n ≡ 0 → ⊥) → m ≡ monitor_at monitor → Present m ≡ watch_at n monitor
+pub watched_is : (n : ℕ) (monitor : List ℕ) (m : Monitor) → (n ≡ 0 → ⊥) → m ≡ monitor_at monitor → Some m ≡ watch_at n monitor
 watched_is zero monitor m h e = absurd (h refl)
-watched_is (suc n) monitor m h e = ap Present e
+watched_is (suc n) monitor m h e = ap Some e
 
-pub placed_alone : (l : Ledger) (w : Watch) (fit : Bool) → fit ≡ rings_fit l → not fit ≡ true → true ≡ out_of_place l w
-placed_alone l Absent fit e h = sym (ap not (sym e) ∙ h)
-placed_alone l (Present m) fit e h = sym (ap (λ (b : Bool). b || misplaced m capacity) (ap not (sym e) ∙ h))
+pub placed_alone : (l : Ledger) (w : Option Monitor) (fit : Bool) → fit ≡ rings_fit l → not fit ≡ true → true ≡ out_of_place l w
+placed_alone l None fit e h = sym (ap not (sym e) ∙ h)
+placed_alone l (Some m) fit e h = sym (ap (λ (b : Bool). b || misplaced m capacity) (ap not (sym e) ∙ h))
 
-pub placed-absent : (l : Ledger) (w : Watch) (fit : Bool) → w ≡ Absent → fit ≡ rings_fit l → not fit ≡ false → false ≡ out_of_place l w
+pub placed-absent : (l : Ledger) (w : Option Monitor) (fit : Bool) → w ≡ None → fit ≡ rings_fit l → not fit ≡ false → false ≡ out_of_place l w
 placed-absent l w fit ew e h = sym (ap (out_of_place l) ew ∙ ap not (sym e) ∙ h)
 
-pub placed-present : (l : Ledger) (w : Watch) (m : Monitor) (fit out : Bool) → w ≡ Present m → fit ≡ rings_fit l → not fit ≡ false → out ≡ misplaced m capacity → out ≡ out_of_place l w
+pub placed-present : (l : Ledger) (w : Option Monitor) (m : Monitor) (fit out : Bool) → w ≡ Some m → fit ≡ rings_fit l → not fit ≡ false → out ≡ misplaced m capacity → out ≡ out_of_place l w
 placed-present l w m fit out ew e h eo = eo ∙ sym (ap (out_of_place l) ew ∙ ap (λ (b : Bool). b || misplaced m capacity) (ap not (sym e) ∙ h))
 
 -- by whether a ring is out of place
-link-by : (ledger monitor : List ℕ) (watched records turned : ℕ) (text word : List ℕ) (w : Watch) (out b : Bool) → w ≡ watch_at watched monitor → out ≡ out_of_place (ledger_at ledger) w → out ≡ b
+link-by : (ledger monitor : List ℕ) (watched records turned : ℕ) (text word : List ℕ) (w : Option Monitor) (out b : Bool) → w ≡ watch_at watched monitor → out ≡ out_of_place (ledger_at ledger) w → out ≡ b
     → cond b (told wrong_room text word) (told_of (report_of text (figures_of (link_at ledger monitor watched) records turned)) word) ≡ report_link_to ledger monitor watched records turned text word
 unfolding report_link_to
 link-by ledger monitor watched records turned text word w out b ew eo e =
     ap (λ (x : Bool). cond x (told wrong_room text word) (told_of (report_of text (figures_of (link_at ledger monitor watched) records turned)) word))
     (sym e ∙ eo ∙ ap (out_of_place (ledger_at ledger)) ew)
 
-pub link-refused : (ledger monitor : List ℕ) (watched records turned : ℕ) (text word : List ℕ) (w : Watch) (out : Bool) → w ≡ watch_at watched monitor → out ≡ out_of_place (ledger_at ledger) w → out ≡ true
+pub link-refused : (ledger monitor : List ℕ) (watched records turned : ℕ) (text word : List ℕ) (w : Option Monitor) (out : Bool) → w ≡ watch_at watched monitor → out ≡ out_of_place (ledger_at ledger) w → out ≡ true
     → told wrong_room text word ≡ report_link_to ledger monitor watched records turned text word
 link-refused ledger monitor watched records turned text word w out ew eo h = link-by ledger monitor watched records turned text word w out true ew eo h
 
-pub link-told : (ledger monitor : List ℕ) (watched records turned : ℕ) (text text' word word' : List ℕ) (k : Ledger) (w : Watch) (f : Figures) (a : ReportAnswer) (n : ℕ) (out : Bool)
+pub link-told : (ledger monitor : List ℕ) (watched records turned : ℕ) (text text' word word' : List ℕ) (k : Ledger) (w : Option Monitor) (f : Figures) (a : Result ℕ ℕ) (n : ℕ) (out : Bool)
     → out ≡ out_of_place (ledger_at ledger) w → out ≡ false → k ≡ ledger_at ledger → w ≡ watch_at watched monitor → f ≡ figures_of (record { ledger = k; watch = w }) records turned
     → outcome a text' ≡ report_of text f → (n ≡ number_of a) × (word' ≡ word_after a word)
     → told n text' word' ≡ report_link_to ledger monitor watched records turned text word

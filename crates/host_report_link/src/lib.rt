@@ -5,28 +5,30 @@ ghost use Rattle.host_report_link.specs.LinkTold.{watch_at, out_of_place, report
 ghost use Rattle.host_ledger.specs.Words.{ledger_at};
 
 use host_ledger::LEDGER_WORDS;
-use link_steps::{Link, Watch};
+use limits::Refusal;
+use link_steps::Link;
+use monitor::Monitor;
 
-fn watch_at(watched: u32, monitor: &[u64; 12]) -> Watch
+fn watch_at(watched: u32, monitor: &[u64; 12]) -> Option<Monitor>
     ensures { result ≡ watch_at watched monitor.now }
 {
     if watched == 0 {
-        return Watch::Absent;
+        return None;
     }
     let watching = host_monitor_words::load(monitor);
-    Watch::Present(watching)
+    Some(watching)
 }
 
 // Whether a ring of the ledger or, where it is watched, of the monitor is not one that a call leaves.
-fn out_of_place(ledger: &[u64; LEDGER_WORDS], watch: Watch) -> bool
+fn out_of_place(ledger: &[u64; LEDGER_WORDS], watch: Option<Monitor>) -> bool
     ensures { result ≡ out_of_place (ledger_at ledger.now) watch }
 {
     if !host_ledger_checks::rings_fit(ledger) {
         return true;
     }
     match watch {
-        Watch::Absent => false,
-        Watch::Present(monitor) => monitor.out_of_place(limits::CAPACITY),
+        None => false,
+        Some(monitor) => monitor.out_of_place(limits::CAPACITY),
     }
 }
 
@@ -47,7 +49,7 @@ pub extern "C" fn ambrulicciu_report_link(
 {
     let watch = watch_at(watched, monitor);
     if out_of_place(ledger, watch) {
-        return limits::WRONG_ROOM;
+        return u8::from(Refusal::WrongRoom);
     }
     let state = host_ledger::load(ledger);
     let link = Link {

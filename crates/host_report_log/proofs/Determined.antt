@@ -16,8 +16,8 @@ use Rattle.ledger_steps.specs.Rooms.{Rooms}
 use Rattle.log_whole.specs.declared.Settings.{Settings}
 use Rattle.log_whole.specs.Logs.{log_of}
 use Rattle.log_play.specs.Tally.{Tallied}
-use Rattle.log_settings.specs.declared.Checked.{Checked}
-use Rattle.log_settings.specs.declared.Checked.TheVariants.{Refused, Good}
+use Rattle.std.specs.Prelude.{Result, Ok, Err}
+use Rattle.limits.specs.declared.Refusal.{Refusal}
 use Rattle.link_report.specs.LogReport.{end_of, report_by, fits, report_of_log}
 use Rattle.log_settings.specs.Checks.{checked_by}
 use Rattle.host_report_log.specs.LogTold.{Left, left_by, report_log_to}
@@ -53,6 +53,6 @@ pub refused-unchanged : (log secret : List ℕ) (queue : List QueuedProbe) (room
 unfolding report_log_to report_of_log
 refused-unchanged log secret queue rooms text word = go (checked_by (fits queue rooms text) (log_of log)) (end_of log secret queue rooms)
   where
-    go : (c : Checked) (end : Settings → Tallied) → ((left_by (report_by c end queue rooms text) word).told.number ≡ 0 → ⊥) → Unchanged queue rooms text word (left_by (report_by c end queue rooms text) word)
-    go (Refused n) end h = record { same_queue = refl; same-rooms = refl; same_text = refl; same_length = refl }
-    go (Good s) end h = absurd (h refl)
+    go : (c : Result Settings Refusal) (end : Settings → Tallied) → ((left_by (report_by c end queue rooms text) word).told.number ≡ 0 → ⊥) → Unchanged queue rooms text word (left_by (report_by c end queue rooms text) word)
+    go (Err r) end h = record { same_queue = refl; same-rooms = refl; same_text = refl; same_length = refl }
+    go (Ok s) end h = absurd (h refl)

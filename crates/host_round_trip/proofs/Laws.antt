@@ -1,4 +1,5 @@
 -- What a round trip leaves in the eight words of the round trips. Assumes nothing.
+use Rattle.std.specs.Prelude.{Some}
 use mathlib.Core.Path.{◌≡◌, refl, sym, ap, ◌∙◌}
 use mathlib.Core.Bool.{Bool, true, false, ◌&&◌, cond}
 use mathlib.Core.List.{List, [], ◌∷◌}
@@ -11,7 +12,6 @@ use lib.Seq.{sets, get_or-set_other}
 use borrow.Author.Tests.{eqb-true}
 use Rattle.floats.specs.Whole.{magnitude}
 use Rattle.delays.specs.declared.Delays.{Delays}
-use Rattle.delays.specs.declared.Extreme.TheVariants as extreme
 use Rattle.delays.specs.declared.Sum.{Sum}
 use Rattle.limits.specs.Limits.{sum_bound}
 use Rattle.delays.specs.Delays.{recorded_of}
@@ -78,11 +78,11 @@ module _ (w : List ℕ) (c h l a b : ℕ) where
 
 -- ---- the words
 
-one_kind : (b : Bool) (n m : ℕ) → 1 ≡ extreme_kind (extreme.At (cond b (nanoseconds_of (pos n)) (nanoseconds_of (pos m))))
+one_kind : (b : Bool) (n m : ℕ) → 1 ≡ extreme_kind (Some (cond b (nanoseconds_of (pos n)) (nanoseconds_of (pos m))))
 one_kind true n m = refl
 one_kind false n m = refl
 
-its_magnitude : (b : Bool) (n m : ℕ) → cond b n m ≡ extreme_magnitude (extreme.At (cond b (nanoseconds_of (pos n)) (nanoseconds_of (pos m))))
+its_magnitude : (b : Bool) (n m : ℕ) → cond b n m ≡ extreme_magnitude (Some (cond b (nanoseconds_of (pos n)) (nanoseconds_of (pos m))))
 its_magnitude true n m = refl
 its_magnitude false n m = refl
 

@@ -23,10 +23,12 @@ pub extern "C" fn ambrulicciu_sent(
     ensures { sent_left result ledger.new probes.new links.new ≡ sent_of ledger.old probes.old links.old (sent_probe_of sequence ordinal train time tag) }
 {
     let sized = (probes.len() == CAPACITY) & (links.len() == CAPACITY);
-    let refused = host_ledger_checks::refusal(ledger, sized);
-    if refused == 0 {
-        let probe = host_calls::probe_of(sequence, ordinal, train, time, tag);
-        served(ledger, probes, links, probe);
+    match host_ledger_checks::refusal(ledger, sized) {
+        Some(refusal) => u8::from(refusal),
+        None => {
+            let probe = host_calls::probe_of(sequence, ordinal, train, time, tag);
+            served(ledger, probes, links, probe);
+            0
+        }
     }
-    refused
 }

@@ -1,7 +1,6 @@
 -- What the library's `sent` leaves of the words and the rooms that a host lends. Assumes nothing.
-use Rattle.std.specs.Prelude.{List, ℕ}
-use Rattle.ledger_steps.specs.declared.LedgerAnswer.{LedgerAnswer}
-use Rattle.ledger_steps.specs.declared.LedgerAnswer.TheVariants as answer
+use Rattle.ledger_state.specs.declared.Ledger.{Ledger}
+use Rattle.std.specs.Prelude.{List, ℕ, Result, Ok, Err}
 use Rattle.ledger_steps.specs.Sent.{SentOutcome}
 use Rattle.ledger_steps.specs.Calls.{SentResult, number}
 use Rattle.host_ledger.specs.Left.{sent_words}
@@ -18,9 +17,9 @@ abbrev pub sent_left : ℕ → List ℕ → List (List ℕ) → List (List ℕ) 
 sent_left number ledger probes links = record { number = number; ledger = ledger; probes = probes; links = links }
 
 -- the words after an answer: a refusal changes none
-abbrev pub words_after : List ℕ → LedgerAnswer → List ℕ
-words_after w (answer.Served next) = sent_words w next
-words_after w (answer.Refused n) = w
+abbrev pub words_after : List ℕ → Result Ledger ℕ → List ℕ
+words_after w (Ok next) = sent_words w next
+words_after w (Err n) = w
 
 -- what the library's result leaves of the words w: its number, 0 where served, and its two rooms
 abbrev pub sent_from : List ℕ → SentResult → SentLeft

@@ -2,6 +2,7 @@
 // It is no call of its own, since a crate that exports one cannot be what another call's object is made of. Refusals are tested in the words before a
 // probe is served: of the ledger that is then taken out it needs a few words alone, and the others are not read.
 ghost use Rattle.std.specs.Prelude.{◌≡◌, length};
+ghost use Rattle.limits.specs.Numbers.{number};
 ghost use Rattle.ledger_steps.specs.Calls.{sent_to};
 ghost use Rattle.ledger_steps.specs.Sent.{sent_on};
 ghost use Rattle.ledger_checks.specs.Sound.{SoundSent};
@@ -11,7 +12,7 @@ ghost use Rattle.host_sent_words.specs.Sent.{sent_left, sent_from, served_leaves
 use call_types::SentProbe;
 use host_ledger::LEDGER_WORDS;
 use host_watched_parts::first_of;
-use limits::CAPACITY;
+use limits::{CAPACITY, Refusal};
 
 // A `sent` that is not refused.
 pub fn served(
@@ -28,21 +29,20 @@ pub fn served(
     host_ledger::store_sent(ledger, next);
 }
 
-// A `sent` that is refused also where `other` is a refusal: that of the monitor, 0 where there is none.
+// Why `sent` was refused, where it was. It is refused also where `other` is a refusal: that of the monitor.
 pub fn sent_unless(
-    other: u8,
+    other: Option<Refusal>,
     ledger: &mut [u64; LEDGER_WORDS],
     probes: &mut [[u64; 4]],
     links: &mut [[u16; 8]],
     probe: SentProbe,
-) -> u8
-    ensures { sent_left result ledger.new probes.new links.new ≡ sent_from ledger.old (sent_to other (ledger_at ledger.old) probes.old links.old probe) }
+) -> Option<Refusal>
+    ensures { sent_left (number result) ledger.new probes.new links.new ≡ sent_from ledger.old (sent_to (number other) (ledger_at ledger.old) probes.old links.old probe) }
 {
     let sized = (probes.len() == CAPACITY) & (links.len() == CAPACITY);
-    let own = host_ledger_checks::refusal(ledger, sized);
-    let number = first_of(own, other);
-    if number == 0 {
+    let refused = first_of(host_ledger_checks::refusal(ledger, sized), other);
+    if refused.is_none() {
         served(ledger, probes, links, probe);
     }
-    number
+    refused
 }

@@ -1,4 +1,5 @@
 -- The parts of the ledger, shown one after the other, are the snapshot of the whole. Assumes nothing.
+use Rattle.std.specs.Prelude.{Option}
 use mathlib.Core.Path.{◌≡◌, ap, ◌∙◌}
 use mathlib.Core.List.{List, [], ◌∷◌}
 use Prim.Native.Nat.{ℕ}
@@ -9,7 +10,6 @@ use Rattle.direct.specs.Shown as direct
 use Rattle.follow_ups.specs.Shown as follow_ups
 use Rattle.replies.specs.declared.Replies.{Replies}
 use Rattle.replies.specs.Served.{unobserved}
-use Rattle.thousandths.specs.declared.Thousandths.{Thousandths}
 use Rattle.thousandths.specs.Thousandths.{thousandths_of, known_of, value_of}
 use Rattle.ledger_snapshot.specs.Snapshot.{snapshot_of}
 use Rattle.host_quality.specs.Words.{quality_at}
@@ -20,7 +20,7 @@ use Rattle.host_snapshot_words.proofs.Groups.{follow_as, shown_as}
 use Rattle.host_snapshot.specs.Snapshot.{left, snapshot_leaves}
 
 -- unobserved and its thousandths, of the replies that the code read
-pub loss_is : (w room : List ℕ) (r : Replies) (n : ℕ) (t : Thousandths) (room' : List ℕ) → r ≡ replies_at 11 72 w → n ≡ unobserved r → t ≡ thousandths_of n r.totals.requested
+pub loss_is : (w room : List ℕ) (r : Replies) (n : ℕ) (t : Option ℕ) (room' : List ℕ) → r ≡ replies_at 11 72 w → n ≡ unobserved r → t ≡ thousandths_of n r.totals.requested
     → room' ≡ sets room 16 (n ∷ known_of t ∷ value_of t ∷ []) → room' ≡ sets room 16 (loss_words (snapshot_of (ledger_at w)))
 unfolding snapshot_of ledger_at
 loss_is w room r n t room' er en et h =

@@ -1,13 +1,12 @@
 -- The groups of a snapshot's words, placed one after another, are placed as one; together they are the whole room. Assumes nothing.
+use Rattle.std.specs.Prelude.{Option, Some, None}
+use Rattle.call_types.specs.declared.CounterPoint.{CounterPoint}
+use Rattle.clock_quality.specs.declared.ClockEstimate.{ClockEstimate}
 use mathlib.Core.Path.{◌≡◌, refl, sym, ap, ◌∙◌}
 use mathlib.Core.List.{List, [], ◌∷◌, ◌++◌}
 use Prim.Native.Nat.{ℕ, ◌+◌}
 use native.Mathlib.Omega.{arith}
 use lib.ListN.{length, length-append}
-use Rattle.call_types.specs.declared.Counters.{Counters}
-use Rattle.call_types.specs.declared.Counters.TheVariants as counters
-use Rattle.clock_quality.specs.declared.LastEstimate.{LastEstimate}
-use Rattle.clock_quality.specs.declared.LastEstimate.TheVariants as last
 use Rattle.clock_quality.specs.declared.ClockQuality.{ClockQuality}
 use Rattle.direct.specs.declared.summary.DirectSummary.{DirectSummary}
 use Rattle.follow_ups.specs.declared.summary.FollowUpSummary.{FollowUpSummary}
@@ -16,15 +15,15 @@ use Rattle.host_snapshot_words.specs.Words.{point_words, replies_words, evicted_
 use Rattle.host_snapshot_words.specs.Words.{follow_count_words, estimate_words, quality_count_words, largest_words, quality_words, follow_words, shown_words}
 use Rattle.host_snapshot_words.proofs.Laws.{placed, placed-next, placed_all}
 
-point-length : (c : Counters) → length (point_words c) ≡ 4
+point-length : (c : Option CounterPoint) → length (point_words c) ≡ 4
 unfolding point_words
-point-length counters.Absent = refl
-point-length (counters.Point p) = refl
+point-length None = refl
+point-length (Some p) = refl
 
-estimate_length : (e : LastEstimate) → length (estimate_words e) ≡ 8
+estimate_length : (e : Option ClockEstimate) → length (estimate_words e) ≡ 8
 unfolding estimate_words
-estimate_length last.Absent = refl
-estimate_length (last.Seen e) = refl
+estimate_length None = refl
+estimate_length (Some e) = refl
 
 -- ---- direct loss
 

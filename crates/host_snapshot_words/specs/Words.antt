@@ -1,6 +1,9 @@
 -- A snapshot as the 91 words that a host is shown. A flag is 0 or 1; a value that is absent is a flag 0 and zeros; an f64 is its bits
 -- (`to_bits` is the logic's own). Assumes nothing.
-use Rattle.std.specs.Prelude.{Bool, List, [], ◌∷◌, ◌++◌, ℕ}
+use Rattle.std.specs.Float.Ieee.{Float}
+use Rattle.call_types.specs.declared.CounterPoint.{CounterPoint}
+use Rattle.clock_quality.specs.declared.ClockEstimate.{ClockEstimate}
+use Rattle.std.specs.Prelude.{Bool, List, [], ◌∷◌, ◌++◌, ℕ, Option, Some, None}
 use Rattle.std.specs.Float.{binary64}
 use Rattle.std.specs.Float.Ieee.{to_bits}
 use Rattle.host_numbers.specs.Numbers.{flag_word}
@@ -8,21 +11,10 @@ use Rattle.host_quality.specs.Words.{largest_word, largest_bits}
 use Rattle.estimate.specs.declared.Reading.{Reading}
 use Rattle.estimate.specs.declared.Reading.TheVariants as error
 use Rattle.estimate.specs.Make.{is_ptp}
-use Rattle.call_types.specs.declared.Counters.{Counters}
-use Rattle.call_types.specs.declared.Counters.TheVariants as counters
-use Rattle.delays.specs.declared.Milliseconds.{Milliseconds}
-use Rattle.delays.specs.declared.Milliseconds.TheVariants as milliseconds
 use Rattle.delays.specs.declared.DelaySummary.{DelaySummary}
-use Rattle.clock_quality.specs.declared.LastEstimate.{LastEstimate}
-use Rattle.clock_quality.specs.declared.LastEstimate.TheVariants as last
-use Rattle.clock_quality.specs.declared.LargestError.{LargestError}
 use Rattle.clock_quality.specs.declared.ClockQuality.{ClockQuality}
-use Rattle.replies.specs.declared.Reflector.{Reflector}
-use Rattle.replies.specs.declared.Reflector.TheVariants as reflector
 use Rattle.replies.specs.declared.Replies.{Replies}
 use Rattle.direct.specs.declared.Counts.{Counts}
-use Rattle.direct.specs.declared.summary.Packets.{Packets}
-use Rattle.direct.specs.declared.summary.Packets.TheVariants as packets
 use Rattle.direct.specs.declared.summary.Spans.{Spans}
 use Rattle.direct.specs.declared.summary.DirectSummary.{DirectSummary}
 use Rattle.follow_ups.specs.declared.FollowCounts.{FollowCounts}
@@ -33,34 +25,34 @@ use Rattle.ledger_snapshot.specs.declared.Snapshot.{Snapshot}
 -- ---- values that may be absent: whether they are known, and the value
 
 -- whether there is a last or highest reflector number: 1 or 0
-abbrev pub reflector_known : Reflector → ℕ
-reflector_known reflector.Absent = 0
-reflector_known (reflector.Number n) = 1
+abbrev pub reflector_known : Option ℕ → ℕ
+reflector_known None = 0
+reflector_known (Some n) = 1
 
 -- that number, 0 if absent
-abbrev pub reflector_number : Reflector → ℕ
-reflector_number reflector.Absent = 0
-reflector_number (reflector.Number n) = n
+abbrev pub reflector_number : Option ℕ → ℕ
+reflector_number None = 0
+reflector_number (Some n) = n
 
 -- whether a number of packets is shown: 1 or 0
-abbrev pub packets_known : Packets → ℕ
-packets_known packets.Absent = 0
-packets_known (packets.Number n) = 1
+abbrev pub packets_known : Option ℕ → ℕ
+packets_known None = 0
+packets_known (Some n) = 1
 
 -- that number, 0 if absent
-abbrev pub packets_number : Packets → ℕ
-packets_number packets.Absent = 0
-packets_number (packets.Number n) = n
+abbrev pub packets_number : Option ℕ → ℕ
+packets_number None = 0
+packets_number (Some n) = n
 
 -- whether there is a delay in ms: 1 or 0
-abbrev pub ms_known : Milliseconds → ℕ
-ms_known milliseconds.Absent = 0
-ms_known (milliseconds.Known x) = 1
+abbrev pub ms_known : Option Float → ℕ
+ms_known None = 0
+ms_known (Some x) = 1
 
 -- the bits of its f64, 0 if absent
-abbrev pub ms_bits : Milliseconds → ℕ
-ms_bits milliseconds.Absent = 0
-ms_bits (milliseconds.Known x) = to_bits binary64 x
+abbrev pub ms_bits : Option Float → ℕ
+ms_bits None = 0
+ms_bits (Some x) = to_bits binary64 x
 
 -- whether the error of an estimate is known: 1, or 0 where it is invalid
 abbrev pub error_known : Reading → ℕ
@@ -78,14 +70,14 @@ received_bits (error.Invalid wire) = wire
 received_bits (error.Known x) = 0
 
 -- S_TxC, R_RxC, R_TxC
-unfoldable pub point_words : Counters → List ℕ
-point_words counters.Absent = 0 ∷ 0 ∷ 0 ∷ 0 ∷ []
-point_words (counters.Point p) = 1 ∷ p.sender.0 ∷ p.received.0 ∷ p.transmitted.0 ∷ []
+unfoldable pub point_words : Option CounterPoint → List ℕ
+point_words None = 0 ∷ 0 ∷ 0 ∷ 0 ∷ []
+point_words (Some p) = 1 ∷ p.sender.0 ∷ p.received.0 ∷ p.transmitted.0 ∷ []
 
 -- synchronized, PTP, scale, multiplier, and the error in ms where it is known, or else the 16 bits as received
-unfoldable pub estimate_words : LastEstimate → List ℕ
-estimate_words last.Absent = 0 ∷ 0 ∷ 0 ∷ 0 ∷ 0 ∷ 0 ∷ 0 ∷ 0 ∷ []
-estimate_words (last.Seen e) =
+unfoldable pub estimate_words : Option ClockEstimate → List ℕ
+estimate_words None = 0 ∷ 0 ∷ 0 ∷ 0 ∷ 0 ∷ 0 ∷ 0 ∷ 0 ∷ []
+estimate_words (Some e) =
     1 ∷ flag_word e.synchronized ∷ flag_word (is_ptp e.format) ∷ e.scale ∷ e.multiplier ∷ error_known e.error ∷ shown_error e.error ∷ received_bits e.error ∷ []
 
 -- ---- words 0 to 15
@@ -143,7 +135,7 @@ abbrev pub quality_count_words : ClockQuality → List ℕ
 quality_count_words q = q.samples ∷ q.both ∷ q.unsynchronized ∷ q.invalid ∷ q.unknown ∷ q.invalid_sender ∷ q.invalid_reflector ∷ q.invalid_both ∷ []
 
 -- the largest combined error in ms: a flag and its bits
-abbrev pub largest_words : LargestError → List ℕ
+abbrev pub largest_words : Option Float → List ℕ
 largest_words x = largest_word x ∷ largest_bits x ∷ []
 
 -- the counts, the last estimate of the sender and of the reflector, the largest combined error

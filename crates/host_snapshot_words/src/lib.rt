@@ -2,21 +2,19 @@
 ghost use Rattle.std.specs.Prelude.{◌≡◌, [], ◌∷◌, ◌+◌, ◌≤◌, length};
 ghost use Rattle.std.proofs.lemmas.List.Edits.{sets};
 ghost use Rattle.thousandths.specs.Thousandths.{known_of, value_of};
-ghost use Rattle.clock_quality.specs.declared.LastEstimate.TheVariants.{Seen};
 ghost use Rattle.host_snapshot_words.specs.Words.{point_words, replies_words, evicted_words, delay_words, direct_count_words, span_words, direct_words};
 ghost use Rattle.host_snapshot_words.specs.Words.{follow_count_words, estimate_words, quality_count_words, largest_words, quality_words};
 
 mod values;
 
-use call_types::Counters;
-use clock_quality::{ClockEstimate, ClockQuality, LargestError, LastEstimate};
+use call_types::CounterPoint;
+use clock_quality::{ClockEstimate, ClockQuality};
 use delays::DelaySummary;
 use direct::summary::{DirectSummary, Spans};
 use follow_ups::FollowCounts;
 use host_numbers::flag;
 use host_quality::{largest_bits, largest_word};
 use replies::Replies;
-use thousandths::Thousandths;
 use values::{
     error_bits, error_known, error_received, ms_bits, ms_known, packets_known, packets_number,
     reflector_known, reflector_number, thousandths_known, thousandths_value,
@@ -93,16 +91,16 @@ pub fn place_delay(room: &mut [u64], at: usize, delay: DelaySummary)
     place(room, at, &words);
 }
 
-fn place_point(room: &mut [u64], at: usize, counters: Counters)
+fn place_point(room: &mut [u64], at: usize, counters: Option<CounterPoint>)
     requires { at + 4 ≤ length room.old }
     ensures { room.new ≡ sets room.old at (point_words counters) }
 {
     match counters {
-        Counters::Absent => {
+        None => {
             let words = [0, 0, 0, 0];
             place(room, at, &words);
         }
-        Counters::Point(point) => {
+        Some(point) => {
             let sender = point.sender;
             let received = point.received;
             let transmitted = point.transmitted;
@@ -184,7 +182,7 @@ pub fn place_follow_counts(room: &mut [u64], at: usize, counts: FollowCounts)
 
 fn place_estimate(room: &mut [u64], at: usize, estimate: ClockEstimate)
     requires { at + 8 ≤ length room.old }
-    ensures { room.new ≡ sets room.old at (estimate_words (Seen estimate)) }
+    ensures { room.new ≡ sets room.old at (estimate_words (Some estimate)) }
 {
     let format = estimate.format;
     let error = estimate.error;
@@ -201,16 +199,16 @@ fn place_estimate(room: &mut [u64], at: usize, estimate: ClockEstimate)
     place(room, at, &words);
 }
 
-fn place_last(room: &mut [u64], at: usize, last: LastEstimate)
+fn place_last(room: &mut [u64], at: usize, last: Option<ClockEstimate>)
     requires { at + 8 ≤ length room.old }
     ensures { room.new ≡ sets room.old at (estimate_words last) }
 {
     match last {
-        LastEstimate::Absent => {
+        None => {
             let words = [0; 8];
             place(room, at, &words);
         }
-        LastEstimate::Seen(estimate) => place_estimate(room, at, estimate),
+        Some(estimate) => place_estimate(room, at, estimate),
     }
 }
 
@@ -231,7 +229,7 @@ fn place_quality_counts(room: &mut [u64], at: usize, quality: ClockQuality)
     place(room, at, &words);
 }
 
-fn place_largest(room: &mut [u64], at: usize, largest: LargestError)
+fn place_largest(room: &mut [u64], at: usize, largest: Option<f64>)
     requires { at + 2 ≤ length room.old }
     ensures { room.new ≡ sets room.old at (largest_words largest) }
 {
@@ -254,7 +252,7 @@ pub fn place_quality(room: &mut [u64], at: usize, quality: ClockQuality)
 }
 
 // Unobserved, and document 01's thousandths.
-pub fn place_loss(room: &mut [u64], unobserved: u64, thousandths: Thousandths)
+pub fn place_loss(room: &mut [u64], unobserved: u64, thousandths: Option<u64>)
     requires { 19 ≤ length room.old }
     ensures { room.new ≡ sets room.old 16 (unobserved ∷ known_of thousandths ∷ value_of thousandths ∷ []) }
 {

@@ -4,82 +4,78 @@ ghost use Rattle.host_snapshot_words.specs.Words.{reflector_known, reflector_num
 ghost use Rattle.thousandths.specs.Thousandths.{known_of, value_of};
 ghost use Rattle.host_snapshot_words.specs.Words.{error_known, shown_error, received_bits};
 
-use delays::Milliseconds;
-use direct::summary::Packets;
 use estimate::Reading;
 use host_numbers::bits_of;
-use replies::Reflector;
-use thousandths::Thousandths;
 
-pub fn reflector_known(reflector: Reflector) -> u64
+pub fn reflector_known(reflector: Option<u32>) -> u64
     ensures { result ≡ reflector_known reflector }
 {
     match reflector {
-        Reflector::Absent => 0,
-        Reflector::Number(_) => 1,
+        None => 0,
+        Some(_) => 1,
     }
 }
 
-pub fn reflector_number(reflector: Reflector) -> u64
+pub fn reflector_number(reflector: Option<u32>) -> u64
     ensures { result ≡ reflector_number reflector }
 {
     match reflector {
-        Reflector::Absent => 0,
-        Reflector::Number(n) => n as u64,
+        None => 0,
+        Some(n) => n as u64,
     }
 }
 
-pub fn packets_known(packets: Packets) -> u64
+pub fn packets_known(packets: Option<u64>) -> u64
     ensures { result ≡ packets_known packets }
 {
     match packets {
-        Packets::Absent => 0,
-        Packets::Number(_) => 1,
+        None => 0,
+        Some(_) => 1,
     }
 }
 
-pub fn packets_number(packets: Packets) -> u64
+pub fn packets_number(packets: Option<u64>) -> u64
     ensures { result ≡ packets_number packets }
 {
     match packets {
-        Packets::Absent => 0,
-        Packets::Number(n) => n,
+        None => 0,
+        Some(n) => n,
     }
 }
 
-pub fn thousandths_known(thousandths: Thousandths) -> u64
+pub fn thousandths_known(thousandths: Option<u64>) -> u64
     ensures { result ≡ known_of thousandths }
 {
     match thousandths {
-        Thousandths::Absent => 0,
-        Thousandths::Known(_) => 1,
+        None => 0,
+        Some(_) => 1,
     }
 }
 
-pub fn thousandths_value(thousandths: Thousandths) -> u64
+pub fn thousandths_value(thousandths: Option<u64>) -> u64
     ensures { result ≡ value_of thousandths }
 {
     match thousandths {
-        Thousandths::Absent => 0,
-        Thousandths::Known(n) => n,
+        None => 0,
+        Some(n) => n,
     }
 }
 
-pub fn ms_known(ms: Milliseconds) -> u64
+pub fn ms_known(ms: Option<f64>) -> u64
     ensures { result ≡ ms_known ms }
 {
     match ms {
-        Milliseconds::Absent => 0,
-        Milliseconds::Known(_) => 1,
+        None => 0,
+        Some(_) => 1,
     }
 }
 
-pub fn ms_bits(ms: Milliseconds) -> u64
+pub fn ms_bits(ms: Option<f64>) -> u64
     ensures { result ≡ ms_bits ms }
 {
     match ms {
-        Milliseconds::Absent => 0,
-        Milliseconds::Known(x) => bits_of(x),
+        None => 0,
+        Some(x) => bits_of(x),
     }
 }
 

@@ -2,17 +2,19 @@
 use mathlib.Core.Path.{◌≡◌, refl, sym, ap, ◌∙◌}
 use mathlib.Core.Bool.{false}
 use mathlib.Core.List.{List}
-use Prim.Native.Nat.{ℕ}
+use Prim.Native.Nat.{ℕ, zero, suc}
 use lib.Ieee.{Float, binary64, of_bits, to_bits}
 use lib.ListN.{get_or, set}
 use lib.Seq.{sets, set_comm}
 use native.Mathlib.Omega.{arith}
+use Rattle.std.specs.Prelude.{Option, Some, None, Result, Ok, Err}
+use Rattle.limits.specs.declared.Refusal.{Refusal}
+use Rattle.limits.specs.Numbers.{number_of}
+use Rattle.quantiles.proofs.Numbers.{some_number}
 use Rattle.delays.specs.declared.DelaySummary.{DelaySummary}
 use Rattle.delays.specs.Summary.{summary_of}
 use Rattle.series.specs.Shown.{delays_of}
 use Rattle.spread.specs.declared.RttCollector.{RttCollector}
-use Rattle.spread.specs.declared.Recording.{Recording}
-use Rattle.spread.specs.declared.Recording.TheVariants.{Refused, SumsFull, Full, Counted}
 use Rattle.spread.specs.Spread.{fresh}
 use Rattle.spread.specs.Record as record-call
 use Rattle.host_summary.specs.Words.{summary_words}
@@ -65,27 +67,30 @@ unfolding show_to
 show-said ws shown after c d e f g =
     ap (words_left 0) (g ∙ ap (λ (x : DelaySummary). sets shown 0 (summary_words x)) (f ∙ ap (λ (x : RttCollector). summary_of (delays_of x.quantiles x.sum)) e))
 
-module _ (ws room after recorded : List ℕ) (v : ℕ) (c : RttCollector) (a : Recording) (is : c ≡ collector_at ws) (got : record-call.outcome c a after ≡ record-call.record_to c room v) where
-  from_answer : (b : Recording) → a ≡ b → record-call.outcome (collector_at ws) b after ≡ record-call.record_to (collector_at ws) room v
+module _ (ws room after recorded : List ℕ) (v : ℕ) (c : RttCollector) (a : Result (Option RttCollector) Refusal) (is : c ≡ collector_at ws) (got : record-call.outcome c a after ≡ record-call.record_to c room v) where
+  from_answer : (b : Result (Option RttCollector) Refusal) → a ≡ b → record-call.outcome (collector_at ws) b after ≡ record-call.record_to (collector_at ws) room v
   from_answer b told =
-      ap (λ (x : Recording). record-call.outcome (collector_at ws) x after) (sym told)
+      ap (λ (x : Result (Option RttCollector) Refusal). record-call.outcome (collector_at ws) x after) (sym told)
       ∙ ap (λ (x : RttCollector). record-call.outcome x a after) (sym is)
       ∙ got
       ∙ ap (λ (x : RttCollector). record-call.record_to x room v) is
 
-  pub record-refused : a ≡ Refused → record_left 5 ws after recorded ≡ record_to ws room v recorded
+  pub record-refused : (r : Refusal) (n : ℕ) → a ≡ Err r → n ≡ number_of r → record_left n ws after recorded ≡ record_to ws room v recorded
   unfolding record_to record-call.outcome
-  record-refused told = ap (λ (o : record-call.Outcome). record_by o.number o ws recorded) (from_answer Refused told)
+  record-refused r n told number =
+      ap (λ (m : ℕ). record_left m ws after recorded) number
+      ∙ refused (number_of r) (record-call.left (number_of r) false (collector_at ws) after) (some_number r)
+      ∙ ap (λ (o : record-call.Outcome). record_by o.number o ws recorded) (from_answer (Err r) told)
+    where
+      refused : (n : ℕ) (o : record-call.Outcome) → (n ≡ 0 → ⊥) → record_left n ws o.room recorded ≡ record_by n o ws recorded
+      refused zero o some = absurd (some refl)
+      refused (suc n) o some = refl
 
-  pub record_sums : a ≡ SumsFull → record_left 4 ws after recorded ≡ record_to ws room v recorded
+  pub record-full : a ≡ Ok None → record_left 0 ws after (set recorded 0 0) ≡ record_to ws room v recorded
   unfolding record_to record-call.outcome
-  record_sums told = ap (λ (o : record-call.Outcome). record_by o.number o ws recorded) (from_answer SumsFull told)
+  record-full told = ap (λ (o : record-call.Outcome). record_by o.number o ws recorded) (from_answer (Ok None) told)
 
-  pub record-full : a ≡ Full → record_left 0 ws after (set recorded 0 0) ≡ record_to ws room v recorded
-  unfolding record_to record-call.outcome
-  record-full told = ap (λ (o : record-call.Outcome). record_by o.number o ws recorded) (from_answer Full told)
-
-  pub record-counted : (next : RttCollector) (words : List ℕ) → a ≡ Counted next → words ≡ sets ws 0 (collector_words next) → record_left 0 words after (set recorded 0 1) ≡ record_to ws room v recorded
+  pub record-counted : (next : RttCollector) (words : List ℕ) → a ≡ Ok (Some next) → words ≡ sets ws 0 (collector_words next) → record_left 0 words after (set recorded 0 1) ≡ record_to ws room v recorded
   unfolding record_to record-call.outcome
   record-counted next words told h =
-      ap (λ (l : List ℕ). record_left 0 l after (set recorded 0 1)) h ∙ ap (λ (o : record-call.Outcome). record_by o.number o ws recorded) (from_answer (Counted next) told)
+      ap (λ (l : List ℕ). record_left 0 l after (set recorded 0 1)) h ∙ ap (λ (o : record-call.Outcome). record_by o.number o ws recorded) (from_answer (Ok (Some next)) told)

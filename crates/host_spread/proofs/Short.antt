@@ -14,15 +14,13 @@ use Rattle.delays.specs.declared.Nanoseconds.{Nanoseconds}
 use Rattle.delays.specs.declared.Sum.{Sum}
 use Rattle.delays.specs.Sums.{value_of, nanoseconds_of, total_of, sum_of}
 use Rattle.quantiles.specs.declared.Quantiles.{Quantiles}
-use Rattle.quantiles.specs.declared.Recording.TheVariants as quantile-answer
+use Rattle.std.specs.Prelude.{Some, Ok}
 use Rattle.quantiles.specs.Record as quantile-record
 use Rattle.quantiles.specs.Between.{one_more, Tried}
-use Rattle.series.specs.declared.Sampling.TheVariants as sampling
 use Rattle.series.proofs.Ways.{way_fits}
 use Rattle.series.proofs.Kept.{left_of, right_of}
 use Rattle.spread.specs.declared.Jitter.{Jitter}
 use Rattle.spread.specs.declared.RttCollector.{RttCollector}
-use Rattle.spread.specs.declared.Recording.TheVariants.{Counted}
 use Rattle.spread.specs.Spread.{welford_from, jitter_of, fits, grown_of}
 use Rattle.spread.specs.Record as record-call
 use Rattle.spread.proofs.Steps.{grown_is, way_counted}
@@ -123,8 +121,8 @@ module _ (ws room after : List ℕ) (v : ℕ) (c : RttCollector) (fit t : Bool) 
   recorded_more : record-call.left 0 true (grown_of c (one_more c.quantiles) v) after ≡ record-call.record_to c room v
   unfolding quantile-record.outcome
   recorded_more =
-      way_counted c room v after true (sampling.Counted (one_more c.quantiles)) (sym fit_is)
-      (way_fits c.quantiles room v (quantile-answer.Counted (one_more c.quantiles)) (quantile-answer.Counted (one_more c.quantiles)) after true refl got.1 refl)
+      way_counted c room v after true (Ok (Some (one_more c.quantiles))) (sym fit_is)
+      (way_fits c.quantiles room v (Ok (Some (one_more c.quantiles))) after true refl got.1)
       (one_more c.quantiles) (grown_of c (one_more c.quantiles) v) refl refl
 
   pub record_more : (words recorded answered : List ℕ) → words ≡ sets ws 0 (collector_words (grown_of (collector_at ws) (one_more (collector_at ws).quantiles) v)) → answered ≡ set recorded 0 1
@@ -132,7 +130,7 @@ module _ (ws room after : List ℕ) (v : ℕ) (c : RttCollector) (fit t : Bool) 
   unfolding record-call.outcome
   record_more words recorded answered h k =
       ap (record_left 0 words after) k
-      ∙ record-counted ws room after recorded v c (Counted (grown_of c (one_more c.quantiles) v)) is recorded_more (grown_of c (one_more c.quantiles) v) words refl
+      ∙ record-counted ws room after recorded v c (Ok (Some (grown_of c (one_more c.quantiles) v))) is recorded_more (grown_of c (one_more c.quantiles) v) words refl
       (h ∙ ap (λ (x : RttCollector). sets ws 0 (collector_words (grown_of x (one_more x.quantiles) v))) (sym is))
 
 -- where nothing was done, any sample's way goes on from the room as it was

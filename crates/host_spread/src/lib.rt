@@ -1,6 +1,8 @@
 // The host's calls for the spread and jitter of a series of round trips (crate spread). A collector is twelve lent words: the count, the least
 // and the greatest sample; the sum, high word first; the first sample, then mean and sum of squares around it as f64; the sum of successive
 // differences, high word first, and their count; the last sample.
+#![tactic(auto)]
+
 ghost use Rattle.std.specs.Prelude.{◌≡◌, true, ◌+◌, ◌^◌, ◌<◌, get_or, set};
 ghost use Rattle.std.specs.Float.Ieee.{eq, to_bits};
 ghost use Rattle.std.specs.Float.{binary64};
@@ -12,7 +14,7 @@ ghost use Rattle.host_spread.specs.Calls.{words_left, fresh_to, record_left, rec
 
 use delays::Sum;
 use quantiles::Quantiles;
-use spread::{Jitter, Recording, RttCollector, Welford};
+use spread::{Jitter, RttCollector, Welford};
 
 fn load(words: &[u64; 12]) -> RttCollector
     ensures { result ≡ collector_at words.now }
@@ -151,13 +153,12 @@ fn record_any(spread: &mut [u64; 12], room: &mut [u64], value: u64, recorded: &m
     let state = load(spread);
     let answer = state.record(room, value);
     match answer {
-        Recording::Refused => limits::WRONG_ROOM,
-        Recording::SumsFull => limits::COUNTS_FULL,
-        Recording::Full => {
+        Err(refusal) => u8::from(refusal),
+        Ok(None) => {
             recorded[0] = 0;
             0
         }
-        Recording::Counted(next) => {
+        Ok(Some(next)) => {
             let steps = next.welford;
             if steps.mean == steps.mean {
                 if steps.m2 == steps.m2 {

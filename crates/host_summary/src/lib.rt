@@ -3,23 +3,23 @@ ghost use Rattle.std.specs.Prelude.{◌≡◌};
 ghost use Rattle.std.proofs.lemmas.List.Edits.{sets};
 ghost use Rattle.host_summary.specs.Words.{ms_known, ms_bits, summary_words};
 
-use delays::{DelaySummary, Milliseconds};
+use delays::DelaySummary;
 
-fn ms_known(ms: Milliseconds) -> u64
+fn ms_known(ms: Option<f64>) -> u64
     ensures { result ≡ ms_known ms }
 {
     match ms {
-        Milliseconds::Absent => 0,
-        Milliseconds::Known(value) => 1,
+        None => 0,
+        Some(value) => 1,
     }
 }
 
-fn ms_bits(ms: Milliseconds) -> u64
+fn ms_bits(ms: Option<f64>) -> u64
     ensures { result ≡ ms_bits ms }
 {
     match ms {
-        Milliseconds::Absent => 0,
-        Milliseconds::Known(value) => host_numbers::bits_of(value),
+        None => 0,
+        Some(value) => host_numbers::bits_of(value),
     }
 }
 

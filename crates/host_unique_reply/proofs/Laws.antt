@@ -1,9 +1,9 @@
 -- What the stores of a unique reply leave: a store changes no word after it, so each count is read as it stood. Assumes nothing.
+use Rattle.std.specs.Prelude.{Some, None}
 use Rattle.std.proofs.Common.{◌≡◌, ℕ, suc, ◌+◌, ◌^◌, ◌<◌, ◌≤◌, Bool, true, false, cond, not, ◌&&◌, eqb, ltb, List, [], ◌∷◌, length, get_or, set, sym, refl, ap, ◌∙◌, subst, true≢false, arith, get_or-set_other, eqb-true}
 use mathlib.Core.Bool.{false≢true}
 use lib.Seq.{sets, set-get_or}
 use Rattle.limits.specs.Limits.{count_bound}
-use Rattle.replies.specs.declared.Reflector.TheVariants.{Absent, Number}
 use Rattle.replies.specs.declared.Replies.{Replies}
 use Rattle.replies.specs.Served.{tally, answered_by, step_from, highest_by, highest_after, is_reordered, numbered_by, evicted_by, after_unique}
 use Rattle.host_numbers.specs.Numbers.{lower, is_set}
@@ -64,16 +64,16 @@ pub behind_as : (word n x step : ℕ) (there : Bool) → there ≡ is_set word �
 behind_as word n x step there et ex es =
     (λ i. et i && not (ltb ((es ∙ ap (λ (y : ℕ). step_from y n) ex) i) (2 ^ 31))) ∙ cases (is_set word)
   where
-    cases : (b : Bool) → (b && not (ltb (step_from (lower word) n) (2 ^ 31))) ≡ is_reordered (cond b (Number (lower word)) Absent) n
+    cases : (b : Bool) → (b && not (ltb (step_from (lower word) n) (2 ^ 31))) ≡ is_reordered (cond b (Some (lower word)) None) n
     cases true = refl
     cases false = refl
 
 -- behind the highest: it stays
-stays : (b : Bool) (x n : ℕ) → is_reordered (cond b (Number x) Absent) n ≡ true → highest_after (cond b (Number x) Absent) n ≡ Number x
+stays : (b : Bool) (x n : ℕ) → is_reordered (cond b (Some x) None) n ≡ true → highest_after (cond b (Some x) None) n ≡ Some x
 stays false x n e = absurd (false≢true e)
 stays true x n e = by (eqb (step_from x n) 0) (not (ltb (step_from x n) (2 ^ 31))) e
   where
-    by : (zero back : Bool) → back ≡ true → highest_by zero back x n ≡ Number x
+    by : (zero back : Bool) → back ≡ true → highest_by zero back x n ≡ Some x
     by true back h = refl
     by false true h = refl
     by false false h = absurd (false≢true h)
@@ -83,12 +83,12 @@ unfolding step_from
 no_step x n hx hn h = omega (arith, hx, hn, h)
 
 -- not behind it: the number is the highest, which it may have been
-rises : (b : Bool) (x n : ℕ) → x < 2 ^ 32 → n < 2 ^ 32 → is_reordered (cond b (Number x) Absent) n ≡ false → highest_after (cond b (Number x) Absent) n ≡ Number n
+rises : (b : Bool) (x n : ℕ) → x < 2 ^ 32 → n < 2 ^ 32 → is_reordered (cond b (Some x) None) n ≡ false → highest_after (cond b (Some x) None) n ≡ Some n
 rises false x n hx hn e = refl
 rises true x n hx hn e = by (eqb (step_from x n) 0) (not (ltb (step_from x n) (2 ^ 31))) refl e
   where
-    by : (zero back : Bool) → eqb (step_from x n) 0 ≡ zero → back ≡ false → highest_by zero back x n ≡ Number n
-    by true back z h = ap (λ (m : ℕ). Number m) (no_step x n hx hn (eqb-true _ _ z))
+    by : (zero back : Bool) → eqb (step_from x n) 0 ≡ zero → back ≡ false → highest_by zero back x n ≡ Some n
+    by true back z h = ap (λ (m : ℕ). Some m) (no_step x n hx hn (eqb-true _ _ z))
     by false false z h = refl
     by false true z h = absurd (true≢false h)
 

@@ -1,8 +1,7 @@
 -- The counts of replies in their words, group by group, as crate host_ledger has them: 11 to 14 totals, 15 to 18 answers, 19 to 22 numbers,
 -- 23, 24 and 72 evictions. Assumes nothing.
-use Rattle.std.specs.Prelude.{ℕ, Bool, List, [], ◌∷◌, slice_index, slice_set}
+use Rattle.std.specs.Prelude.{ℕ, Bool, List, [], ◌∷◌, slice_index, slice_set, Some}
 use Rattle.std.proofs.lemmas.List.Edits.{sets}
-use Rattle.replies.specs.declared.Reflector.TheVariants.{Number}
 use Rattle.replies.specs.declared.Answers.{Answers}
 use Rattle.replies.specs.declared.Numbers.{Numbers}
 use Rattle.replies.specs.declared.Evicted.{Evicted}
@@ -22,7 +21,7 @@ answers_words a = a.answered ∷ a.additional ∷ a.late ∷ a.satisfied ∷ []
 -- after a reply with this reflector number: the last number, the highest, how many were reordered
 abbrev pub order_words : List ℕ → ℕ → List ℕ
 order_words w n =
-    reflector_word (Number n) ∷ reflector_word (highest_after (reflector_of (slice_index w place.highest)) n)
+    reflector_word (Some n) ∷ reflector_word (highest_after (reflector_of (slice_index w place.highest)) n)
     ∷ tally (is_reordered (reflector_of (slice_index w place.highest)) n) (slice_index w place.reordered) ∷ []
 
 -- last, highest, reordered, independent

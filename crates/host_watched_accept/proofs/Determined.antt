@@ -1,5 +1,6 @@
 -- Of `accept` with a monitor for a host: the contract determines the number and every lent word; a refusal changes no lent word.
 -- Assumes nothing.
+use Rattle.std.specs.Prelude.{Err}
 use mathlib.Core.Path.{◌≡◌, sym, ap, ◌∙◌}
 use mathlib.Core.List.{List}
 use Prim.Native.Nat.{ℕ}
@@ -12,7 +13,6 @@ use contract.Monad.{Fun}
 use Rattle.determined.specs.Determines.{Determines}
 use Rattle.determined.proofs.Facts.{both_say}
 use Rattle.probe_queue.specs.declared.QueuedProbe.{QueuedProbe}
-use Rattle.ledger_watched.specs.declared.WatchedAccept.TheVariants.{Refused}
 use Rattle.ledger_watched.specs.Watched.{accept_to}
 use Rattle.ledger_watched.proofs.Determined as watched
 use Rattle.host_calls.specs.Calls.{reply_of}
@@ -42,7 +42,7 @@ watched-accept-unique {𝓤 = 𝓤} 𝓛 mem run κs a g r₁ r₂ s₁ s₂ =
 
 pub watched-accept-refused :
     (ledger monitor : List ℕ) (keys slots probes links : List (List ℕ)) (queue : List QueuedProbe) (sender reflector t3 pending time tag : ℕ) (answer : List ℕ) (n : ℕ)
-    → (accept_to (ledger_at ledger) (monitor_at monitor) keys slots probes links queue (reply_of sender reflector t3 pending time tag)).answer ≡ Refused n
+    → (accept_to (ledger_at ledger) (monitor_at monitor) keys slots probes links queue (reply_of sender reflector t3 pending time tag)).answer ≡ Err n
     → watched_accept_to ledger monitor keys slots probes links queue sender reflector t3 pending time tag answer ≡ left n ledger monitor keys slots probes links queue answer
 unfolding watched_accept_to
 watched-accept-refused ledger monitor keys slots probes links queue sender reflector t3 pending time tag answer n h =

@@ -1,4 +1,7 @@
 -- From one entry to all entries of a list: what the calls in a row leave is what the definition says. Assumes nothing.
+use Rattle.limits.specs.Numbers.{number}
+use Rattle.std.specs.Prelude.{Result}
+use Rattle.ledger_steps.specs.declared.Accepted.{Accepted}
 use mathlib.Core.Path.{◌≡◌, refl, sym, ap, ◌∙◌}
 use mathlib.Core.Bool.{cond}
 use mathlib.Core.List.{List, [], ◌∷◌}
@@ -10,7 +13,6 @@ use Rattle.call_types.specs.declared.Reply.{Reply}
 use Rattle.probe_queue.specs.declared.QueuedProbe.{QueuedProbe}
 use Rattle.monitor.specs.declared.Monitor.{Monitor}
 use Rattle.ledger_state.specs.declared.Ledger.{Ledger}
-use Rattle.ledger_watched.specs.declared.WatchedAccept.{WatchedAccept}
 use Rattle.monitor.specs.Refusals as monitor
 use Rattle.ledger_steps.specs.Refusals.{refusal_of_accept}
 use Rattle.ledger_steps.specs.Accept.{AcceptOutcome, accept_on}
@@ -32,7 +34,7 @@ use Rattle.host_watched_accept_burst.specs.Burst.{Lent, lent, accept_entry, watc
 -- ---- one entry
 
 -- the answer of the call with this refusal, with a monitor that then stands
-abbrev given_by : ℕ → AcceptOutcome → Monitor → (keys slots probes links : List (List ℕ)) → WatchedAccept
+abbrev given_by : ℕ → AcceptOutcome → Monitor → (keys slots probes links : List (List ℕ)) → Result (Ledger × Monitor × Accepted) ℕ
 given_by k o m keys slots probes links = both_accept (accept_by k o keys slots probes links).answer m
 
 -- its row, whatever words its answer began with: k is the call's refusal, o what it leaves where it is served
@@ -51,8 +53,8 @@ entry_ends :
     (ledger monitor : List ℕ) (keys slots probes links : List (List ℕ)) (queue : List QueuedProbe) (entries : List (List ℕ)) (i : ℕ) (answers : List (List ℕ))
     (reply : Reply) (given : ReplyAnswer) (ledger' monitor' : List ℕ) (keys' slots' probes' links' : List (List ℕ)) (queue' : List QueuedProbe) (answers' : List (List ℕ))
     → reply ≡ reply_at (get_or entries i [])
-    → calls.left given.number ledger' monitor' keys' slots' probes' links' queue' given.words ≡ ended ledger monitor zeros (accept_to (ledger_at ledger) (monitor_at monitor) keys slots probes links queue reply)
-    → answers' ≡ set answers i (row_after (get_or answers i []) given.number given.words)
+    → calls.left (number given.refused) ledger' monitor' keys' slots' probes' links' queue' given.words ≡ ended ledger monitor zeros (accept_to (ledger_at ledger) (monitor_at monitor) keys slots probes links queue reply)
+    → answers' ≡ set answers i (row_after (get_or answers i []) (number given.refused) given.words)
     → left (lent ledger' monitor' keys' slots' probes' links' queue') answers' ≡ one_more accept_entry entries (left (lent ledger monitor keys slots probes links queue) answers) i
 unfolding watched_accept_to
 entry_ends ledger monitor keys slots probes links queue entries i answers reply given ledger' monitor' keys' slots' probes' links' queue' answers' er eg ea =
@@ -81,8 +83,8 @@ module _ (ledger₀ monitor₀ : List ℕ) (keys₀ slots₀ probes₀ links₀ 
       (reply : Reply) (given : ReplyAnswer) (ledger' monitor' : List ℕ) (keys' slots' probes' links' : List (List ℕ)) (queue' : List QueuedProbe) (answers' : List (List ℕ))
       → Serves i ledger monitor keys slots probes links queue answers → i < count
       → reply ≡ reply_at (get_or entries i [])
-      → calls.left given.number ledger' monitor' keys' slots' probes' links' queue' given.words ≡ ended ledger monitor zeros (accept_to (ledger_at ledger) (monitor_at monitor) keys slots probes links queue reply)
-      → answers' ≡ set answers i (row_after (get_or answers i []) given.number given.words)
+      → calls.left (number given.refused) ledger' monitor' keys' slots' probes' links' queue' given.words ≡ ended ledger monitor zeros (accept_to (ledger_at ledger) (monitor_at monitor) keys slots probes links queue reply)
+      → answers' ≡ set answers i (row_after (get_or answers i []) (number given.refused) given.words)
       → Serves (i + 1) ledger' monitor' keys' slots' probes' links' queue' answers'
   serves_on i ledger monitor keys slots probes links queue answers reply given ledger' monitor' keys' slots' probes' links' queue' answers' h less er eg ea =
       up_more accept_entry entries begun (left (lent ledger monitor keys slots probes links queue) answers) (left (lent ledger' monitor' keys' slots' probes' links' queue') answers') i h

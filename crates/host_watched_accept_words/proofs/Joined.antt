@@ -1,10 +1,11 @@
 -- What the parts of the call leave is what the whole call leaves. Assumes nothing.
+use Rattle.limits.specs.Numbers.{number}
+use Rattle.std.specs.Prelude.{Some, None}
 use mathlib.Core.Path.{◌≡◌, refl, ap, ◌∙◌}
 use mathlib.Core.Bool.{Bool}
 use mathlib.Core.List.{List}
 use Prim.Native.Nat.{ℕ, zero, suc}
 use lib.ListN.{length}
-use Rattle.call_types.specs.declared.Ordinal.TheVariants as ordinal
 use Rattle.call_types.specs.declared.Reply.{Reply}
 use Rattle.probe_queue.specs.declared.QueuedProbe.{QueuedProbe}
 use Rattle.monitor.specs.declared.Monitor.{Monitor}
@@ -29,8 +30,8 @@ use Rattle.host_watched_accept_words.specs.Calls.{Left, left, answer_after, ende
 pub heard_is : (a : Accepted) → heard_in (accepted_words a) ≡ is_unique a
 heard_is accepted.Duplicate = refl
 heard_is accepted.Unknown = refl
-heard_is (accepted.Unique packet ordinal.Absent train) = refl
-heard_is (accepted.Unique packet (ordinal.Number n) train) = refl
+heard_is (accepted.Unique packet None train) = refl
+heard_is (accepted.Unique packet (Some n) train) = refl
 
 module _ (w monitor : List ℕ) (keys slots probes links : List (List ℕ)) (queue : List QueuedProbe) (a : Reply) where
   -- what the ledger's part left, with the monitor and its queue as they then stand
@@ -58,15 +59,15 @@ module _ (w monitor : List ℕ) (keys slots probes links : List (List ℕ)) (que
   pub accept-joined :
       (other : ℕ) (given : ReplyAnswer) (w' : List ℕ) (keys' slots' probes' links' : List (List ℕ)) (go : Bool) (sender : ℕ) (watch next : Monitor) (queue' : List QueuedProbe) (r : ReplyAnswer) (monitor' : List ℕ)
       → other ≡ refusal_of (monitor_at monitor) (length queue)
-      → accept_left given.number w' keys' slots' probes' links' given.words ≡ accept_from w zeros (ledger.accept_to other (ledger_at w) keys slots probes links a)
+      → accept_left (number given.refused) w' keys' slots' probes' links' given.words ≡ accept_from w zeros (ledger.accept_to other (ledger_at w) keys slots probes links a)
       → go ≡ heard_in given.words → sender ≡ a.key.sender → watch ≡ monitor_at monitor
       → Leaves (reply_if go watch queue sender) next queue'
-      → (r ≡ given) × (monitor' ≡ stored_unless given.number monitor next)
-      → left r.number w' monitor' keys' slots' probes' links' queue' r.words ≡ ended w monitor zeros (accept_to (ledger_at w) (monitor_at monitor) keys slots probes links queue a)
+      → (r ≡ given) × (monitor' ≡ stored_unless (number given.refused) monitor next)
+      → left (number r.refused) w' monitor' keys' slots' probes' links' queue' r.words ≡ ended w monitor zeros (accept_to (ledger_at w) (monitor_at monitor) keys slots probes links queue a)
   accept-joined other given w' keys' slots' probes' links' go sender watch next queue' r monitor' eo ea eg es em en er =
-      let x = accept_left given.number w' keys' slots' probes' links' given.words in
-      (λ i. left (er.0 i).number w' (er.1 i) keys' slots' probes' links' (en.1 i) (er.0 i).words)
-      ∙ (λ i. left given.number w' (stored_unless given.number monitor (en.0 i)) keys' slots' probes' links' (reply_if go watch queue sender).room given.words)
+      let x = accept_left (number given.refused) w' keys' slots' probes' links' given.words in
+      (λ i. left (number (er.0 i).refused) w' (er.1 i) keys' slots' probes' links' (en.1 i) (er.0 i).words)
+      ∙ (λ i. left (number given.refused) w' (stored_unless (number given.refused) monitor (en.0 i)) keys' slots' probes' links' (reply_if go watch queue sender).room given.words)
       ∙ (λ i. stood_by x (reply_if (eg i) (em i) queue (es i)))
       ∙ ap heard_by (ea ∙ (λ i. accept_from w zeros (ledger.accept_to (eo i) (ledger_at w) keys slots probes links a)))
       ∙ whole

@@ -1,9 +1,10 @@
 -- What an answer of `accept` with a monitor leaves of what a host lends, and what is told of a reply. A refusal changes no lent word.
 -- Assumes nothing.
-use Rattle.std.specs.Prelude.{Bool, List, [], ◌∷◌, ℕ, zero, suc, eqb, get_or}
+use Rattle.ledger_state.specs.declared.Ledger.{Ledger}
+use Rattle.ledger_steps.specs.declared.Accepted.{Accepted}
+use Rattle.monitor.specs.declared.Monitor.{Monitor}
+use Rattle.std.specs.Prelude.{Bool, List, [], ◌∷◌, ℕ, zero, suc, eqb, get_or, Result, Ok, Err}
 use Rattle.probe_queue.specs.declared.QueuedProbe.{QueuedProbe}
-use Rattle.ledger_watched.specs.declared.WatchedAccept.{WatchedAccept}
-use Rattle.ledger_watched.specs.declared.WatchedAccept.TheVariants.{Served, Refused}
 use Rattle.ledger_watched.specs.Watched.{AcceptResult, accept_number}
 use Rattle.host_calls.specs.Calls.{accepted_words}
 use Rattle.host_accept_words.specs.Served.{served_words}
@@ -27,19 +28,19 @@ left n ledger monitor keys slots probes links queue answer =
     record { number = n; ledger = ledger; monitor = monitor; keys = keys; slots = slots; probes = probes; links = links; queue = queue; answer = answer }
 
 -- the words of each part: of the next one, or as they were where the call was refused
-abbrev pub ledger_after : List ℕ → WatchedAccept → List ℕ
-ledger_after words (Served l m a) = served_words words l a
-ledger_after words (Refused n) = words
+abbrev pub ledger_after : List ℕ → Result (Ledger × Monitor × Accepted) ℕ → List ℕ
+ledger_after words (Ok (l, m, a)) = served_words words l a
+ledger_after words (Err n) = words
 
 -- the words of the monitor as it then stands, or as they were where the call was refused
-abbrev pub monitor_after : List ℕ → WatchedAccept → List ℕ
-monitor_after words (Served l m a) = words_of m
-monitor_after words (Refused n) = words
+abbrev pub monitor_after : List ℕ → Result (Ledger × Monitor × Accepted) ℕ → List ℕ
+monitor_after words (Ok (l, m, a)) = words_of m
+monitor_after words (Err n) = words
 
 -- the class, with packet and ordinal where it is unique; as they were where the call was refused
-abbrev pub answer_after : List ℕ → WatchedAccept → List ℕ
-answer_after words (Served l m a) = accepted_words a
-answer_after words (Refused n) = words
+abbrev pub answer_after : List ℕ → Result (Ledger × Monitor × Accepted) ℕ → List ℕ
+answer_after words (Ok (l, m, a)) = accepted_words a
+answer_after words (Err n) = words
 
 -- by the library's answer, of the words of ledger, monitor and answer before the call
 abbrev pub ended : List ℕ → List ℕ → List ℕ → AcceptResult → Left

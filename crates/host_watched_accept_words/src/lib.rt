@@ -4,6 +4,7 @@
 // back. What both do is `accept_to` of crate ledger_watched, which has the definitions of the calls with a monitor.
 // What is lent the queue is a straight line of calls, so that the walk of it is short; what depends on a test is in the functions before it.
 ghost use Rattle.std.specs.Prelude.{◌≡◌};
+ghost use Rattle.limits.specs.Numbers.{number};
 ghost use Rattle.monitor.specs.Refusals.{refusal_of};
 ghost use Rattle.ledger_steps.specs.Calls as calls;
 ghost use Rattle.ledger_watched.specs.Watched.{accept_to};
@@ -18,28 +19,27 @@ use host_accept_words::served;
 use host_ledger::LEDGER_WORDS;
 use host_watched_parts::{first_of, store_unless};
 use ledger_watched::sender_of;
-use limits::CAPACITY;
+use limits::{CAPACITY, Refusal};
 use monitor::Monitor;
 use probe_queue::QueuedProbe;
 
-// What is told of a reply: the call's number, and the words of its answer, zeros where it was refused.
+// What is told of a reply: why it was refused, and the words of its answer, zeros where it was.
 #[derive(Clone, Copy)]
 pub struct ReplyAnswer {
-    pub number: u8,
+    pub refused: Option<Refusal>,
     pub words: [u64; 6],
 }
 
-// Why the monitor refuses, or 0.
-fn refusal_of_monitor(monitor: &[u64; 12], room: usize) -> u8
-    ensures { result ≡ refusal_of (monitor_at monitor.now) room }
+// Why the monitor refuses.
+fn refusal_of_monitor(monitor: &[u64; 12], room: usize) -> Option<Refusal>
+    ensures { number result ≡ refusal_of (monitor_at monitor.now) room }
 {
-    let watch = host_monitor_words::load(monitor);
-    watch.refusal(room)
+    host_monitor_words::load(monitor).refusal(room)
 }
 
-// The ledger's part, refused also where `other` is a refusal: that of the monitor, 0 where there is none.
+// The ledger's part, refused also where `other` is a refusal: that of the monitor.
 pub fn accept_unless(
-    other: u8,
+    other: Option<Refusal>,
     ledger: &mut [u64; LEDGER_WORDS],
     keys: &mut [[u64; 2]],
     slots: &mut [[u64; 3]],
@@ -48,34 +48,32 @@ pub fn accept_unless(
     reply: Reply,
 ) -> ReplyAnswer
     ensures { let words = ledger.old in
-        let left = accept_left result.number ledger.new keys.new slots.new probes.new links.new result.words in
-        left ≡ accept_from words zeros (calls.accept_to other (ledger_at words) keys.old slots.old probes.old links.old reply) }
+        let left = accept_left (number result.refused) ledger.new keys.new slots.new probes.new links.new result.words in
+        left ≡ accept_from words zeros (calls.accept_to (number other) (ledger_at words) keys.old slots.old probes.old links.old reply) }
 {
     let sized = (keys.len() == CAPACITY)
         & (slots.len() == CAPACITY)
         & (probes.len() == CAPACITY)
         & (links.len() == CAPACITY);
-    let own = host_ledger_checks::refusal(ledger, sized);
-    let number = first_of(own, other);
-    let mut words = [0, 0, 0, 0, 0, 0];
-    if number == 0 {
+    let refused = first_of(host_ledger_checks::refusal(ledger, sized), other);
+    let mut words = [0; 6];
+    if refused.is_none() {
         served(ledger, keys, slots, probes, links, reply, &mut words);
     }
-    ReplyAnswer { number, words }
+    ReplyAnswer { refused, words }
 }
 
 // Whether the reply was unique: of one that was refused all words are 0.
 pub fn was_unique(given: ReplyAnswer) -> bool
     ensures { result ≡ heard_in given.words }
 {
-    let words = given.words;
-    words[0] == 2
+    given.words[0] == 2
 }
 
 fn finish(monitor: &mut [u64; 12], given: ReplyAnswer, next: Monitor) -> ReplyAnswer
-    ensures { (result ≡ given) × (monitor.new ≡ stored_unless given.number monitor.old next) }
+    ensures { (result ≡ given) × (monitor.new ≡ stored_unless (number given.refused) monitor.old next) }
 {
-    store_unless(given.number, monitor, next);
+    store_unless(given.refused, monitor, next);
     given
 }
 
@@ -93,7 +91,7 @@ pub fn accept(
 ) -> ReplyAnswer
     ensures { let words = ledger.old in
         let watch = monitor.old in
-        let after = left result.number ledger.new monitor.new keys.new slots.new probes.new links.new queue.new result.words in
+        let after = left (number result.refused) ledger.new monitor.new keys.new slots.new probes.new links.new queue.new result.words in
         after ≡ ended words watch zeros (accept_to (ledger_at words) (monitor_at watch) keys.old slots.old probes.old links.old queue.old reply) }
 {
     let room = queue.len();

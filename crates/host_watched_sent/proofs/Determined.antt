@@ -1,5 +1,6 @@
 -- Of `sent` with a monitor for a host: the contract determines the number and every lent word; a refusal changes no lent word.
 -- Assumes nothing.
+use Rattle.std.specs.Prelude.{Err}
 use mathlib.Core.Path.{◌≡◌, sym, ap, ◌∙◌}
 use mathlib.Core.List.{List}
 use Prim.Native.Nat.{ℕ}
@@ -12,7 +13,6 @@ use contract.Monad.{Fun}
 use Rattle.determined.specs.Determines.{Determines}
 use Rattle.determined.proofs.Facts.{both_say}
 use Rattle.probe_queue.specs.declared.QueuedProbe.{QueuedProbe}
-use Rattle.ledger_watched.specs.declared.WatchedAnswer.TheVariants.{Refused}
 use Rattle.ledger_watched.specs.Watched.{sent_to}
 use Rattle.ledger_watched.proofs.Determined as watched
 use Rattle.host_calls.specs.Calls.{sent_probe_of}
@@ -31,7 +31,7 @@ watched-sent-unique {𝓤 = 𝓤} 𝓛 mem run κs a g r₁ r₂ s₁ s₂ =
 
 pub watched-sent-refused :
     (ledger monitor : List ℕ) (probes links : List (List ℕ)) (queue : List QueuedProbe) (sequence ordinal train time tag n : ℕ)
-    → (sent_to (ledger_at ledger) (monitor_at monitor) probes links queue (sent_probe_of sequence ordinal train time tag)).answer ≡ Refused n
+    → (sent_to (ledger_at ledger) (monitor_at monitor) probes links queue (sent_probe_of sequence ordinal train time tag)).answer ≡ Err n
     → watched_sent_to ledger monitor probes links queue sequence ordinal train time tag ≡ left n ledger monitor probes links queue
 unfolding watched_sent_to
 watched-sent-refused ledger monitor probes links queue sequence ordinal train time tag n h =

@@ -1,10 +1,10 @@
 -- What `sent` with a monitor answers and leaves for a host, on every input: `sent_to` of crate ledger_watched, of the ledger and the monitor that the
 -- words say. A refusal changes no lent word.
 -- Assumes nothing.
-use Rattle.std.specs.Prelude.{List, ℕ}
+use Rattle.ledger_state.specs.declared.Ledger.{Ledger}
+use Rattle.monitor.specs.declared.Monitor.{Monitor}
+use Rattle.std.specs.Prelude.{List, ℕ, Result, Ok, Err}
 use Rattle.probe_queue.specs.declared.QueuedProbe.{QueuedProbe}
-use Rattle.ledger_watched.specs.declared.WatchedAnswer.{WatchedAnswer}
-use Rattle.ledger_watched.specs.declared.WatchedAnswer.TheVariants.{Served, Refused}
 use Rattle.ledger_watched.specs.Watched.{SentResult, number, sent_to}
 use Rattle.host_calls.specs.Calls.{sent_probe_of}
 use Rattle.host_ledger.specs.Words.{ledger_at}
@@ -25,14 +25,14 @@ abbrev pub left : ℕ → List ℕ → List ℕ → List (List ℕ) → List (Li
 left n ledger monitor probes links queue = record { number = n; ledger = ledger; monitor = monitor; probes = probes; links = links; queue = queue }
 
 -- the ledger's words: of the next ledger, or as they were where the call was refused
-abbrev pub ledger_after : List ℕ → WatchedAnswer → List ℕ
-ledger_after words (Served l m) = sent_words words l
-ledger_after words (Refused n) = words
+abbrev pub ledger_after : List ℕ → Result (Ledger × Monitor) ℕ → List ℕ
+ledger_after words (Ok (l, m)) = sent_words words l
+ledger_after words (Err n) = words
 
 -- the monitor's words, likewise
-abbrev pub monitor_after : List ℕ → WatchedAnswer → List ℕ
-monitor_after words (Served l m) = words_of m
-monitor_after words (Refused n) = words
+abbrev pub monitor_after : List ℕ → Result (Ledger × Monitor) ℕ → List ℕ
+monitor_after words (Ok (l, m)) = words_of m
+monitor_after words (Err n) = words
 
 -- what an answer leaves: its number, the words of both parts, and the rooms of its result
 abbrev pub ended : List ℕ → List ℕ → SentResult → Left

@@ -2,7 +2,8 @@
 // ledger stays in its words (crate host_sent_words); the monitor is a small part, and is taken out, stepped by value and put back. What both
 // do is `sent_to` of crate ledger_watched, which has the definitions of the calls with a monitor.
 // What is lent the queue is a straight line of calls, so that the walk of it is short; what depends on a test is in the functions before it.
-ghost use Rattle.std.specs.Prelude.{◌≡◌, eqb};
+ghost use Rattle.std.specs.Prelude.{◌≡◌};
+ghost use Rattle.limits.specs.Numbers.{number};
 ghost use Rattle.monitor.specs.Refusals.{refusal_of_sent};
 ghost use Rattle.host_monitor_words.specs.Words.{monitor_at};
 ghost use Rattle.host_watched_parts.specs.Unless.{stored_unless};
@@ -12,28 +13,22 @@ use host_calls::probe_of;
 use host_ledger::LEDGER_WORDS;
 use host_sent_words::sent_unless;
 use host_watched_parts::store_unless;
+use limits::Refusal;
 use monitor::Monitor;
 use probe_queue::QueuedProbe;
 
-// Why the monitor refuses, or 0.
-fn refusal_of_monitor(monitor: &[u64; 12], room: usize, time: u64) -> u8
-    ensures { result ≡ refusal_of_sent (monitor_at monitor.now) room time }
+// Why the monitor refuses.
+fn refusal_of_monitor(monitor: &[u64; 12], room: usize, time: u64) -> Option<Refusal>
+    ensures { number result ≡ refusal_of_sent (monitor_at monitor.now) room time }
 {
-    let watch = host_monitor_words::load(monitor);
-    watch.refusal_of_sent(room, time)
+    host_monitor_words::load(monitor).refusal_of_sent(room, time)
 }
 
-fn is_served(number: u8) -> bool
-    ensures { result ≡ eqb number 0 }
+fn finish(monitor: &mut [u64; 12], refused: Option<Refusal>, next: Monitor) -> u8
+    ensures { (result ≡ number refused) × (monitor.new ≡ stored_unless (number refused) monitor.old next) }
 {
-    number == 0
-}
-
-fn finish(monitor: &mut [u64; 12], number: u8, next: Monitor) -> u8
-    ensures { (result ≡ number) × (monitor.new ≡ stored_unless number monitor.old next) }
-{
-    store_unless(number, monitor, next);
-    number
+    store_unless(refused, monitor, next);
+    limits::number(refused)
 }
 
 // A probe was sent, on a link that a monitor watches. The monitor is taken out once for its refusal and once for its step: in between it would stay
@@ -56,9 +51,8 @@ pub extern "C" fn ambrulicciu_watched_sent(
     let room = queue.len();
     let probe = probe_of(sequence, ordinal, train, time, tag);
     let other = refusal_of_monitor(monitor, room, time);
-    let number = sent_unless(other, ledger, probes, links, probe);
-    let go = is_served(number);
+    let refused = sent_unless(other, ledger, probes, links, probe);
     let watch = host_monitor_words::load(monitor);
-    let next = watch.sent_if(go, queue, sequence, time);
-    finish(monitor, number, next)
+    let next = watch.sent_if(refused.is_none(), queue, sequence, time);
+    finish(monitor, refused, next)
 }

@@ -1,13 +1,13 @@
 -- What an accepted key and an observation do to the keys, to the rows and to the slot of each reflector number. Any capacity N, any hashes below it.
 -- Assumes nothing.
+use Rattle.std.specs.Prelude.{None, Some, slice_get}
 use mathlib.Core.Path.{◌≡◌, refl, sym, ap, ap₂, ◌∙◌}
 use mathlib.Core.Bool.{true, false, ◌&&◌, cond}
 use mathlib.Core.List.{List, [], ◌∷◌, ◌++◌}
-use mathlib.Core.Option.{none, some}
 use Prim.Native.Nat.{ℕ, zero, suc, ◌+◌, ◌-◌, ◌≤◌, ◌<◌}
 use native.Mathlib.Omega.{arith}
 use lib.Dec.{eqb, ltb}
-use lib.ListN.{length, take, get_or, set, get_elem?}
+use lib.ListN.{length, take, get_or, set}
 use lib.Seq.{get_or-set_same, get_or-set_other, take_all}
 use Rattle.call_types.specs.declared.ReplyKey.{ReplyKey}
 use Rattle.chains.specs.declared.Ring.{Ring}
@@ -185,21 +185,21 @@ module _ (N : ℕ) (by_key : ReplyKey → ℕ) (by_number : ℕ → ℕ) (t : Ta
   -- ---- the oldest key
 
   -- the key that one more unique reply evicts: the oldest of the last N, where there are N
-  pub oldest_is : cond (ltb t.ring.len N) none (some (key_at t.keys t.ring.head)) ≡ get_elem? (keys_of N t) (N - 1)
+  pub oldest_is : cond (ltb t.ring.len N) None (Some (key_at t.keys t.ring.head)) ≡ slice_get (keys_of N t) (N - 1)
   unfolding keys_of
   oldest_is = go (lt_test t.ring.len N)
     where
-      past : {A : Type 0} (xs : List A) (i : ℕ) → length xs ≤ i → get_elem? xs i ≡ none
+      past : {A : Type 0} (xs : List A) (i : ℕ) → length xs ≤ i → slice_get xs i ≡ None
       past [] i h = refl
       past (x ∷ xs) zero h = absurd (omega arith)
       past (x ∷ xs) (suc i) h = past xs i (omega arith)
 
-      last : {A : Type 0} (xs : List A) (x : A) → get_elem? (xs ++ (x ∷ [])) (length xs) ≡ some x
+      last : {A : Type 0} (xs : List A) (x : A) → slice_get (xs ++ (x ∷ [])) (length xs) ≡ Some x
       last [] x = refl
       last (y ∷ xs) x = last xs x
 
       go : Test (t.ring.len < N) (ltb t.ring.len N)
-          → cond (ltb t.ring.len N) none (some (key_at t.keys t.ring.head)) ≡ get_elem? (contents N (key_at t.keys) t.ring.head t.ring.len) (N - 1)
+          → cond (ltb t.ring.len N) None (Some (key_at t.keys t.ring.head)) ≡ slice_get (contents N (key_at t.keys) t.ring.head t.ring.len) (N - 1)
       go (holds l b) = rw b (sym (past (contents N (key_at t.keys) t.ring.head t.ring.len) (N - 1) (omega (arith, length-contents N (key_at t.keys) t.ring.head t.ring.len))))
       go (fails l b) =
           let all : t.ring.len ≡ suc (N - 1) = omega (arith, s.ring_fits.head_in, s.ring_fits.len_in) in
@@ -207,5 +207,5 @@ module _ (N : ℕ) (by_key : ReplyKey → ℕ) (by_number : ℕ → ℕ) (t : Ta
           let shape : contents N (key_at t.keys) t.ring.head t.ring.len ≡ contents N (key_at t.keys) (wrap N (suc t.ring.head)) (N - 1) ++ (key_at t.keys t.ring.head ∷ []) =
           ap (λ (n : ℕ). contents N (key_at t.keys) t.ring.head n) all ∙ contents-oldest N (key_at t.keys) t.ring.head (N - 1) s.ring_fits.head_in (omega (arith, s.ring_fits.head_in)) in
           rw (b, shape)
-          (sym (ap (λ (n : ℕ). get_elem? (contents N (key_at t.keys) (wrap N (suc t.ring.head)) (N - 1) ++ (key_at t.keys t.ring.head ∷ [])) n) size
+          (sym (ap (λ (n : ℕ). slice_get (contents N (key_at t.keys) (wrap N (suc t.ring.head)) (N - 1) ++ (key_at t.keys t.ring.head ∷ [])) n) size
           ∙ last (contents N (key_at t.keys) (wrap N (suc t.ring.head)) (N - 1)) (key_at t.keys t.ring.head)))

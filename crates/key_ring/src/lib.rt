@@ -38,7 +38,7 @@ fn key_is(keys: &[[u64; 2]], slot: usize, key: ReplyKey) -> bool
     ensures { result ≡ same_key key (key_at keys.now slot) }
 {
     let both = numbers(key);
-    (both == keys[slot][0]) & (key.t3 == keys[slot][1])
+    both == keys[slot][0] && key.t3 == keys[slot][1]
 }
 
 // The slot of a key, 4,096 where it is not among the last accepted.
@@ -52,6 +52,7 @@ pub fn find(
     requires { (length keys.now ≡ capacity) × (length links.now ≡ capacity) × RingFits capacity ring }
     ensures { result ≡ findKey secret keys.now links.now ring key }
 {
+    // No index is counted: a chain is walked, by links.
     let head = ring.head;
     let mut below = ring.len;
     let mut slot = chains::first(links, 0, hash(secret, key));
@@ -72,7 +73,7 @@ fn is_holder(keys: &[[u64; 2]], slots: &[[u64; 3]], slot: usize, number: u32) ->
     requires { (slot < length keys.now) × (slot < length slots.now) }
     ensures { result ≡ holds? number (row_at keys.now slots.now slot) }
 {
-    (slots[slot][0] / 65536 % 2 == 1) & (wide(number) == keys[slot][0] % 4294967296)
+    slots[slot][0] / 65536 % 2 == 1 && wide(number) == keys[slot][0] % 4294967296
 }
 
 // The slot of the newest observed key with a reflector number, 4,096 where there is none.
@@ -87,6 +88,7 @@ pub fn holder(
     requires { (length keys.now ≡ capacity) × (length slots.now ≡ capacity) × (length links.now ≡ capacity) × RingFits capacity ring }
     ensures { result ≡ holder_of secret keys.now slots.now links.now ring number }
 {
+    // No index is counted: a chain is walked, by links.
     let head = ring.head;
     let mut below = ring.len;
     let mut slot = chains::first(links, 2, chains::number_hash(secret, number));
@@ -128,12 +130,10 @@ pub fn newest(ring: Ring) -> usize
     requires { RingFits capacity ring }
     ensures { (result ≡ newest_slot capacity ring) × (result < capacity) }
 {
-    let head = ring.head;
-    let len = ring.len;
-    if len == 0 {
-        return head;
+    if ring.len == 0 {
+        return ring.head;
     }
-    chains::wrapped(head + (len - 1))
+    chains::wrapped(ring.head + (ring.len - 1))
 }
 
 // Whether the newest key is this one: the only key that can await its observation.

@@ -1,5 +1,6 @@
 -- The steps of `accept`, from what its callees do; the probe and a unique reply over any N and any words of the hash.
 -- Assumes nothing.
+use Rattle.std.specs.Prelude.{Option, None, Ok, Err}
 use mathlib.Core.Path.{◌≡◌, refl, sym, ap, ◌∙◌}
 use mathlib.Core.Bool.{false}
 use mathlib.Core.List.{List, []}
@@ -9,8 +10,6 @@ use lib.Dec.{leb}
 use lib.ListN.{length, get_or, set}
 use Rattle.call_types.specs.declared.ReplyKey.{ReplyKey}
 use Rattle.call_types.specs.declared.PendingPacket.{PendingPacket}
-use Rattle.call_types.specs.declared.Pending.{Pending}
-use Rattle.call_types.specs.declared.Ordinal.TheVariants as ordinal
 use Rattle.call_types.specs.declared.Reply.{Reply}
 use Rattle.chains.specs.Hash.{number_hash}
 use Rattle.key_ring.specs.Table.{Table, table_of, accepted_key, hash_of}
@@ -22,7 +21,6 @@ use Rattle.replies.specs.Served.{after_unique}
 use Rattle.ledger_state.specs.declared.Ledger.{Ledger}
 use Rattle.ledger_state.specs.State.{hash_words}
 use Rattle.ledger_steps.specs.declared.Accepted.{Accepted}
-use Rattle.ledger_steps.specs.declared.AcceptAnswer.TheVariants as accepts
 use Rattle.ledger_steps.specs.Accept.{is_pending, no_packet, ledger_unique, probe_at, replied_rows, context_of, readied, unique_in, accept_on}
 use Rattle.ledger_steps.specs.Refusals.{refusal_of_accept}
 use Rattle.ledger_steps.specs.Calls.{accept_result, accept_by as call_by, accept_to}
@@ -35,17 +33,17 @@ module _ (N : ℕ) (by_key : ReplyKey → ℕ) (by_number : ℕ → ℕ) (r : Ro
   unfolding readied
   ready_held h = rw (lt-ltb slot N h)
 
-  new-ready : N ≤ slot → pushed N by_number r (unanswered a.key.sender (packet_after a.pending no_packet) ordinal.Absent 0) ≡ readied N by_key by_number r slot a.key a.pending
+  new-ready : N ≤ slot → pushed N by_number r (unanswered a.key.sender (packet_after a.pending no_packet) None 0) ≡ readied N by_key by_number r slot a.key a.pending
   unfolding readied
   new-ready h = rw (le-ltb slot N h)
 
   pub ready-new : (packet : PendingPacket) (probe : HeldProbe) (o : Outcome) → N ≤ slot → packet ≡ packet_after a.pending no_packet
-      → probe ≡ unanswered a.key.sender packet ordinal.Absent 0 → o ≡ pushed N by_number r probe → o ≡ readied N by_key by_number r slot a.key a.pending
+      → probe ≡ unanswered a.key.sender packet None 0 → o ≡ pushed N by_number r probe → o ≡ readied N by_key by_number r slot a.key a.pending
   ready-new packet probe o h e f g =
-      g ∙ ap (pushed N by_number r) (f ∙ ap (λ (x : PendingPacket). unanswered a.key.sender x ordinal.Absent 0) e) ∙ new-ready h
+      g ∙ ap (pushed N by_number r) (f ∙ ap (λ (x : PendingPacket). unanswered a.key.sender x None 0) e) ∙ new-ready h
 
 -- what one reply more leaves, and what it answers
-module _ (rows : List (List ℕ)) (slot : ℕ) (p : Pending) (probe after : HeldProbe) (e : probe ≡ held_probe_of (get_or rows slot [])) (f : after ≡ after_reply p probe) where
+module _ (rows : List (List ℕ)) (slot : ℕ) (p : Option PendingPacket) (probe after : HeldProbe) (e : probe ≡ held_probe_of (get_or rows slot [])) (f : after ≡ after_reply p probe) where
   pub replied-before : probe.replies ≡ (probe_at rows slot).replies
   replied-before = ap (λ (x : HeldProbe). x.replies) e
 
@@ -71,13 +69,13 @@ module _ (N : ℕ) (l : Ledger) (secret : List ℕ) (same : secret ≡ hash_word
       → counts ≡ after_unique before l.copies (is_pending a.pending) a.key.sender a.key.reflector o.answer.evicted o.answer.lost (leb N l.tables.keys.len) l.counts.replies
       → t ≡ accepted_key N (hash_of secret) (number_hash secret) (table_of keys slots o.links l.tables.keys) a.key
       → next ≡ ledger_unique l t.ring o.answer.ring counts
-      → accept_result (accepts.Served next context) t.keys t.slots rows t.links ≡ served_as (unique_in N by_key by_number l keys slots o a)
+      → accept_result (Ok (next, context)) t.keys t.slots rows t.links ≡ served_as (unique_in N by_key by_number l keys slots o a)
   unfolding unique_in
   unique_is o before context rows counts t next b c d e f g =
       let table = f ∙ ap (λ (s : List ℕ). accepted_key N (hash_of s) (number_hash s) (table_of keys slots o.links l.tables.keys) a.key) same in
       let sums = e ∙ ap (λ (n : ℕ). after_unique n l.copies (is_pending a.pending) a.key.sender a.key.reflector o.answer.evicted o.answer.lost (leb N l.tables.keys.len) l.counts.replies) b in
       let state = g ∙ (λ i. ledger_unique l (table i).ring o.answer.ring (sums i)) in
-      λ i. accept_result (accepts.Served (state i) (c i)) (table i).keys (table i).slots (d i) (table i).links
+      λ i. accept_result (Ok (state i, c i)) (table i).keys (table i).slots (d i) (table i).links
 
 -- ---- the call, refused or not
 
@@ -87,11 +85,11 @@ module _ (other : ℕ) (l : Ledger) (keys slots probes links : List (List ℕ)) 
   unfolding accept_to
   call_served z = ap (λ (m : ℕ). call_by m (accept_on l keys slots probes links a) keys slots probes links) (sym z ∙ e)
 
-  pub call_refused : (n ≡ 0 → ⊥) → accept_result (accepts.Refused n) keys slots probes links ≡ accept_to other l keys slots probes links a
+  pub call_refused : (n ≡ 0 → ⊥) → accept_result (Err n) keys slots probes links ≡ accept_to other l keys slots probes links a
   unfolding accept_to
   call_refused z =
       refused n z ∙ ap (λ (m : ℕ). call_by m (accept_on l keys slots probes links a) keys slots probes links) e
     where
-      refused : (m : ℕ) → (m ≡ 0 → ⊥) → accept_result (accepts.Refused m) keys slots probes links ≡ call_by m (accept_on l keys slots probes links a) keys slots probes links
+      refused : (m : ℕ) → (m ≡ 0 → ⊥) → accept_result (Err m) keys slots probes links ≡ call_by m (accept_on l keys slots probes links a) keys slots probes links
       refused zero w = absurd (w refl)
       refused (suc m) w = refl

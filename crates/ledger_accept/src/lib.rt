@@ -9,28 +9,28 @@ ghost use Rattle.probe_ring.specs.Row.{packet_after, after_reply};
 ghost use Rattle.probe_ring.specs.Rooms.{rooms, outcome};
 ghost use Rattle.ledger_steps.specs.Accept.{is_pending, no_packet, probe_at, replied_rows, context_of, readied};
 
-use call_types::{Ordinal, Pending, PendingPacket, Reply};
+use call_types::{PendingPacket, Reply};
 use chains::Ring;
 use ledger_steps::Accepted;
 use limits::CAPACITY;
 use probe_ring::{HeldProbe, Remembered};
 
-pub fn is_pending(pending: Pending) -> bool
+pub fn is_pending(pending: Option<PendingPacket>) -> bool
     ensures { result ≡ is_pending pending }
 {
     match pending {
-        Pending::Absent => false,
-        Pending::Held(_) => true,
+        None => false,
+        Some(_) => true,
     }
 }
 
 // The packet of a probe that is remembered for it.
-fn packet_of(pending: Pending) -> PendingPacket
+fn packet_of(pending: Option<PendingPacket>) -> PendingPacket
     ensures { result ≡ packet_after pending no_packet }
 {
     match pending {
-        Pending::Absent => PendingPacket { time: 0, tag: 0 },
-        Pending::Held(packet) => packet,
+        None => PendingPacket { time: 0, tag: 0 },
+        Some(packet) => packet,
     }
 }
 
@@ -56,7 +56,7 @@ pub fn ready_probe(
     }
     let pending = reply.pending;
     let packet = packet_of(pending);
-    let probe = HeldProbe::unanswered(reply.key.sender, packet, Ordinal::Absent, 0);
+    let probe = HeldProbe::unanswered(reply.key.sender, packet, None, 0);
     probe_ring::push(probes, links, ring, secret, probe)
 }
 
@@ -68,7 +68,7 @@ pub struct Replied {
 }
 
 // One reply more for the probe of a slot.
-pub fn reply_to(probes: &mut [[u64; 4]], slot: usize, pending: Pending) -> Replied
+pub fn reply_to(probes: &mut [[u64; 4]], slot: usize, pending: Option<PendingPacket>) -> Replied
     requires { (length probes.old ≡ capacity) × (slot < capacity) }
     ensures { (result.before ≡ (probe_at probes.old slot).replies) × (result.context ≡ context_of (after_reply pending (probe_at probes.old slot))) × (probes.new ≡ replied_rows probes.old slot pending) }
 {

@@ -1,50 +1,44 @@
-// Why a call of `Measurements` in src/sender/measurements.rs is refused, or 0. The original refuses nothing: document 01's table decides.
+// Why a call of `Measurements` in src/sender/measurements.rs is refused. The original refuses nothing: document 01's table decides.
 // The tests are made once, before a call changes anything; proofs/Sound.antt has what they show to the code that then runs.
+#![tactic(auto, unfolding(ledger_steps::specs::Refusals::earlier, ledger_steps::specs::Refusals::refusal_of_answered))]
+
 ghost use Rattle.std.specs.Prelude.{◌≡◌};
+ghost use Rattle.limits.specs.Numbers.{number};
 ghost use Rattle.ledger_steps.specs.Refusals.{line as line_of, earlier as earlierOf, refusal_of_answered};
 
 use ledger_state::{Ledger, first_refusal, rings_fit};
-use limits::CAPACITY;
+use limits::{CAPACITY, Refusal};
 
 // The line of a refusal in the table; no refusal comes after all of them.
-fn line(number: u8) -> u8
-    ensures { result ≡ line_of number }
+fn line(refused: Option<Refusal>) -> u8
+    ensures { result ≡ line_of (number refused) }
 {
-    if number == limits::WRONG_ROOM {
-        return 0;
+    match refused {
+        Some(Refusal::WrongRoom) => 0,
+        Some(Refusal::OutOfRange) => 1,
+        Some(Refusal::DeadlinePasses) => 2,
+        Some(Refusal::CountsFull) => 3,
+        Some(Refusal::NotAwaiting) => 4,
+        Some(Refusal::QueueFull) => 5,
+        _ => 6,
     }
-    if number == limits::OUT_OF_RANGE {
-        return 1;
-    }
-    if number == limits::DEADLINE_PASSES {
-        return 2;
-    }
-    if number == limits::COUNTS_FULL {
-        return 3;
-    }
-    if number == limits::NOT_AWAITING {
-        return 4;
-    }
-    if number == limits::QUEUE_FULL {
-        return 5;
-    }
-    6
 }
 
 // Of two refusals the one that stands first in the table.
-pub fn earlier(first: u8, second: u8) -> u8
-    ensures { result ≡ earlierOf first second }
+pub fn earlier(first: Option<Refusal>, second: Option<Refusal>) -> Option<Refusal>
+    ensures { number result ≡ earlierOf (number first) (number second) }
 {
     if line(first) <= line(second) {
-        return first;
+        first
+    } else {
+        second
     }
-    second
 }
 
 // `answered`, lent rooms of these lengths.
-pub fn refusal_of_answered(ledger: Ledger, probes: usize, links: usize) -> u8
-    ensures { result ≡ refusal_of_answered ledger probes links }
+pub fn refusal_of_answered(ledger: Ledger, probes: usize, links: usize) -> Option<Refusal>
+    ensures { number result ≡ refusal_of_answered ledger probes links }
 {
-    let placed = (probes == CAPACITY) & (links == CAPACITY) & rings_fit(ledger);
+    let placed = probes == CAPACITY && links == CAPACITY && rings_fit(ledger);
     first_refusal(placed, true, true, true, true, true)
 }

@@ -1,13 +1,11 @@
 -- What the answers of the functions that are called say together: the outcome of the direct counters. At any capacity N.
 -- Assumes nothing.
+use Rattle.std.specs.Prelude.{Option, Some}
 use mathlib.Core.Path.{◌≡◌, sym, ap, ◌∙◌}
 use mathlib.Core.Bool.{Bool}
 use mathlib.Core.List.{List}
 use Prim.Native.Nat.{ℕ}
 use Rattle.call_types.specs.declared.CounterPoint.{CounterPoint}
-use Rattle.call_types.specs.declared.Counters.{Counters}
-use Rattle.call_types.specs.declared.Counters.TheVariants as counters
-use Rattle.call_types.specs.declared.Ordinal.{Ordinal}
 use Rattle.call_types.specs.declared.ReplyObservation.{ReplyObservation}
 use Rattle.direct.specs.declared.Direct.{Direct}
 use Rattle.direct.specs.declared.Offsets.{Offsets}
@@ -28,18 +26,18 @@ module _ (N : ℕ) (hash : ℕ → ℕ) where
 
   -- the counters of a reply
   pub measured :
-      (d : Direct) (p : CounterPoint) (o : Ordinal) (offsets : List ℕ) (links : List (List ℕ))
+      (d : Direct) (p : CounterPoint) (o : Option ℕ) (offsets : List ℕ) (links : List (List ℕ))
       (count sought : ℕ) (again : Bool) (step : Step) (offsets' : List ℕ) (links' : List (List ℕ))
       → count ≡ seen_in d.window → sought ≡ sought_in d.window p → again ≡ contains N hash (offset_set offsets links count) sought
       → step ≡ recorded N d p o again
       → offsets' ≡ (offsets_after N hash step.offsets (offset_set offsets links count)).offsets
       → links' ≡ (offsets_after N hash step.offsets (offset_set offsets links count)).links
-      → direct_outcome step.direct offsets' links' ≡ direct_by N hash (counters.Point p) d (offset_set offsets links (seen_in d.window)) o
+      → direct_outcome step.direct offsets' links' ≡ direct_by N hash (Some p) d (offset_set offsets links (seen_in d.window)) o
   measured d p o offsets links count sought again step offsets' links' e₁ e₂ e₃ e₄ e₅ e₆ = rw (e₅, e₆, e₄, e₃, e₂, e₁)
 
   -- an observation, by its counters
   pub counted :
-      (d : Direct) (offsets : List ℕ) (links : List (List ℕ)) (o : ReplyObservation) (cs : Counters) (out : DirectOutcome)
+      (d : Direct) (offsets : List ℕ) (links : List (List ℕ)) (o : ReplyObservation) (cs : Option CounterPoint) (out : DirectOutcome)
       → o.counters ≡ cs → out ≡ direct_by N hash cs d (offset_set offsets links (seen_in d.window)) o.ordinal
       → out ≡ direct_in N hash d offsets links o
   unfolding direct_in

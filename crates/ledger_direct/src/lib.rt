@@ -1,13 +1,12 @@
 // `direct.record` in `observe` of src/sender/measurements.rs, over the lent rooms of the seen offsets: the direct counters of a reply.
 ghost use Rattle.std.specs.Prelude.{◌≡◌, ◌≤◌, length};
 ghost use Rattle.limits.specs.Limits.{capacity};
-ghost use Rattle.call_types.specs.declared.Counters.TheVariants as counters;
 ghost use Rattle.chains.specs.Hash.{number_hash};
 ghost use Rattle.direct.specs.Outcomes.{InBounds, seen_in};
 ghost use Rattle.offset_set.specs.Offsets.{offset_set};
 ghost use Rattle.ledger_steps.specs.Observe.{offsets_after, direct_outcome, direct_by, direct_in};
 
-use call_types::{CounterPoint, Counters, Ordinal, ReplyObservation};
+use call_types::{CounterPoint, ReplyObservation};
 use direct::{Direct, Offsets};
 
 // What becomes of the seen offsets, of which there are `count`. They are cleared by their count alone, which the window holds.
@@ -34,10 +33,10 @@ fn measure(
     links: &mut [[u16; 8]],
     secret: [u32; 8],
     point: CounterPoint,
-    ordinal: Ordinal,
+    ordinal: Option<u32>,
 ) -> Direct
     requires { (length offsets.old ≡ capacity) × (length links.old ≡ capacity) × InBounds direct.counts × (seen_in direct.window ≤ 4096) }
-    ensures { direct_outcome result offsets.new links.new ≡ direct_by capacity (number_hash secret) (counters.Point point) direct (offset_set offsets.old links.old (seen_in direct.window)) ordinal }
+    ensures { direct_outcome result offsets.new links.new ≡ direct_by capacity (number_hash secret) (Some point) direct (offset_set offsets.old links.old (seen_in direct.window)) ordinal }
 {
     let window = direct.window;
     let count = direct::seen_in(window);
@@ -63,7 +62,7 @@ pub fn count_direct(
     let counters = observation.counters;
     let ordinal = observation.ordinal;
     match counters {
-        Counters::Absent => direct,
-        Counters::Point(point) => measure(direct, offsets, links, secret, point, ordinal),
+        None => direct,
+        Some(point) => measure(direct, offsets, links, secret, point, ordinal),
     }
 }

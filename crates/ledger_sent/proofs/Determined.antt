@@ -4,6 +4,7 @@ use mathlib.Core.Bool.{Bool}
 use mathlib.Core.List.{List}
 use Prim.Native.Nat.{ℕ, zero, suc}
 use contract.Lifetimes.{Lfts}
+use Rattle.limits.proofs.Numbers.{numbered_unique}
 use borrow.Fn.World as World
 use borrow.Fn.Kinds as Kinds'
 use denote.Triple.Clauses as Clauses
@@ -20,7 +21,7 @@ pub answered-unique :
     (κs : Lfts 2) (a : World.ArgsD answered.signature κs) (r₁ r₂ : World.ResD answered.signature κs)
     (s₁ s₂ : Clauses.AtExit (Kinds'.ended_of 2 answered-kinds.ps answered-kinds.r) κs)
     → answered_reads.Post κs a r₁ s₁ → answered_reads.Post κs a r₂ s₂ → r₁ ≡ r₂
-answered-unique κs a r₁ r₂ s₁ s₂ p q = p ∙ sym q
+answered-unique κs a r₁ r₂ s₁ s₂ p q = numbered_unique r₁ r₂ (p ∙ sym q)
 
 -- ---- the number of an answer is the table's
 

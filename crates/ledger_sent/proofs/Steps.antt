@@ -1,4 +1,5 @@
 -- What each function of the crate leaves, from what its callees ensure. Assumes nothing.
+use Rattle.std.specs.Prelude.{Some, Ok, Err}
 use mathlib.Core.Path.{◌≡◌, refl, sym, ap, ◌∙◌}
 use mathlib.Core.Bool.{Bool, false, cond}
 use mathlib.Core.List.{List, []}
@@ -8,7 +9,6 @@ use borrow.Author.Tests.{lt-ltb, le-ltb}
 use Rattle.limits.specs.Limits.{capacity}
 use Rattle.call_types.specs.declared.ReplyKey.{ReplyKey}
 use Rattle.call_types.specs.declared.SentProbe.{SentProbe}
-use Rattle.call_types.specs.declared.Ordinal.TheVariants as ordinal
 use Rattle.chains.specs.Hash.{number_hash}
 use Rattle.key_ring.specs.Table.{hash_of}
 use Rattle.probe_ring.specs.declared.HeldProbe.{HeldProbe}
@@ -19,8 +19,6 @@ use Rattle.replies.specs.declared.Replies.{Replies}
 use Rattle.replies.specs.Served.{after_sent}
 use Rattle.ledger_state.specs.declared.Ledger.{Ledger}
 use Rattle.ledger_state.specs.State.{words_of}
-use Rattle.ledger_steps.specs.declared.LedgerAnswer.TheVariants as answer
-use Rattle.ledger_steps.specs.declared.AnsweredAnswer.TheVariants as answers
 use Rattle.ledger_steps.specs.Refusals.{refusal_of_sent, refusal_of_answered}
 use Rattle.ledger_steps.specs.Sent.{sent_with, sent_in, sent_on}
 use Rattle.ledger_steps.specs.Readers.{answered_at, answered_in, answered_on}
@@ -43,7 +41,7 @@ module _ (l : Ledger) (probes links : List (List ℕ)) (s : SentProbe) where
   pub remembered-is :
       (words : List ℕ) (kept : Remembered) (probes' links' : List (List ℕ)) (replies : Replies) →
       words ≡ words_of l.secret →
-      outcome probes' links' kept ≡ remembered capacity (number_hash words) (rooms probes links l.tables.probes) (unanswered s.sequence s.packet (ordinal.Number s.ordinal) s.train) →
+      outcome probes' links' kept ≡ remembered capacity (number_hash words) (rooms probes links l.tables.probes) (unanswered s.sequence s.packet (Some s.ordinal) s.train) →
       replies ≡ after_sent l.copies kept.evicted kept.lost l.counts.replies →
       left (next l kept replies) probes' links' ≡ sent_on l probes links s
   unfolding sent_in
@@ -57,7 +55,7 @@ module _ (l : Ledger) (probes links : List (List ℕ)) (s : SentProbe) where
 module _ (other : ℕ) (l : Ledger) (probes links : List (List ℕ)) (s : SentProbe) where
   pub refused_is :
       (n : ℕ) → n ≡ refusal_of_sent other l (length probes) (length links) → (n ≡ 0 → ⊥) →
-      sent_result (answer.Refused n) probes links ≡ sent_to other l probes links s
+      sent_result (Err n) probes links ≡ sent_to other l probes links s
   unfolding sent_to
   refused_is zero e h = absurd (h refl)
   refused_is (suc n) e h = ap (λ (k : ℕ). sent_by k (sent_on l probes links s) probes links) e
@@ -79,7 +77,7 @@ module _ (by_key : ReplyKey → ℕ) (by_number : ℕ → ℕ) (probes : List (L
 
 module _ (l : Ledger) (probes links : List (List ℕ)) (s : ℕ) where
   pub answered-refused :
-      (n : ℕ) → n ≡ refusal_of_answered l (length probes) (length links) → (n ≡ 0 → ⊥) → answers.Refused n ≡ answered_to l probes links s
+      (n : ℕ) → n ≡ refusal_of_answered l (length probes) (length links) → (n ≡ 0 → ⊥) → Err n ≡ answered_to l probes links s
   unfolding answered_to
   answered-refused zero e h = absurd (h refl)
   answered-refused (suc n) e h = ap (λ (k : ℕ). answered_by k (answered_on l probes links s)) e
@@ -87,9 +85,9 @@ module _ (l : Ledger) (probes links : List (List ℕ)) (s : ℕ) where
   pub answered-served :
       (n : ℕ) (words : List ℕ) (b : Bool) → n ≡ refusal_of_answered l (length probes) (length links) → n ≡ 0 → words ≡ words_of l.secret →
       b ≡ answered_at capacity (hash_of words) (number_hash words) probes (slot_of capacity (number_hash words) (rooms probes links l.tables.probes) s) →
-      answers.Served b ≡ answered_to l probes links s
+      Ok b ≡ answered_to l probes links s
   unfolding answered_to answered_in
   answered-served n words b e z w h =
-      ap answers.Served h
-      ∙ ap (λ (ws : List ℕ). answers.Served (answered_at capacity (hash_of ws) (number_hash ws) probes (slot_of capacity (number_hash ws) (rooms probes links l.tables.probes) s))) w
+      ap Ok h
+      ∙ ap (λ (ws : List ℕ). Ok (answered_at capacity (hash_of ws) (number_hash ws) probes (slot_of capacity (number_hash ws) (rooms probes links l.tables.probes) s))) w
       ∙ ap (λ (k : ℕ). answered_by k (answered_on l probes links s)) (sym z ∙ e)

@@ -1,6 +1,9 @@
 // `sent` once no test has refused it, and `answered`, of src/sender/measurements.rs, over the lent rooms of the held probes and of the links.
+#![tactic(auto, unfolding(chains::specs::Hash::number_hash, ledger_steps::specs::Calls::answered_to))]
+
 ghost use Rattle.std.specs.Prelude.{◌≡◌, length};
 ghost use Rattle.limits.specs.Limits.{capacity};
+ghost use Rattle.limits.specs.Numbers.{numbered};
 ghost use Rattle.chains.specs.Rings.{RingFits};
 ghost use Rattle.chains.specs.Hash.{number_hash};
 ghost use Rattle.key_ring.specs.Table.{hash_of};
@@ -11,12 +14,11 @@ ghost use Rattle.ledger_steps.specs.Readers.{answered_at};
 ghost use Rattle.ledger_steps.specs.Calls.{answered_to};
 ghost use Rattle.ledger_sent.specs.Left.{left};
 
-use call_types::{Ordinal, SentProbe};
+use call_types::SentProbe;
 use chains::Ring;
 use ledger_checks::refusal_of_answered;
 use ledger_state::{Counts, Ledger, Tables};
-use ledger_steps::AnsweredAnswer;
-use limits::CAPACITY;
+use limits::{CAPACITY, Refusal};
 
 // Remembers the probe, and counts: a `sent` that no test has refused.
 pub fn served(
@@ -28,45 +30,30 @@ pub fn served(
     requires { SoundSent ledger (length probes.old) (length links.old) }
     ensures { left result probes.new links.new ≡ sent_on ledger probes.old links.old probe }
 {
-    let hash = ledger.secret;
-    let secret = hash.words();
-    let tables = ledger.tables;
-    let counts = ledger.counts;
-    let keys = tables.keys;
-    let ring = tables.probes;
-    let packet = probe.packet;
-    let ordinal = Ordinal::Number(probe.ordinal);
     let kept = probe_ring::remember(
         probes,
         links,
-        ring,
-        secret,
+        ledger.tables.probes,
+        ledger.secret.words(),
         probe.sequence,
-        packet,
-        ordinal,
+        probe.packet,
+        Some(probe.ordinal),
         probe.train,
     );
-    let next = kept.ring;
-    let before = counts.replies;
-    let rtt = counts.rtt;
-    let direct = counts.direct;
-    let follow = counts.follow;
-    let replies = before.sent(ledger.copies, kept.evicted, kept.lost);
     Ledger {
-        copies: ledger.copies,
-        secret: hash,
         calls: ledger.calls + 1,
         tables: Tables {
-            keys,
-            probes: next,
-            awaits: tables.awaits,
+            probes: kept.ring,
+            ..ledger.tables
         },
         counts: Counts {
-            replies,
-            rtt,
-            direct,
-            follow,
+            replies: ledger
+                .counts
+                .replies
+                .sent(ledger.copies, kept.evicted, kept.lost),
+            ..ledger.counts
         },
+        ..ledger
     }
 }
 
@@ -81,11 +68,7 @@ fn is_answered(
     ensures { result ≡ answered_at capacity (hash_of secret) (number_hash secret) probes.now (slot_of capacity (number_hash secret) (rooms probes.now links.now ring) sequence) }
 {
     let slot = probe_ring::find(probes, links, ring, secret, sequence);
-    if slot < CAPACITY {
-        let probe = probe_ring::get(probes, slot);
-        return probe.answered();
-    }
-    false
+    slot < CAPACITY && probe_ring::get(probes, slot).answered()
 }
 
 // `answered`: whether the probe of a sequence is held and has a reply.
@@ -94,16 +77,17 @@ pub fn answered(
     probes: &[[u64; 4]],
     links: &[[u16; 8]],
     sequence: u32,
-) -> AnsweredAnswer
-    ensures { result ≡ answered_to ledger probes.now links.now sequence }
+) -> Result<bool, Refusal>
+    ensures { numbered result ≡ answered_to ledger probes.now links.now sequence }
 {
-    let refused = refusal_of_answered(ledger, probes.len(), links.len());
-    if refused != 0 {
-        return AnsweredAnswer::Refused(refused);
+    match refusal_of_answered(ledger, probes.len(), links.len()) {
+        Some(refusal) => Err(refusal),
+        None => Ok(is_answered(
+            probes,
+            links,
+            ledger.tables.probes,
+            ledger.secret.words(),
+            sequence,
+        )),
     }
-    let tables = ledger.tables;
-    let ring = tables.probes;
-    let hash = ledger.secret;
-    let secret = hash.words();
-    AnsweredAnswer::Served(is_answered(probes, links, ring, secret, sequence))
 }

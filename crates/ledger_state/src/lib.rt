@@ -1,6 +1,9 @@
 // `Measurements` of src/sender/measurements.rs: its state by value, the order of the refusals, the test of its rings, and `needs_burst_wait`, which
 // only reads it. The snapshot, the rooms and the calls over them stand above.
+#![tactic(auto, unfolding(crate::specs::State::secret_of, crate::specs::State::words_of))]
+
 ghost use Rattle.std.specs.Prelude.{◌≡◌};
+ghost use Rattle.limits.specs.Numbers.{number};
 ghost use Rattle.ledger_state.specs.State.{at_least_one, secret_of, words_of, fresh_counts, fresh_ledger};
 ghost use Rattle.ledger_state.specs.Refusal.{first_refusal, ring_fits, rings_fit};
 ghost use Rattle.ledger_state.specs.BurstWait.{burst_wait};
@@ -9,6 +12,7 @@ use chains::Ring;
 use delays::Delays;
 use direct::Direct;
 use follow_ups::FollowUps;
+use limits::Refusal;
 use replies::Replies;
 
 // The rings of the accepted keys and of the held probes, and whether the newest key awaits its observation.
@@ -86,10 +90,7 @@ pub struct Ledger {
 fn at_least_one(copies: u16) -> u16
     ensures { result ≡ at_least_one copies }
 {
-    if copies == 0 {
-        return 1;
-    }
-    copies
+    copies.max(1)
 }
 
 fn fresh_counts() -> Counts
@@ -107,22 +108,20 @@ fn fresh_counts() -> Counts
 pub fn fresh(copies: u16, secret: [u32; 8]) -> Ledger
     ensures { result ≡ fresh_ledger copies secret }
 {
-    let counts = fresh_counts();
-    let secret = Secret::of_words(secret);
     Ledger {
         copies: at_least_one(copies),
-        secret,
+        secret: Secret::of_words(secret),
         calls: 0,
         tables: Tables {
             keys: Ring { head: 0, len: 0 },
             probes: Ring { head: 0, len: 0 },
             awaits: false,
         },
-        counts,
+        counts: fresh_counts(),
     }
 }
 
-// The first refusal in the order of document 01's table, 0 where there is none.
+// The first refusal in the order of document 01's table.
 pub fn first_refusal(
     placed: bool,
     ranged: bool,
@@ -130,53 +129,43 @@ pub fn first_refusal(
     counted: bool,
     awaiting: bool,
     room: bool,
-) -> u8
-    ensures { result ≡ first_refusal placed ranged timely counted awaiting room }
+) -> Option<Refusal>
+    ensures { number result ≡ first_refusal placed ranged timely counted awaiting room }
 {
     if !placed {
-        return limits::WRONG_ROOM;
+        Some(Refusal::WrongRoom)
+    } else if !ranged {
+        Some(Refusal::OutOfRange)
+    } else if !timely {
+        Some(Refusal::DeadlinePasses)
+    } else if !counted {
+        Some(Refusal::CountsFull)
+    } else if !awaiting {
+        Some(Refusal::NotAwaiting)
+    } else if !room {
+        Some(Refusal::QueueFull)
+    } else {
+        None
     }
-    if !ranged {
-        return limits::OUT_OF_RANGE;
-    }
-    if !timely {
-        return limits::DEADLINE_PASSES;
-    }
-    if !counted {
-        return limits::COUNTS_FULL;
-    }
-    if !awaiting {
-        return limits::NOT_AWAITING;
-    }
-    if !room {
-        return limits::QUEUE_FULL;
-    }
-    0
 }
 
 fn ring_fits(ring: Ring) -> bool
     ensures { result ≡ ring_fits ring }
 {
-    (ring.head < limits::CAPACITY) & (ring.len <= limits::CAPACITY)
+    ring.head < limits::CAPACITY && ring.len <= limits::CAPACITY
 }
 
 // Refusal 5, the part of the state: whether every ring and the number of seen offsets are in bounds.
 pub fn rings_fit(ledger: Ledger) -> bool
     ensures { result ≡ rings_fit ledger }
 {
-    let tables = ledger.tables;
-    let counts = ledger.counts;
-    let keys = tables.keys;
-    let probes = tables.probes;
-    let direct = counts.direct;
-    let window = direct.window;
-    ring_fits(keys) & ring_fits(probes) & (direct::seen_in(window) <= limits::CAPACITY)
+    ring_fits(ledger.tables.keys)
+        && ring_fits(ledger.tables.probes)
+        && direct::seen_in(ledger.counts.direct.window) <= limits::CAPACITY
 }
 
 pub fn needs_burst_wait(ledger: Ledger) -> bool
     ensures { result ≡ burst_wait ledger }
 {
-    let counts = ledger.counts;
-    let replies = counts.replies;
-    replies.needs_burst_wait(ledger.copies)
+    ledger.counts.replies.needs_burst_wait(ledger.copies)
 }

@@ -1,5 +1,7 @@
 -- Of `sent` and `accept` with a monitor: the number of an answer is the first of the table over the tests of both parts; a refusal hands back its
 -- number only and changes neither part. Assumes nothing.
+use Rattle.std.specs.Prelude.{Result, Ok, Err}
+use Rattle.ledger_steps.specs.declared.Accepted.{Accepted}
 use mathlib.Core.Path.{◌≡◌, refl, sym, ap, ◌∙◌}
 use mathlib.Core.Bool.{Bool, true, false, not, ◌&&◌}
 use mathlib.Core.List.{List}
@@ -17,18 +19,12 @@ use Rattle.replies.proofs.Tested.{both}
 use Rattle.ledger_state.specs.declared.Ledger.{Ledger}
 use Rattle.ledger_state.specs.Refusal.{first_refusal, sized, rings_fit, room_for_call}
 use Rattle.ledger_state.proofs.Served.{served, not_refused}
-use Rattle.ledger_steps.specs.declared.LedgerAnswer.{LedgerAnswer}
-use Rattle.ledger_steps.specs.declared.LedgerAnswer.TheVariants as answer
-use Rattle.ledger_steps.specs.declared.AcceptAnswer.{AcceptAnswer}
-use Rattle.ledger_steps.specs.declared.AcceptAnswer.TheVariants as accepts
 use Rattle.ledger_steps.specs.Refusals as refusals
 use Rattle.ledger_steps.specs.Accept.{AcceptOutcome, accept_on}
 use Rattle.ledger_steps.specs.Calls as ledger
 use Rattle.ledger_checks.proofs.Order.{first-of-both}
 use Rattle.ledger_checks.proofs.Refused as refused
 use Rattle.link_steps.specs.Steps.{was_served, was_unique}
-use Rattle.ledger_watched.specs.declared.WatchedAnswer.TheVariants as watched
-use Rattle.ledger_watched.specs.declared.WatchedAccept.TheVariants as watched_accept
 use Rattle.ledger_watched.specs.Watched.{number, accept_number, sent_result, both_sent, sent_with, sent_by, sent_to}
 use Rattle.ledger_watched.specs.Watched.{accept_result, both_accept, accept_with, accept_by, accept_to}
 
@@ -59,9 +55,9 @@ monitor-table m room = lines (misplaced m room) (counted m.summary)
 
 -- ---- the number of an answer: of several tests of both parts that fail, the first in table order
 
-number_is : (x : LedgerAnswer) (m : Monitor) → number (both_sent x m) ≡ ledger.number x
-number_is (answer.Served l) m = refl
-number_is (answer.Refused n) m = refl
+number_is : (x : Result Ledger ℕ) (m : Monitor) → number (both_sent x m) ≡ ledger.number x
+number_is (Ok l) m = refl
+number_is (Err n) m = refl
 
 pub sent-number :
     (l : Ledger) (m : Monitor) (probes links : List (List ℕ)) (queue : List QueuedProbe) (s : SentProbe) →
@@ -78,9 +74,9 @@ sent-number l m probes links queue s =
     ∙ first-of-both placed true true (room_for_call l) true true (not (misplaced m (length queue))) true (not (passing m s.packet.time))
     (not (counted m.summary)) true (not (crowded m))
 
-accept_number_is : (x : AcceptAnswer) (m : Monitor) → accept_number (both_accept x m) ≡ ledger.accept_number x
-accept_number_is (accepts.Served l a) m = refl
-accept_number_is (accepts.Refused n) m = refl
+accept_number_is : (x : Result (Ledger × Accepted) ℕ) (m : Monitor) → accept_number (both_accept x m) ≡ ledger.accept_number x
+accept_number_is (Ok (l, a)) m = refl
+accept_number_is (Err n) m = refl
 
 ledger-number-by :
     (k : ℕ) (o : AcceptOutcome) (keys slots probes links : List (List ℕ)) → ledger.accept_number (ledger.accept_by k o keys slots probes links).answer ≡ k
@@ -158,38 +154,38 @@ stays_sent : (m : Monitor) (queue : List QueuedProbe) (sequence time : ℕ) → 
 unfolding sent_if
 stays_sent m queue sequence time = refl
 
-refused_of : (x : LedgerAnswer) (m : Monitor) (n : ℕ) → both_sent x m ≡ watched.Refused n → x ≡ answer.Refused n
-refused_of (answer.Served l) m n e = absurd (let z : ◌≡◌ {A = ℕ} 0 1 = cc in omega arith)
-refused_of (answer.Refused k) m n e = ap answer.Refused (ap number e)
+refused_of : (x : Result Ledger ℕ) (m : Monitor) (n : ℕ) → both_sent x m ≡ Err n → x ≡ Err n
+refused_of (Ok l) m n e = absurd (let z : ◌≡◌ {A = ℕ} 0 1 = cc in omega arith)
+refused_of (Err k) m n e = ap Err (ap number e)
 
 pub sent-refused :
     (l : Ledger) (m : Monitor) (probes links : List (List ℕ)) (queue : List QueuedProbe) (s : SentProbe) (n : ℕ) →
-    (sent_to l m probes links queue s).answer ≡ watched.Refused n →
-    sent_to l m probes links queue s ≡ sent_result (watched.Refused n) probes links queue
+    (sent_to l m probes links queue s).answer ≡ Err n →
+    sent_to l m probes links queue s ≡ sent_result (Err n) probes links queue
 unfolding sent_to
 sent-refused l m probes links queue s n e =
     let other = refusal_of_sent m (length queue) s.packet.time in
     let r = ledger.sent_to other l probes links s in
     ap (λ (x : ledger.SentResult). sent_by x m queue s)
     (refused.sent-refused other l probes links s n (refused_of r.answer (sent_if (was_served r.answer) m queue s.sequence s.packet.time).monitor n e)).1
-    ∙ ap (sent_with (ledger.sent_result (answer.Refused n) probes links)) (stays_sent m queue s.sequence s.packet.time)
+    ∙ ap (sent_with (ledger.sent_result (Err n) probes links)) (stays_sent m queue s.sequence s.packet.time)
 
 stays_reply : (m : Monitor) (queue : List QueuedProbe) (sender : ℕ) → reply_if false m queue sender ≡ unchanged m queue
 unfolding reply_if
 stays_reply m queue sender = refl
 
-accept-refused_of : (x : AcceptAnswer) (m : Monitor) (n : ℕ) → both_accept x m ≡ watched_accept.Refused n → x ≡ accepts.Refused n
-accept-refused_of (accepts.Served l a) m n e = absurd (let z : ◌≡◌ {A = ℕ} 0 1 = cc in omega arith)
-accept-refused_of (accepts.Refused k) m n e = ap accepts.Refused (ap accept_number e)
+accept-refused_of : (x : Result (Ledger × Accepted) ℕ) (m : Monitor) (n : ℕ) → both_accept x m ≡ Err n → x ≡ Err n
+accept-refused_of (Ok (l, a)) m n e = absurd (let z : ◌≡◌ {A = ℕ} 0 1 = cc in omega arith)
+accept-refused_of (Err k) m n e = ap Err (ap accept_number e)
 
 pub accept-refused :
     (l : Ledger) (m : Monitor) (keys slots probes links : List (List ℕ)) (queue : List QueuedProbe) (a : Reply) (n : ℕ) →
-    (accept_to l m keys slots probes links queue a).answer ≡ watched_accept.Refused n →
-    accept_to l m keys slots probes links queue a ≡ accept_result (watched_accept.Refused n) keys slots probes links queue
+    (accept_to l m keys slots probes links queue a).answer ≡ Err n →
+    accept_to l m keys slots probes links queue a ≡ accept_result (Err n) keys slots probes links queue
 unfolding accept_to
 accept-refused l m keys slots probes links queue a n e =
     let other = refusal_of m (length queue) in
     let r = ledger.accept_to other l keys slots probes links a in
     ap (λ (x : ledger.AcceptResult). accept_by x m queue a)
     (refused.accept-refused other l keys slots probes links a n (accept-refused_of r.answer (reply_if (was_unique r.answer) m queue a.key.sender).monitor n e)).1
-    ∙ ap (accept_with (ledger.accept_result (accepts.Refused n) keys slots probes links)) (stays_reply m queue a.key.sender)
+    ∙ ap (accept_with (ledger.accept_result (Err n) keys slots probes links)) (stays_reply m queue a.key.sender)

@@ -1,7 +1,8 @@
 -- `sent` and `accept` of a ledger with a monitor: what each answers and leaves, on every input. A refusal of either part is a refusal of the call,
 -- and changes neither.
 -- Assumes nothing.
-use Rattle.std.specs.Prelude.{List, ℕ, length}
+use Rattle.ledger_steps.specs.declared.Accepted.{Accepted}
+use Rattle.std.specs.Prelude.{List, ℕ, length, Result, Ok, Err}
 use Rattle.call_types.specs.declared.SentProbe.{SentProbe}
 use Rattle.call_types.specs.declared.Reply.{Reply}
 use Rattle.probe_queue.specs.declared.QueuedProbe.{QueuedProbe}
@@ -9,46 +10,38 @@ use Rattle.monitor.specs.declared.Monitor.{Monitor}
 use Rattle.monitor.specs.Refusals as monitor
 use Rattle.monitor.specs.Operations.{MonitorStand, sent_if, reply_if}
 use Rattle.ledger_state.specs.declared.Ledger.{Ledger}
-use Rattle.ledger_steps.specs.declared.LedgerAnswer.{LedgerAnswer}
-use Rattle.ledger_steps.specs.declared.LedgerAnswer.TheVariants as answer
-use Rattle.ledger_steps.specs.declared.AcceptAnswer.{AcceptAnswer}
-use Rattle.ledger_steps.specs.declared.AcceptAnswer.TheVariants as accepts
 use Rattle.ledger_steps.specs.Calls as ledger
 use Rattle.link_steps.specs.Steps.{was_served, was_unique}
-use Rattle.ledger_watched.specs.declared.WatchedAnswer.{WatchedAnswer}
-use Rattle.ledger_watched.specs.declared.WatchedAnswer.TheVariants as watched
-use Rattle.ledger_watched.specs.declared.WatchedAccept.{WatchedAccept}
-use Rattle.ledger_watched.specs.declared.WatchedAccept.TheVariants as watched_accept
 
 -- ---- document 01's number of an answer, 0 where the call was served
 
 -- of `sent`
-abbrev pub number : WatchedAnswer → ℕ
-number (watched.Served l m) = 0
-number (watched.Refused n) = n
+abbrev pub number : Result (Ledger × Monitor) ℕ → ℕ
+number (Ok (l, m)) = 0
+number (Err n) = n
 
 -- of `accept`
-abbrev pub accept_number : WatchedAccept → ℕ
-accept_number (watched_accept.Served l m a) = 0
-accept_number (watched_accept.Refused n) = n
+abbrev pub accept_number : Result (Ledger × Monitor × Accepted) ℕ → ℕ
+accept_number (Ok (l, m, a)) = 0
+accept_number (Err n) = n
 
 -- ---- `sent`
 
 -- the answer, the rooms and the queue
 pub record SentResult : Type 0 where
-  pub answer : WatchedAnswer
+  pub answer : Result (Ledger × Monitor) ℕ
   pub probes : List (List ℕ)
   pub links : List (List ℕ)
   pub queue : List QueuedProbe
 
 -- the result of a `sent` with a monitor, made of its answer, the rooms and the queue
-abbrev pub sent_result : WatchedAnswer → List (List ℕ) → List (List ℕ) → List QueuedProbe → SentResult
+abbrev pub sent_result : Result (Ledger × Monitor) ℕ → List (List ℕ) → List (List ℕ) → List QueuedProbe → SentResult
 sent_result r probes links queue = record { answer = r; probes = probes; links = links; queue = queue }
 
 -- the ledger's answer, with the monitor
-abbrev pub both_sent : LedgerAnswer → Monitor → WatchedAnswer
-both_sent (answer.Served l) m = watched.Served l m
-both_sent (answer.Refused n) m = watched.Refused n
+abbrev pub both_sent : Result Ledger ℕ → Monitor → Result (Ledger × Monitor) ℕ
+both_sent (Ok l) m = Ok (l, m)
+both_sent (Err n) m = Err n
 
 -- the ledger's answer and rooms, with the monitor and its queue as they then stand
 abbrev pub sent_with : ledger.SentResult → MonitorStand → SentResult
@@ -66,7 +59,7 @@ sent_to l m probes links queue s = sent_by (ledger.sent_to (monitor.refusal_of_s
 
 -- the answer, the four rooms of the ledger, and the queue
 pub record AcceptResult : Type 0 where
-  pub answer : WatchedAccept
+  pub answer : Result (Ledger × Monitor × Accepted) ℕ
   pub keys : List (List ℕ)
   pub slots : List (List ℕ)
   pub probes : List (List ℕ)
@@ -74,13 +67,13 @@ pub record AcceptResult : Type 0 where
   pub queue : List QueuedProbe
 
 -- the result of an `accept` with a monitor, made of its answer, the rooms and the queue
-abbrev pub accept_result : WatchedAccept → List (List ℕ) → List (List ℕ) → List (List ℕ) → List (List ℕ) → List QueuedProbe → AcceptResult
+abbrev pub accept_result : Result (Ledger × Monitor × Accepted) ℕ → List (List ℕ) → List (List ℕ) → List (List ℕ) → List (List ℕ) → List QueuedProbe → AcceptResult
 accept_result r keys slots probes links queue = record { answer = r; keys = keys; slots = slots; probes = probes; links = links; queue = queue }
 
 -- the ledger's answer, with the monitor where it was served
-abbrev pub both_accept : AcceptAnswer → Monitor → WatchedAccept
-both_accept (accepts.Served l a) m = watched_accept.Served l m a
-both_accept (accepts.Refused n) m = watched_accept.Refused n
+abbrev pub both_accept : Result (Ledger × Accepted) ℕ → Monitor → Result (Ledger × Monitor × Accepted) ℕ
+both_accept (Ok (l, a)) m = Ok (l, m, a)
+both_accept (Err n) m = Err n
 
 -- the ledger's answer and rooms, with the monitor and its queue as they then stand
 abbrev pub accept_with : ledger.AcceptResult → MonitorStand → AcceptResult

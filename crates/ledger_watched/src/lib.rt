@@ -4,28 +4,10 @@
 ghost use Rattle.std.specs.Prelude.{◌≡◌};
 
 use call_types::Reply;
-use ledger_state::Ledger;
-use ledger_steps::Accepted;
-use monitor::Monitor;
-
-// Of `sent`: the next ledger and the next monitor, or document 01's number of the refusal.
-#[derive(Clone, Copy)]
-pub enum WatchedAnswer {
-    Served(Ledger, Monitor),
-    Refused(u8),
-}
-
-// Of `accept`.
-#[derive(Clone, Copy)]
-pub enum WatchedAccept {
-    Served(Ledger, Monitor, Accepted),
-    Refused(u8),
-}
 
 // The monitor hears of the probe that a unique reply answers.
 pub fn sender_of(reply: Reply) -> u32
     ensures { result ≡ reply.key.sender }
 {
-    let key = reply.key;
-    key.sender
+    reply.key.sender
 }

@@ -1,4 +1,5 @@
 -- Each call's promise in document 01's numbers and values: of the answer that the definition cited by its contract gives. Assumes nothing.
+use Rattle.std.specs.Prelude.{None, Ok, Err, Some}
 use mathlib.Core.Path.{◌≡◌, refl, sym, ap, ◌∙◌}
 use mathlib.Core.Bool.{Bool, true, false, cond}
 use mathlib.Core.List.{List, [], ◌∷◌}
@@ -14,8 +15,6 @@ use Rattle.call_types.specs.declared.ReplyObservation.{ReplyObservation}
 use Rattle.probe_queue.specs.declared.QueuedProbe.{QueuedProbe}
 use Rattle.probe_queue.specs.Queue.{choose, nil}
 use Rattle.monitor.specs.declared.Monitor.{Monitor}
-use Rattle.monitor.specs.declared.MonitorAnswer.TheVariants.{Served, Refused}
-use Rattle.monitor.specs.declared.Deadline.TheVariants as deadline
 use Rattle.monitor.specs.Refusals.{misplaced, refusal_of, refusal_of_sent}
 use Rattle.monitor.specs.Operations.{sent_if, reply_if, advance_if, idle_on}
 use Rattle.monitor.specs.Answers as monitor
@@ -29,8 +28,7 @@ use Rattle.ledger_steps.specs.Calls.{sent_by, sent_to, accept_by, accept_to, obs
 use Rattle.link_steps.specs.Steps.{is_unique}
 use Rattle.ledger_watched.specs.Watched as watched
 use Rattle.record_parts.specs.declared.Entry.{Entry}
-use Rattle.log_record.specs.Records.{bad_record, entry_of, answer, read_number, read_of}
-use Rattle.log_whole.specs.declared.PlayedCall.TheVariants as played
+use Rattle.log_record.specs.Records.{bad_record, good, entry_of, answer, read_of}
 use Rattle.log_whole.specs.Logs.{most_bytes, too_long, bad_trailer, trailer_good, count_of, settings_of, record_at, played_by, call_at}
 use Rattle.host_calls.specs.Calls.{accepted_words}
 use Rattle.host_numbers.specs.Numbers.{flag_word}
@@ -79,7 +77,7 @@ answered_promise l probes links s = by (refusals.refusal_of_answered l (length p
 -- ---- the monitor
 
 -- what `answered` says of a number
-monitor_by : (n : ℕ) (next before : Monitor) (b : Bool) → eqb n 0 ≡ b → monitor_outcome before (choose b (Served next) (Refused n)) ≡ by_number n [] next before
+monitor_by : (n : ℕ) (next before : Monitor) (b : Bool) → eqb n 0 ≡ b → monitor_outcome before (choose b (Ok next) (Err n)) ≡ by_number n [] next before
 monitor_by n next before true e = sym (ap (λ (k : ℕ). by_number k [] next before) (eqb-true n 0 e))
 monitor_by zero next before false e = absurd (eqb-false 0 0 e refl)
 monitor_by (suc n) next before false e = refl
@@ -110,7 +108,7 @@ pub monitor_deadline_promise : (m : Monitor) (room : List QueuedProbe) →
 unfolding monitor.deadline_of
 monitor_deadline_promise m room = by (misplaced m (length room)) (eqb m.ring.len 0) (get_or room m.ring.head nil).deadline
   where
-    by : (o e : Bool) (t : ℕ) → deadline_outcome m (choose o (deadline.Refused wrong_room) (choose e deadline.Absent (deadline.At t))) ≡ by_number (choose o wrong_room 0) (choose e [] (t ∷ [])) m m
+    by : (o e : Bool) (t : ℕ) → deadline_outcome m (choose o (Err wrong_room) (choose e (Ok None) (Ok (Some t)))) ≡ by_number (choose o wrong_room 0) (choose e [] (t ∷ [])) m m
     by true e t = refl
     by false true t = refl
     by false false t = refl
@@ -148,12 +146,13 @@ watched-accept_promise l m keys slots probes links queue a =
 pub call_at_promise : (log : List ℕ) (i : ℕ) → played_calls (call_at log i) ≡ calls_by (played_number log i) (entry_of (record_at log (settings_of log).start i))
 unfolding call_at read_of
 call_at_promise log i =
-    by (ltb most_bytes (length log)) (trailer_good log) (ltb i (count_of log)) (read_number (record_at log (settings_of log).start i)) (entry_of (record_at log (settings_of log).start i))
+    by (ltb most_bytes (length log)) (trailer_good log) (ltb i (count_of log)) (eqb (length (record_at log (settings_of log).start i)) 96) (good (record_at log (settings_of log).start i)) (entry_of (record_at log (settings_of log).start i))
   where
-    by : (long kept there : Bool) (n : ℕ) (e : Entry) → played_calls (cond long played.Nothing (cond kept (cond there (played_by (answer n e)) played.Nothing) played.Nothing))
-        ≡ calls_by (cond long too_long (cond kept (cond there n bad_record) bad_trailer)) e
-    by true kept there n e = refl
-    by false false there n e = refl
-    by false true false n e = refl
-    by false true true zero e = refl
-    by false true true (suc n) e = refl
+    by : (long kept there sized whole : Bool) (e : Entry) → played_calls (cond long None (cond kept (cond there (played_by (answer sized whole e)) None) None))
+        ≡ calls_by (cond long too_long (cond kept (cond there (cond sized (cond whole 0 bad_record) wrong_room) bad_record) bad_trailer)) e
+    by true kept there sized whole e = refl
+    by false false there sized whole e = refl
+    by false true false sized whole e = refl
+    by false true true true true e = refl
+    by false true true true false e = refl
+    by false true true false whole e = refl

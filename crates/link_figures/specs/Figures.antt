@@ -1,27 +1,19 @@
 -- Which figure of a link each number of the report is.
 -- Assumes nothing.
-use Rattle.std.specs.Prelude.{ℕ}
+use Rattle.delays.specs.declared.Nanoseconds.{Nanoseconds}
+use Rattle.monitor.specs.declared.Monitor.{Monitor}
+use Rattle.std.specs.Prelude.{ℕ, Option, Some, None}
 use Rattle.replies.specs.declared.Replies.{Replies}
 use Rattle.replies.specs.Served.{unobserved}
-use Rattle.thousandths.specs.declared.Thousandths.{Thousandths}
-use Rattle.thousandths.specs.declared.Thousandths.TheVariants as thousandths
 use Rattle.thousandths.specs.Thousandths.{thousandths_of}
 use Rattle.delays.specs.declared.Delays.{Delays}
-use Rattle.delays.specs.declared.Extreme.{Extreme}
-use Rattle.delays.specs.declared.Extreme.TheVariants as extreme
 use Rattle.direct.specs.declared.Counts.{Counts}
-use Rattle.direct.specs.declared.summary.Packets.{Packets}
-use Rattle.direct.specs.declared.summary.Packets.TheVariants as packets
 use Rattle.direct.specs.declared.summary.DirectSummary.{DirectSummary}
 use Rattle.direct.specs.Shown.{summary_of}
 use Rattle.follow_ups.specs.declared.FollowCounts.{FollowCounts}
 use Rattle.monitor.specs.declared.State.{State}
 use Rattle.monitor.specs.declared.State.TheVariants.{Idle, Active, Failed}
-use Rattle.link_steps.specs.declared.Watch.{Watch}
-use Rattle.link_steps.specs.declared.Watch.TheVariants as watch
 use Rattle.link_steps.specs.declared.Link.{Link}
-use Rattle.report.specs.declared.figures.Value.{Value}
-use Rattle.report.specs.declared.figures.Value.TheVariants as value
 use Rattle.report.specs.declared.figures.Session.{Session}
 use Rattle.report.specs.declared.figures.Session.TheVariants as session
 use Rattle.report.specs.declared.figures.Loss.{Loss}
@@ -32,19 +24,19 @@ use Rattle.report.specs.declared.figures.RoundTrip.{RoundTrip}
 use Rattle.report.specs.declared.figures.Figures.{Figures}
 
 -- "missing and rtt values absent are `-`"
-abbrev pub value_of : Packets → Value
-value_of packets.Absent = value.Absent
-value_of (packets.Number n) = value.Number n
+abbrev pub value_of : Option ℕ → Option ℕ
+value_of None = None
+value_of (Some n) = Some n
 
 -- "the answer is absent and the report prints `thousandths -`" (document 02, Q-5)
-abbrev pub figure_of : Thousandths → Value
-figure_of thousandths.Absent = value.Absent
-figure_of (thousandths.Known n) = value.Number n
+abbrev pub figure_of : Option ℕ → Option ℕ
+figure_of None = None
+figure_of (Some n) = Some n
 
 -- "rtt is ns": a round trip is not negative
-abbrev pub time_of : Extreme → Value
-time_of extreme.Absent = value.Absent
-time_of (extreme.At ns) = value.Number ns.magnitude
+abbrev pub time_of : Option Nanoseconds → Option ℕ
+time_of None = None
+time_of (Some ns) = Some ns.magnitude
 
 -- "state is `none` (losses 0), `idle`, `active` or `failed`"
 abbrev pub session_by : State → ℕ → Session
@@ -53,9 +45,9 @@ session_by Active losses = session.Active losses
 session_by Failed losses = session.Failed losses
 
 -- `none` without a monitor, and otherwise its state and its consecutive losses
-abbrev pub session_of : Watch → Session
-session_of watch.Absent = session.None
-session_of (watch.Present m) = session_by m.summary.state m.summary.consecutive_losses
+abbrev pub session_of : Option Monitor → Session
+session_of None = session.None
+session_of (Some m) = session_by m.summary.state m.summary.consecutive_losses
 
 -- the line `requested`: requested, unobserved, and the thousandths of these two
 abbrev pub loss_of : Replies → Loss

@@ -2,42 +2,41 @@
 ghost use Rattle.std.specs.Prelude.{◌≡◌};
 ghost use Rattle.link_figures.specs.Figures.{value_of, figure_of, time_of, session_by, session_of, loss_of, followup_of, direct_of, missing_of, round_trip_of, figures_of};
 
-use delays::{Delays, Extreme};
-use direct::summary::{DirectSummary, Packets};
+use delays::{Delays, Nanoseconds};
+use direct::summary::DirectSummary;
 use follow_ups::FollowCounts;
-use link_steps::{Link, Watch};
-use monitor::State;
+use link_steps::Link;
+use monitor::{Monitor, State};
 use replies::Replies;
 use report::figures;
-use report::figures::{Figures, Session, Value};
-use thousandths::Thousandths;
+use report::figures::{Figures, Session};
 
-fn value_of(packets: Packets) -> Value
+fn value_of(packets: Option<u64>) -> Option<u64>
     ensures { result ≡ value_of packets }
 {
     match packets {
-        Packets::Absent => Value::Absent,
-        Packets::Number(n) => Value::Number(n),
+        None => None,
+        Some(n) => Some(n),
     }
 }
 
 // With nothing requested there is no figure of loss.
-fn figure_of(thousandths: Thousandths) -> Value
+fn figure_of(thousandths: Option<u64>) -> Option<u64>
     ensures { result ≡ figure_of thousandths }
 {
     match thousandths {
-        Thousandths::Absent => Value::Absent,
-        Thousandths::Known(n) => Value::Number(n),
+        None => None,
+        Some(n) => Some(n),
     }
 }
 
 // A round trip is not negative: its magnitude is all of it.
-fn time_of(extreme: Extreme) -> Value
+fn time_of(extreme: Option<Nanoseconds>) -> Option<u64>
     ensures { result ≡ time_of extreme }
 {
     match extreme {
-        Extreme::Absent => Value::Absent,
-        Extreme::At(ns) => Value::Number(ns.magnitude),
+        None => None,
+        Some(ns) => Some(ns.magnitude),
     }
 }
 
@@ -51,12 +50,12 @@ fn session_by(state: State, losses: u32) -> Session
     }
 }
 
-fn session_of(watch: Watch) -> Session
+fn session_of(watch: Option<Monitor>) -> Session
     ensures { result ≡ session_of watch }
 {
     match watch {
-        Watch::Absent => Session::None,
-        Watch::Present(monitor) => {
+        None => Session::None,
+        Some(monitor) => {
             let summary = monitor.summary;
             let state = summary.state;
             session_by(state, summary.consecutive_losses)

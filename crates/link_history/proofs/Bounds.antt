@@ -1,5 +1,7 @@
 -- Before 4,294,967,295 calls are served no count of the ledger gets to 2^63 and no sum to 2^126: so of refusal 4 the number of calls alone decides.
 -- Assumes nothing.
+use Rattle.std.specs.Prelude.{Option}
+use Rattle.estimate.specs.declared.ErrorEstimate.{ErrorEstimate}
 use mathlib.Core.Path.{◌≡◌, refl}
 use mathlib.Core.Bool.{Bool, true, false, not, ◌&&◌}
 use mathlib.Core.List.{List}
@@ -11,7 +13,6 @@ use lib.IntN.{ℤ}
 use lib.ListN.{length}
 use borrow.Author.Tests.{ltb-true}
 use Rattle.limits.specs.Limits.{capacity, most_calls, count_bound, sum_bound}
-use Rattle.estimate.specs.declared.Estimates.{Estimates}
 use Rattle.call_types.specs.declared.Call.{Call}
 use Rattle.chains.proofs.Tests.{lt_true}
 use Rattle.clock_quality.specs.Quality.{Class, is_both, is_unsynchronized, is_invalid, is_unknown, is_invalid_sender, is_invalid_reflector, is_invalid_both}
@@ -99,7 +100,7 @@ module _ (copies : ℕ) (copies_in : copies < 2 ^ 16) (h : List Call) (room : ca
       both_hold _ _ (both_hold _ _ (both_hold _ _ (both_hold _ _ (both_hold _ _ (both_hold _ _ (both_hold _ _ (few (length es) many) (class_few is_both)) (class_few is_unsynchronized)) (class_few is_invalid)) (class_few is_unknown))
       (class_few is_invalid_sender)) (class_few is_invalid_reflector)) (class_few is_invalid_both)
     where
-      es : List Estimates
+      es : List (Option (ErrorEstimate × ErrorEstimate))
       es = estimates (measured capacity copies (events capacity h))
 
       many : length es ≤ 2 * calls_in h

@@ -1,8 +1,9 @@
 -- Of the served calls: each count is at most the calls counted, and there are at most twice as many events.
 -- Assumes nothing.
+use Rattle.std.specs.Prelude.{Option, None, Some}
+use Rattle.estimate.specs.declared.ErrorEstimate.{ErrorEstimate}
 use mathlib.Core.Bool.{Bool, true, false, not, ◌&&◌, cond}
 use mathlib.Core.List.{List, [], ◌∷◌}
-use mathlib.Core.Option.{Option, none, some}
 use mathlib.Core.Path.{◌≡◌, refl, ap}
 use Prim.Native.Nat.{ℕ, suc, ◌+◌, ◌*◌, ◌≤◌}
 use native.Mathlib.Omega.{arith}
@@ -10,7 +11,6 @@ use lib.Dec.{eqb}
 use lib.IntN.{ℤ}
 use lib.ListN.{length}
 use Rattle.limits.specs.Limits.{capacity}
-use Rattle.estimate.specs.declared.Estimates.{Estimates}
 use Rattle.call_types.specs.declared.PendingPacket.{PendingPacket}
 use Rattle.call_types.specs.declared.ReplyKey.{ReplyKey}
 use Rattle.call_types.specs.declared.FollowUpTelemetry.{FollowUpTelemetry}
@@ -70,7 +70,7 @@ ready_few : (es : List Event) (k : ReplyKey) (p : Option PendingPacket) → leng
 unfolding ready
 ready_few es k p = go (has (held capacity es) k.sender)
   where
-    go : (b : Bool) → length (cond b es (remembered k.sender none 0 (or_else p no_packet) ∷ es)) ≤ suc (length es)
+    go : (b : Bool) → length (cond b es (remembered k.sender None 0 (or_else p no_packet) ∷ es)) ≤ suc (length es)
     go true = omega arith
     go false = omega arith
 
@@ -126,18 +126,18 @@ trips_few (observed o ∷ es) = omega (arith, trips_few es)
 -- ---- the matched follow-ups
 
 by_few : (a b : Option ℤ) (offset : ℤ) (q : Option EstimatePair) (ms : List Measured) → length (with_times a b offset q ms) ≤ suc (length ms)
-by_few (some a) (some b) offset q ms = omega arith
-by_few (some a) none offset q ms = omega arith
-by_few none b offset q ms = omega arith
+by_few (Some a) (Some b) offset q ms = omega arith
+by_few (Some a) None offset q ms = omega arith
+by_few None b offset q ms = omega arith
 
 in_few : (s : Slot) (w : ℕ) (offset : ℤ) (ms : List Measured) → length (with_slot s w offset ms) ≤ suc (length ms)
 in_few free w offset ms = omega arith
-in_few (taken n none c) w offset ms = omega arith
-in_few (taken n (some r) c) w offset ms = by_few r.t4 (converted_in r w offset) offset r.quality ms
+in_few (taken n None c) w offset ms = omega arith
+in_few (taken n (Some r) c) w offset ms = by_few r.t4 (converted_in r w offset) offset r.quality ms
 
 of_few : (copies : ℕ) (f : Option FollowUpTelemetry) (o : ReplyObservation) (es : List Event) (ms : List Measured) → length (with_follow capacity copies f o es ms) ≤ suc (length ms)
-of_few copies none o es ms = omega arith
-of_few copies (some f) o es ms = go (same_follow matched (class_at capacity copies f o.key.reflector o.offset es))
+of_few copies None o es ms = omega arith
+of_few copies (Some f) o es ms = go (same_follow matched (class_at capacity copies f o.key.reflector o.offset es))
   where
     go : (b : Bool) → length (cond b (with_slot (slot_at capacity copies es f.sequence) f.timestamp o.offset ms) ms) ≤ suc (length ms)
     go true = in_few (slot_at capacity copies es f.sequence) f.timestamp o.offset ms
@@ -164,7 +164,7 @@ counted_few : (b : Bool) (m n : ℕ) → m ≤ n → quality.counted b m ≤ suc
 counted_few true m n l = omega arith
 counted_few false m n l = omega arith
 
-pub samples_few : (test : quality.Class → Bool) (es : List Estimates) → samples.count test es ≤ length es
+pub samples_few : (test : quality.Class → Bool) (es : List (Option (ErrorEstimate × ErrorEstimate))) → samples.count test es ≤ length es
 unfolding samples.count
 samples_few test [] = omega arith
 samples_few test (e ∷ es) = counted_few (test (samples.class_of e)) (samples.count test es) (length es) (samples_few test es)

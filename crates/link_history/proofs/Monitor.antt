@@ -1,5 +1,6 @@
 -- From a link made fresh with a monitor, after any calls, refused ones included: what the monitor shows follows from the served calls.
 -- Assumes nothing.
+use Rattle.std.specs.Prelude.{Option, Some, None, Ok, Err}
 use mathlib.Core.Path.{◌≡◌, refl, sym, ap, ◌∙◌, subst}
 use mathlib.Core.Bool.{Bool, true, false}
 use mathlib.Core.List.{List, [], ◌∷◌}
@@ -17,7 +18,6 @@ use Rattle.call_types.specs.declared.Call.TheVariants.{Sent, Accept, Observe, Ad
 use Rattle.probe_queue.specs.declared.QueuedProbe.{QueuedProbe}
 use Rattle.probe_queue.specs.Queue.{choose}
 use Rattle.monitor.specs.declared.Monitor.{Monitor}
-use Rattle.monitor.specs.declared.MonitorAnswer.TheVariants as answer
 use Rattle.monitor.specs.Refusals.{misplaced, passing, counted, crowded, refusal_of, refusal_of_sent}
 use Rattle.monitor.specs.Operations as monitor
 use Rattle.monitor.specs.Operations.{sent_if, reply_if, advance_if, idle_on}
@@ -32,8 +32,6 @@ use Rattle.history.specs.Given.{packet_of}
 use Rattle.history.specs.Ledger.{Class, duplicate, unknown, unique, same_class, reply_class, answer_by, answer, unique?, events}
 use Rattle.ledger_steps.specs.Refusals.{earlier}
 use Rattle.reply_history.specs.Follows.{as_accepted}
-use Rattle.link_steps.specs.declared.Watch.{Watch}
-use Rattle.link_steps.specs.declared.Watch.TheVariants.{Absent, Present}
 use Rattle.link_steps.specs.Steps.{is_unique, watch_sent, watch_reply, watch_advance, watch_idle, watch_refuses_sent, watch_refuses}
 use Rattle.link_history.specs.Fresh.{Watching, alone, watching, QueueFits, fresh_watch}
 use Rattle.link_history.specs.Monitor.{monitor_from, WatchShows}
@@ -50,8 +48,8 @@ module _ (x : monitor.MonitorStand) (marks : Marks) (ok : Kept x marks) where
   p = seen x marks
 
   -- what stands after a served call
-  kept-served : (n : ℕ) (y : monitor.MonitorStand) → n ≡ 0 → keep x (choose (eqb n 0) (answer.Served y.monitor) (answer.Refused n)) y.room ≡ y
-  kept-served n y e = ap (λ (r : ℕ). keep x (choose (eqb r 0) (answer.Served y.monitor) (answer.Refused r)) y.room) e
+  kept-served : (n : ℕ) (y : monitor.MonitorStand) → n ≡ 0 → keep x (choose (eqb n 0) (Ok y.monitor) (Err n)) y.room ≡ y
+  kept-served n y e = ap (λ (r : ℕ). keep x (choose (eqb r 0) (Ok y.monitor) (Err r)) y.room) e
 
   plain-served : (n : ℕ) (q : Plain) → n ≡ 0 → choose (eqb n 0) q p ≡ q
   plain-served n q e = ap (λ (r : ℕ). choose (eqb r 0) q p) e
@@ -111,11 +109,11 @@ module _ (x : monitor.MonitorStand) (marks : Marks) (ok : Kept x marks) where
 -- ---- the monitor of a link
 
 -- the plain monitor is shown, and all that keeps it so
-abbrev pub WatchFollows : Watching → List Call → Watch → List QueuedProbe → Type 0
-WatchFollows alone h Absent queue = Unit
-WatchFollows alone h (Present m) queue = ⊥
-WatchFollows (watching threshold timeout) h Absent queue = ⊥
-WatchFollows (watching threshold timeout) h (Present m) queue = Next (record { monitor = m; room = queue }) (monitor_from threshold timeout h)
+abbrev pub WatchFollows : Watching → List Call → Option Monitor → List QueuedProbe → Type 0
+WatchFollows alone h None queue = Unit
+WatchFollows alone h (Some m) queue = ⊥
+WatchFollows (watching threshold timeout) h None queue = ⊥
+WatchFollows (watching threshold timeout) h (Some m) queue = Next (record { monitor = m; room = queue }) (monitor_from threshold timeout h)
 
 pub watch_fresh : (v : Watching) (queue : List QueuedProbe) → QueueFits v queue → WatchFollows v [] (fresh_watch v) queue
 unfolding monitor_from
@@ -123,35 +121,35 @@ watch_fresh alone queue fit = tt
 watch_fresh (watching threshold timeout) queue fit = (λ s. false, (refl, begins threshold timeout queue fit))
 
 module _ (h : List Call) where
-  pub watch_sent_lem : (v : Watching) (w : Watch) (queue : List QueuedProbe) (s : SentProbe) → watch_refuses_sent w (length queue) s ≡ 0 → WatchFollows v h w queue
+  pub watch_sent_lem : (v : Watching) (w : Option Monitor) (queue : List QueuedProbe) (s : SentProbe) → watch_refuses_sent w (length queue) s ≡ 0 → WatchFollows v h w queue
       → WatchFollows v (Sent s ∷ h) (watch_sent true w queue s).watch (watch_sent true w queue s).queue
   unfolding monitor_from
-  watch_sent_lem alone Absent queue s e f = tt
-  watch_sent_lem alone (Present m) queue s e f = absurd f
-  watch_sent_lem (watching threshold timeout) Absent queue s e f = absurd f
-  watch_sent_lem (watching threshold timeout) (Present m) queue s e f =
+  watch_sent_lem alone None queue s e f = tt
+  watch_sent_lem alone (Some m) queue s e f = absurd f
+  watch_sent_lem (watching threshold timeout) None queue s e f = absurd f
+  watch_sent_lem (watching threshold timeout) (Some m) queue s e f =
       subst (λ (q : Plain). Next (sent_if true m queue s.sequence s.packet.time) (sent q s.sequence s.packet.time)) (sym f.1.0)
       (sent-next (record { monitor = m; room = queue }) f.0 f.1.1 s.sequence s.packet.time e)
 
   -- a unique reply
-  watch_unique : (v : Watching) (w : Watch) (queue : List QueuedProbe) (a : Reply) → watch_refuses w (length queue) ≡ 0 → unique? capacity a.key (packet_of a.pending) (events capacity h) ≡ true
+  watch_unique : (v : Watching) (w : Option Monitor) (queue : List QueuedProbe) (a : Reply) → watch_refuses w (length queue) ≡ 0 → unique? capacity a.key (packet_of a.pending) (events capacity h) ≡ true
       → WatchFollows v h w queue → WatchFollows v (Accept a ∷ h) (watch_reply true w queue a).watch (watch_reply true w queue a).queue
   unfolding monitor_from
-  watch_unique alone Absent queue a e u f = tt
-  watch_unique alone (Present m) queue a e u f = absurd f
-  watch_unique (watching threshold timeout) Absent queue a e u f = absurd f
-  watch_unique (watching threshold timeout) (Present m) queue a e u f =
+  watch_unique alone None queue a e u f = tt
+  watch_unique alone (Some m) queue a e u f = absurd f
+  watch_unique (watching threshold timeout) None queue a e u f = absurd f
+  watch_unique (watching threshold timeout) (Some m) queue a e u f =
       rw u (subst (λ (q : Plain). Next (reply_if true m queue a.key.sender) (reply q a.key.sender)) (sym f.1.0)
       (reply-next (record { monitor = m; room = queue }) f.0 f.1.1 a.key.sender e))
 
   -- another
-  watch_other : (v : Watching) (w : Watch) (queue : List QueuedProbe) (a : Reply) → unique? capacity a.key (packet_of a.pending) (events capacity h) ≡ false
+  watch_other : (v : Watching) (w : Option Monitor) (queue : List QueuedProbe) (a : Reply) → unique? capacity a.key (packet_of a.pending) (events capacity h) ≡ false
       → WatchFollows v h w queue → WatchFollows v (Accept a ∷ h) w queue
   unfolding monitor_from
-  watch_other alone Absent queue a u f = tt
-  watch_other alone (Present m) queue a u f = absurd f
-  watch_other (watching threshold timeout) Absent queue a u f = absurd f
-  watch_other (watching threshold timeout) (Present m) queue a u f = rw u f
+  watch_other alone None queue a u f = tt
+  watch_other alone (Some m) queue a u f = absurd f
+  watch_other (watching threshold timeout) None queue a u f = absurd f
+  watch_other (watching threshold timeout) (Some m) queue a u f = rw u f
 
   -- by the answer of the accept, which is the history's
   pub says_unique : (a : Reply) → is_unique (accepted_from h a) ≡ unique? capacity a.key (packet_of a.pending) (events capacity h)
@@ -163,7 +161,7 @@ module _ (h : List Call) where
       go unknown = refl
       go unique = refl
 
-  pub watch_accept : (v : Watching) (w : Watch) (queue : List QueuedProbe) (a : Reply) → watch_refuses w (length queue) ≡ 0 → WatchFollows v h w queue
+  pub watch_accept : (v : Watching) (w : Option Monitor) (queue : List QueuedProbe) (a : Reply) → watch_refuses w (length queue) ≡ 0 → WatchFollows v h w queue
       → WatchFollows v (Accept a ∷ h) (watch_reply (is_unique (accepted_from h a)) w queue a).watch (watch_reply (is_unique (accepted_from h a)) w queue a).queue
   watch_accept v w queue a e f = go (is_unique (accepted_from h a)) refl
     where
@@ -171,38 +169,38 @@ module _ (h : List Call) where
       go true u = watch_unique v w queue a e (sym (says_unique a) ∙ u) f
       go false u = rw (reply_off w queue a) (watch_other v w queue a (sym (says_unique a) ∙ u) f)
 
-  pub watch_observe : (v : Watching) (w : Watch) (queue : List QueuedProbe) (o : ReplyObservation) → WatchFollows v h w queue → WatchFollows v (Observe o ∷ h) w queue
+  pub watch_observe : (v : Watching) (w : Option Monitor) (queue : List QueuedProbe) (o : ReplyObservation) → WatchFollows v h w queue → WatchFollows v (Observe o ∷ h) w queue
   unfolding monitor_from
-  watch_observe alone Absent queue o f = tt
-  watch_observe alone (Present m) queue o f = absurd f
-  watch_observe (watching threshold timeout) Absent queue o f = absurd f
-  watch_observe (watching threshold timeout) (Present m) queue o f = f
+  watch_observe alone None queue o f = tt
+  watch_observe alone (Some m) queue o f = absurd f
+  watch_observe (watching threshold timeout) None queue o f = absurd f
+  watch_observe (watching threshold timeout) (Some m) queue o f = f
 
-  pub watch_advance_lem : (v : Watching) (w : Watch) (queue : List QueuedProbe) (t : ℕ) → watch_refuses w (length queue) ≡ 0 → WatchFollows v h w queue
+  pub watch_advance_lem : (v : Watching) (w : Option Monitor) (queue : List QueuedProbe) (t : ℕ) → watch_refuses w (length queue) ≡ 0 → WatchFollows v h w queue
       → WatchFollows v (Advance t ∷ h) (watch_advance w queue t).watch (watch_advance w queue t).queue
   unfolding monitor_from
-  watch_advance_lem alone Absent queue t e f = tt
-  watch_advance_lem alone (Present m) queue t e f = absurd f
-  watch_advance_lem (watching threshold timeout) Absent queue t e f = absurd f
-  watch_advance_lem (watching threshold timeout) (Present m) queue t e f =
+  watch_advance_lem alone None queue t e f = tt
+  watch_advance_lem alone (Some m) queue t e f = absurd f
+  watch_advance_lem (watching threshold timeout) None queue t e f = absurd f
+  watch_advance_lem (watching threshold timeout) (Some m) queue t e f =
       subst (λ (q : Plain). Next (advance_if true m queue t) (advance q t)) (sym f.1.0) (advance-next (record { monitor = m; room = queue }) f.0 f.1.1 t e)
 
-  pub watch_idle_lem : (v : Watching) (w : Watch) (queue : List QueuedProbe) → watch_refuses w capacity ≡ 0 → WatchFollows v h w queue
+  pub watch_idle_lem : (v : Watching) (w : Option Monitor) (queue : List QueuedProbe) → watch_refuses w capacity ≡ 0 → WatchFollows v h w queue
       → WatchFollows v (Idle ∷ h) (watch_idle w queue).watch (watch_idle w queue).queue
   unfolding monitor_from
-  watch_idle_lem alone Absent queue e f = tt
-  watch_idle_lem alone (Present m) queue e f = absurd f
-  watch_idle_lem (watching threshold timeout) Absent queue e f = absurd f
-  watch_idle_lem (watching threshold timeout) (Present m) queue e f =
+  watch_idle_lem alone None queue e f = tt
+  watch_idle_lem alone (Some m) queue e f = absurd f
+  watch_idle_lem (watching threshold timeout) None queue e f = absurd f
+  watch_idle_lem (watching threshold timeout) (Some m) queue e f =
       rw e (subst (λ (q : Plain). Next (record { monitor = idle_on m; room = queue }) (idle q)) (sym f.1.0) (idle-next (record { monitor = m; room = queue }) f.0 f.1.1 e))
 
 -- ---- what is shown
 
-pub watch_shown : (v : Watching) (h : List Call) (w : Watch) (queue : List QueuedProbe) → WatchFollows v h w queue → WatchShows v h w queue
-watch_shown alone h Absent queue f = tt
-watch_shown alone h (Present m) queue f = f
-watch_shown (watching threshold timeout) h Absent queue f = f
-watch_shown (watching threshold timeout) h (Present m) queue f = record {
+pub watch_shown : (v : Watching) (h : List Call) (w : Option Monitor) (queue : List QueuedProbe) → WatchFollows v h w queue → WatchShows v h w queue
+watch_shown alone h None queue f = tt
+watch_shown alone h (Some m) queue f = f
+watch_shown (watching threshold timeout) h None queue f = f
+watch_shown (watching threshold timeout) h (Some m) queue f = record {
   state = record {
     summary = sym (ap (λ (r : Plain). r.summary) f.1.0);
     timeout = sym (ap (λ (r : Plain). r.timeout) f.1.0);
@@ -237,10 +235,10 @@ other_none a m room e = go (misplaced m room) (counted m.summary) (subst (λ (x 
     go false true z = absurd (omega (arith, z))
     go false false z = refl
 
-pub watch_serves_sent : (a : ℕ) (w : Watch) (room : ℕ) (s : SentProbe) → earlier a (watch_refuses_sent w room s) ≡ 0 → watch_refuses_sent w room s ≡ 0
-watch_serves_sent a Absent room s e = refl
-watch_serves_sent a (Present m) room s e = sent-none a m room s.packet.time e
+pub watch_serves_sent : (a : ℕ) (w : Option Monitor) (room : ℕ) (s : SentProbe) → earlier a (watch_refuses_sent w room s) ≡ 0 → watch_refuses_sent w room s ≡ 0
+watch_serves_sent a None room s e = refl
+watch_serves_sent a (Some m) room s e = sent-none a m room s.packet.time e
 
-pub watch_serves : (a : ℕ) (w : Watch) (room : ℕ) → earlier a (watch_refuses w room) ≡ 0 → watch_refuses w room ≡ 0
-watch_serves a Absent room e = refl
-watch_serves a (Present m) room e = other_none a m room e
+pub watch_serves : (a : ℕ) (w : Option Monitor) (room : ℕ) → earlier a (watch_refuses w room) ≡ 0 → watch_refuses w room ≡ 0
+watch_serves a None room e = refl
+watch_serves a (Some m) room e = other_none a m room e

@@ -1,5 +1,7 @@
 -- Which call is refused, and with which number, follows from the served calls; and which refusals a link made fresh can meet.
 -- Assumes nothing.
+use Rattle.std.specs.Prelude.{Option, Some, None}
+use Rattle.monitor.specs.declared.Monitor.{Monitor}
 use mathlib.Core.Path.{◌≡◌, refl, sym, ap, ◌∙◌}
 use mathlib.Core.Bool.{Bool, true, false, ◌&&◌}
 use mathlib.Core.List.{List}
@@ -30,8 +32,6 @@ use Rattle.ledger_steps.specs.Sent.{SentOutcome}
 use Rattle.ledger_steps.specs.Accept.{AcceptOutcome}
 use Rattle.ledger_steps.specs.Observe.{ObserveOutcome}
 use Rattle.ledger_steps.specs.Calls.{number, accept_number, sent_by, accept_by, observe_by, sent_to, accept_to, observe_to}
-use Rattle.link_steps.specs.declared.Watch.{Watch}
-use Rattle.link_steps.specs.declared.Watch.TheVariants.{Absent, Present}
 use Rattle.link_steps.specs.Steps.{LinkStand, watch_refuses_sent, watch_refuses, refuses}
 use Rattle.link_history.specs.Fresh.{Watching, alone, watching, stand_of}
 use Rattle.link_history.specs.Shows.{calls_in, awaits_from}
@@ -60,34 +60,34 @@ observe-number (suc n) o slots offsets links = refl
 -- ---- the monitor's refusals
 
 module _ (v : Watching) (h : List Call) where
-  sent-other : (w : Watch) (queue : List QueuedProbe) (s : SentProbe) → WatchFollows v h w queue → watch_refuses_sent w (length queue) s ≡ monitor_refuses_sent v h s.packet.time
+  sent-other : (w : Option Monitor) (queue : List QueuedProbe) (s : SentProbe) → WatchFollows v h w queue → watch_refuses_sent w (length queue) s ≡ monitor_refuses_sent v h s.packet.time
   sent-other = by v
     where
-      by : (x : Watching) (w : Watch) (queue : List QueuedProbe) (s : SentProbe) → WatchFollows x h w queue → watch_refuses_sent w (length queue) s ≡ monitor_refuses_sent x h s.packet.time
-      by alone Absent queue s f = refl
-      by alone (Present m) queue s f = absurd f
-      by (watching threshold timeout) Absent queue s f = absurd f
-      by (watching threshold timeout) (Present m) queue s f =
+      by : (x : Watching) (w : Option Monitor) (queue : List QueuedProbe) (s : SentProbe) → WatchFollows x h w queue → watch_refuses_sent w (length queue) s ≡ monitor_refuses_sent x h s.packet.time
+      by alone None queue s f = refl
+      by alone (Some m) queue s f = absurd f
+      by (watching threshold timeout) None queue s f = absurd f
+      by (watching threshold timeout) (Some m) queue s f =
           same-sent_refusal (record { monitor = m; room = queue }) f.0 f.1.1 s.packet.time ∙ ap (λ (p : Plain). sent_refusal p s.packet.time) (sym f.1.0)
 
-  other : (w : Watch) (queue : List QueuedProbe) → WatchFollows v h w queue → watch_refuses w (length queue) ≡ monitor_refuses v h
+  other : (w : Option Monitor) (queue : List QueuedProbe) → WatchFollows v h w queue → watch_refuses w (length queue) ≡ monitor_refuses v h
   other = by v
     where
-      by : (x : Watching) (w : Watch) (queue : List QueuedProbe) → WatchFollows x h w queue → watch_refuses w (length queue) ≡ monitor_refuses x h
-      by alone Absent queue f = refl
-      by alone (Present m) queue f = absurd f
-      by (watching threshold timeout) Absent queue f = absurd f
-      by (watching threshold timeout) (Present m) queue f = same-refusal (record { monitor = m; room = queue }) f.0 f.1.1 ∙ ap refusal (sym f.1.0)
+      by : (x : Watching) (w : Option Monitor) (queue : List QueuedProbe) → WatchFollows x h w queue → watch_refuses w (length queue) ≡ monitor_refuses x h
+      by alone None queue f = refl
+      by alone (Some m) queue f = absurd f
+      by (watching threshold timeout) None queue f = absurd f
+      by (watching threshold timeout) (Some m) queue f = same-refusal (record { monitor = m; room = queue }) f.0 f.1.1 ∙ ap refusal (sym f.1.0)
 
   -- `idle` is lent no room
-  idle-other : (w : Watch) (queue : List QueuedProbe) → WatchFollows v h w queue → watch_refuses w capacity ≡ monitor_refuses v h
+  idle-other : (w : Option Monitor) (queue : List QueuedProbe) → WatchFollows v h w queue → watch_refuses w capacity ≡ monitor_refuses v h
   idle-other = by v
     where
-      by : (x : Watching) (w : Watch) (queue : List QueuedProbe) → WatchFollows x h w queue → watch_refuses w capacity ≡ monitor_refuses x h
-      by alone Absent queue f = refl
-      by alone (Present m) queue f = absurd f
-      by (watching threshold timeout) Absent queue f = absurd f
-      by (watching threshold timeout) (Present m) queue f =
+      by : (x : Watching) (w : Option Monitor) (queue : List QueuedProbe) → WatchFollows x h w queue → watch_refuses w capacity ≡ monitor_refuses x h
+      by alone None queue f = refl
+      by alone (Some m) queue f = absurd f
+      by (watching threshold timeout) None queue f = absurd f
+      by (watching threshold timeout) (Some m) queue f =
           ap (monitor.refusal_of m) (sym f.1.1.long) ∙ same-refusal (record { monitor = m; room = queue }) f.0 f.1.1 ∙ ap refusal (sym f.1.0)
 
 -- ---- the calls

@@ -1,6 +1,8 @@
 -- The customer's sentences, each a theorem about what the code's own calls show: of a link made fresh over any rooms, after any calls cs, refused
 -- ones included; h are the served ones.
 -- Assumes nothing.
+use Rattle.ledger_state.specs.declared.Ledger.{Ledger}
+use Rattle.std.specs.Prelude.{None, Result, Ok, Err}
 use mathlib.Core.Path.{◌≡◌, refl, sym, ap, subst, ◌∙◌}
 use mathlib.Core.Bool.{Bool, true, false, cond}
 use mathlib.Core.Logic.{◌↔◌}
@@ -31,12 +33,9 @@ use Rattle.history.proofs.Sentences.{duplicate_exactly, replies-add_up, unique-i
 use Rattle.clock_quality.specs.Samples.{AddsUp}
 use Rattle.ledger_snapshot.specs.declared.Snapshot.{Snapshot}
 use Rattle.ledger_snapshot.specs.Snapshot.{snapshot_of}
-use Rattle.thousandths.specs.declared.Thousandths.TheVariants.{Absent}
 use Rattle.thousandths.specs.Thousandths.{thousandths_by, thousandths_of, known_of}
 use Rattle.ledger_steps.specs.declared.Accepted.{Accepted}
 use Rattle.ledger_steps.specs.declared.Accepted.TheVariants as accepted
-use Rattle.ledger_steps.specs.declared.AcceptAnswer.{AcceptAnswer}
-use Rattle.ledger_steps.specs.declared.AcceptAnswer.TheVariants as accepts
 use Rattle.reply_history.specs.Fits.{KeyFits}
 use Rattle.reply_history.specs.Follows.{as_accepted, keys_table}
 use Rattle.reply_history.proofs.AddUp.{remembered-add_up, evicted-add_up}
@@ -51,14 +50,14 @@ use Rattle.link_history.proofs.Follows.{Follow, link_follows}
 use Rattle.link_history.proofs.Shows.{ledger_follows}
 
 -- a test of the answer
-abbrev says_duplicate : AcceptAnswer → Bool
-says_duplicate (accepts.Served l accepted.Duplicate) = true
-says_duplicate (accepts.Served l accepted.Unknown) = false
-says_duplicate (accepts.Served l (accepted.Unique p o t)) = false
-says_duplicate (accepts.Refused n) = false
+abbrev says_duplicate : Result (Ledger × Accepted) ℕ → Bool
+says_duplicate (Ok (l, accepted.Duplicate)) = true
+says_duplicate (Ok (l, accepted.Unknown)) = false
+says_duplicate (Ok (l, accepted.Unique p o t)) = false
+says_duplicate (Err n) = false
 
 -- there is no figure of loss exactly when nothing was requested
-absent_exactly : (unobserved requested : ℕ) → (thousandths_of unobserved requested ≡ Absent) ↔ (requested ≡ 0)
+absent_exactly : (unobserved requested : ℕ) → (thousandths_of unobserved requested ≡ None) ↔ (requested ≡ 0)
 unfolding thousandths_of
 absent_exactly u zero = (λ e. refl, λ e. refl)
 absent_exactly u (suc n) = (
@@ -88,10 +87,10 @@ module _ (m : Making) (ok : MakingFits m) (cs : List Call) (w : AllFits cs) wher
   module _ (a : Reply) (fits : KeyFits a.key) (taken : refuses k (Accept a) ≡ 0) where
     -- it is answered so
     abbrev AnsweredAs : Accepted → Type 0
-    AnsweredAs x = (accept_result k a).answer ≡ accepts.Served (after k (Accept a)).link.ledger x
+    AnsweredAs x = (accept_result k a).answer ≡ Ok ((after k (Accept a)).link.ledger, x)
 
     class_of : (x : Class) → reply_class capacity (events capacity h) a.key (packet_of a.pending) ≡ x
-        → says_duplicate (accepts.Served (after k (Accept a)).link.ledger (as_accepted (answer_by capacity x (events capacity h) a.key (packet_of a.pending)))) ≡ true
+        → says_duplicate (Ok ((after k (Accept a)).link.ledger, as_accepted (answer_by capacity x (events capacity h) a.key (packet_of a.pending)))) ≡ true
         → reply_class capacity (events capacity h) a.key (packet_of a.pending) ≡ duplicate
     class_of duplicate e d = e
     class_of unknown e d = absurd (true_not_false d refl)
@@ -105,7 +104,7 @@ module _ (m : Making) (ok : MakingFits m) (cs : List Call) (w : AllFits cs) wher
     unfolding answer
     is_answer e =
         shows.accepted a fits taken
-        ∙ ap (λ (x : Class). accepts.Served (after k (Accept a)).link.ledger (as_accepted (answer_by capacity x (events capacity h) a.key (packet_of a.pending)))) e
+        ∙ ap (λ (x : Class). Ok ((after k (Accept a)).link.ledger, as_accepted (answer_by capacity x (events capacity h) a.key (packet_of a.pending)))) e
 
     pub duplicate_is_exact : AnsweredAs accepted.Duplicate ↔ Memᴰ a.key (last_accepted capacity (events capacity h))
     duplicate_is_exact = (
@@ -161,7 +160,7 @@ module _ (m : Making) (ok : MakingFits m) (cs : List Call) (w : AllFits cs) wher
 
   -- ---- no figure of loss is shown exactly when nothing was requested
 
-  pub silent_shows_no_figure : (shown.thousandths ≡ Absent) ↔ (shown.replies.totals.requested ≡ 0)
+  pub silent_shows_no_figure : (shown.thousandths ≡ None) ↔ (shown.replies.totals.requested ≡ 0)
   unfolding snapshot_of
   silent_shows_no_figure = absent_exactly _ _
 

@@ -1,5 +1,7 @@
 -- From a link made fresh, after any calls, refused ones included: what the code's state and rooms show is what the served calls call for.
 -- Assumes nothing.
+use Rattle.ledger_steps.specs.declared.Accepted.{Accepted}
+use Rattle.std.specs.Prelude.{Ok}
 use mathlib.Core.Path.{◌≡◌, refl, sym, ap, ◌∙◌, subst}
 use mathlib.Core.Bool.{Bool, true, ◌&&◌}
 use mathlib.Core.List.{List}
@@ -25,8 +27,6 @@ use Rattle.ledger_state.specs.BurstWait.{burst_wait}
 use Rattle.ledger_snapshot.specs.Snapshot.{snapshot_of}
 use Rattle.thousandths.specs.Thousandths.{thousandths_of}
 use Rattle.direct.specs.Outcomes.{seen_in}
-use Rattle.ledger_steps.specs.declared.AcceptAnswer.TheVariants as accepts
-use Rattle.ledger_steps.specs.declared.AnsweredAnswer.TheVariants as answers
 use Rattle.ledger_steps.specs.Rooms.{LedgerStand}
 use Rattle.ledger_steps.specs.Accept.{AcceptOutcome, accept_in, accept_on}
 use Rattle.ledger_steps.specs.Readers.{answered_in, answered_on}
@@ -146,9 +146,9 @@ module _ (words : List ℕ) (copies : ℕ) (h : List Call) (k : LinkStand) (f : 
       subst (λ (w : List ℕ). answered_in capacity (hash_of w) (number_hash w) l k.rooms.probes k.rooms.links q ≡ answered_from h q) (sym f.words_are)
       (shown-answered capacity (hash_of words) (number_hash words) copies h s f.replies q)
 
-  pub answered_is : (q : ℕ) → answered_to l k.rooms.probes k.rooms.links q ≡ answers.Served (answered_from h q)
+  pub answered_is : (q : ℕ) → answered_to l k.rooms.probes k.rooms.links q ≡ Ok (answered_from h q)
   unfolding answered_to
-  answered_is q = ap (λ (n : ℕ). answered_by n (answered_on l k.rooms.probes k.rooms.links q)) answered-served ∙ ap answers.Served (answered_on_lem q)
+  answered_is q = ap (λ (n : ℕ). answered_by n (answered_on l k.rooms.probes k.rooms.links q)) answered-served ∙ ap Ok (answered_on_lem q)
 
   module _ (copies_in : copies < 2 ^ 16) (fit : AllFit h) where
     accepted_on : (a : Reply) → KeyFits a.key → (accept_on l k.rooms.keys k.rooms.slots k.rooms.probes k.rooms.links a).accepted ≡ accepted_from h a
@@ -156,7 +156,7 @@ module _ (words : List ℕ) (copies : ℕ) (h : List Call) (k : LinkStand) (f : 
         subst (λ (w : List ℕ). (accept_in capacity (hash_of w) (number_hash w) l k.rooms.keys k.rooms.slots k.rooms.probes k.rooms.links a).accepted ≡ accepted_from h a) (sym f.words_are)
         (accept_follows capacity (omega arith) (hash_of words) (number_hash words) (key_below words) (number_hash-below words) copies copies_in h fit s a fits f.replies).answers
 
-    pub accepted_is : (a : Reply) → KeyFits a.key → refuses k (Accept a) ≡ 0 → (accept_result k a).answer ≡ accepts.Served (after k (Accept a)).link.ledger (accepted_from h a)
+    pub accepted_is : (a : Reply) → KeyFits a.key → refuses k (Accept a) ≡ 0 → (accept_result k a).answer ≡ Ok ((after k (Accept a)).link.ledger, accepted_from h a)
     unfolding refuses after accept_to
     accepted_is a fits = go (refusal_of_accept (watch_refuses k.link.watch (length k.queue)) l (length k.rooms.keys) (length k.rooms.slots) (length k.rooms.probes) (length k.rooms.links))
       where
@@ -165,8 +165,8 @@ module _ (words : List ℕ) (copies : ℕ) (h : List Call) (k : LinkStand) (f : 
 
         go : (n : ℕ) → accept_number (accept_by n o k.rooms.keys k.rooms.slots k.rooms.probes k.rooms.links).answer ≡ 0
             → (accept_by n o k.rooms.keys k.rooms.slots k.rooms.probes k.rooms.links).answer
-            ≡ accepts.Served (ledger_of_accept l (accept_by n o k.rooms.keys k.rooms.slots k.rooms.probes k.rooms.links).answer) (accepted_from h a)
-        go zero e = ap (accepts.Served o.ledger) (accepted_on a fits)
+            ≡ Ok (ledger_of_accept l (accept_by n o k.rooms.keys k.rooms.slots k.rooms.probes k.rooms.links).answer, accepted_from h a)
+        go zero e = ap (λ (x : Accepted). Ok (o.ledger, x)) (accepted_on a fits)
         go (suc n) e = absurd (omega (arith, e))
 
     pub ledger_shows : LedgerShows copies h k

@@ -1,9 +1,9 @@
 -- Of the served calls: each round trip and each delay of a follow-up is below 2^64, so their sums stay small.
 -- Assumes nothing.
+use Rattle.std.specs.Prelude.{Some, None, Option}
 use mathlib.Core.Path.{◌≡◌, sym, subst}
 use mathlib.Core.Bool.{Bool, true, false, ◌&&◌, cond}
 use mathlib.Core.List.{List, [], ◌∷◌}
-use mathlib.Core.Option.{Option, none, some}
 use Prim.Native.Nat.{ℕ, zero, suc, ◌*◌, ◌^◌, ◌≤◌, ◌<◌}
 use native.Mathlib.Nat.{mul-le-mul_right}
 use native.Mathlib.Omega.{arith}
@@ -12,8 +12,6 @@ use lib.IntN.{ℤ, pos, negsuc, nat_abs, ◌+ℤ◌, ◌-ℤ◌, ◌*ℤ◌}
 use lib.ListN.{length}
 use borrow.Author.Tests.{leb-true}
 use Rattle.limits.specs.Limits.{capacity}
-use Rattle.call_types.specs.declared.Time.{Time}
-use Rattle.call_types.specs.declared.Time.TheVariants as time
 use Rattle.call_types.specs.declared.ReplyKey.{ReplyKey}
 use Rattle.call_types.specs.declared.FollowUpTelemetry.{FollowUpTelemetry}
 use Rattle.call_types.specs.declared.PendingPacket.{PendingPacket}
@@ -42,17 +40,17 @@ use Rattle.link_history.proofs.Calls.{played_keeps}
 
 -- a time that is not outside ±4·10^18 ns
 abbrev TimeIn : Option ℤ → Type 0
-TimeIn none = Unit
-TimeIn (some z) = nat_abs z ≤ 4000000000000000000
+TimeIn None = Unit
+TimeIn (Some z) = nat_abs z ≤ 4000000000000000000
 
 pub record ObservedIn (o : ReplyObservation) : Type 0 where
   pub rtt_in : o.rtt < 2 ^ 64
   pub t4_in : TimeIn (time_of o.t4)
   pub offset_in : nat_abs o.offset ≤ 86400
 
-time_in : (t : Time) → time_fits t ≡ true → TimeIn (time_of t)
-time_in time.Absent e = tt
-time_in (time.Nanoseconds z) e = leb-true (nat_abs z) 4000000000000000000 e
+time_in : (t : Option ℤ) → time_fits t ≡ true → TimeIn (time_of t)
+time_in None e = tt
+time_in (Some z) e = leb-true (nat_abs z) 4000000000000000000 e
 
 -- what is converted is not outside either
 converted_in_lem : (r : Kept) (w : ℕ) (offset : ℤ) → TimeIn (converted_in r w offset)
@@ -77,7 +75,7 @@ ready_in : (es : List Event) (k : ReplyKey) (p : Option PendingPacket) → Event
 unfolding ready EventsIn
 ready_in es k p w = go (has (held capacity es) k.sender)
   where
-    go : (b : Bool) → EventsIn (cond b es (remembered k.sender none 0 (or_else p no_packet) ∷ es))
+    go : (b : Bool) → EventsIn (cond b es (remembered k.sender None 0 (or_else p no_packet) ∷ es))
     go true = w
     go false = w
 
@@ -126,8 +124,8 @@ trips_in (observed o ∷ es) w = (omega (arith, w.0.rtt_in), trips_in es w.1)
 -- ---- the slots
 
 abbrev KeptIn : Option Kept → Type 0
-KeptIn none = Unit
-KeptIn (some r) = TimeIn r.t4
+KeptIn None = Unit
+KeptIn (Some r) = TimeIn r.t4
 
 abbrev SlotIn : Slot → Type 0
 SlotIn free = Unit
@@ -154,17 +152,17 @@ either_in false s t p q = q
 record_in : (copies : ℕ) (o : ReplyObservation) → ObservedIn o → KeptIn (record_of copies o)
 record_in copies o w = go (ltb 1 copies && eqb o.key.sender o.key.reflector)
   where
-    go : (b : Bool) → KeptIn (cond b none (some (record { t4 = time_of o.t4; format = o.format; reference = o.reference; quality = estimates_of o.quality })))
+    go : (b : Bool) → KeptIn (cond b None (Some (record { t4 = time_of o.t4; format = o.format; reference = o.reference; quality = estimates_of o.quality })))
     go true = tt
     go false = w.t4_in
 
 evicting_in : (k : Option ReplyKey) (r : ℕ) (s : Slot) → SlotIn s → SlotIn (evicting k r s)
-evicting_in none r s w = w
-evicting_in (some k) r s w = either_in (eqb r k.reflector) (lower s) s (lower_in s w) w
+evicting_in None r s w = w
+evicting_in (Some k) r s w = either_in (eqb r k.reflector) (lower s) s (lower_in s w) w
 
 following_in : (f : Option FollowUpTelemetry) (own : ℕ) (offset : ℤ) (slot : ℕ → Slot) (r : ℕ) → SlotIn (slot r) → SlotIn (following f own offset slot r)
-following_in none own offset slot r w = w
-following_in (some f) own offset slot r w =
+following_in None own offset slot r w = w
+following_in (Some f) own offset slot r w =
     either_in (same_follow matched (follow_class f own offset (slot f.sequence)) && eqb r f.sequence) (correct (slot r)) (slot r) (correct_in (slot r) w) w
 
 slot_in_lem : (copies : ℕ) (es : List Event) → EventsIn es → (r : ℕ) → SlotIn (slot_at capacity copies es r)
@@ -187,19 +185,19 @@ delay_few t4 t3 offset a b c =
 
 by_in : (a b : Option ℤ) (offset : ℤ) (q : Option EstimatePair) (ms : List Measured) → TimeIn a → TimeIn b → nat_abs offset ≤ 86400 → AllIn (delays ms) → AllIn (delays (with_times a b offset q ms))
 unfolding delays
-by_in (some a) (some b) offset q ms x y z w = (delay_few a b offset x y z, w)
-by_in (some a) none offset q ms x y z w = w
-by_in none b offset q ms x y z w = w
+by_in (Some a) (Some b) offset q ms x y z w = (delay_few a b offset x y z, w)
+by_in (Some a) None offset q ms x y z w = w
+by_in None b offset q ms x y z w = w
 
 in_in : (s : Slot) (w : ℕ) (offset : ℤ) (ms : List Measured) → SlotIn s → nat_abs offset ≤ 86400 → AllIn (delays ms) → AllIn (delays (with_slot s w offset ms))
 in_in free w offset ms x z v = v
-in_in (taken n none c) w offset ms x z v = v
-in_in (taken n (some r) c) w offset ms x z v = by_in r.t4 (converted_in r w offset) offset r.quality ms x (converted_in_lem r w offset) z v
+in_in (taken n None c) w offset ms x z v = v
+in_in (taken n (Some r) c) w offset ms x z v = by_in r.t4 (converted_in r w offset) offset r.quality ms x (converted_in_lem r w offset) z v
 
 of_in : (copies : ℕ) (f : Option FollowUpTelemetry) (o : ReplyObservation) (es : List Event) (ms : List Measured) → EventsIn es → nat_abs o.offset ≤ 86400 → AllIn (delays ms)
     → AllIn (delays (with_follow capacity copies f o es ms))
-of_in copies none o es ms v z w = w
-of_in copies (some f) o es ms v z w = go (same_follow matched (class_at capacity copies f o.key.reflector o.offset es))
+of_in copies None o es ms v z w = w
+of_in copies (Some f) o es ms v z w = go (same_follow matched (class_at capacity copies f o.key.reflector o.offset es))
   where
     go : (b : Bool) → AllIn (delays (cond b (with_slot (slot_at capacity copies es f.sequence) f.timestamp o.offset ms) ms))
     go true = in_in (slot_at capacity copies es f.sequence) f.timestamp o.offset ms (slot_in_lem copies es v f.sequence) z w

@@ -1,5 +1,7 @@
 -- "Each returns its number only and changes nothing": a refused call leaves the whole link as it was, the ledger, its rooms, the monitor and its queue.
 -- Assumes nothing.
+use Rattle.std.specs.Prelude.{Option, Some, None}
+use Rattle.monitor.specs.declared.Monitor.{Monitor}
 use mathlib.Core.Path.{◌≡◌, refl, ap}
 use mathlib.Core.Bool.{false}
 use mathlib.Core.List.{List}
@@ -20,34 +22,32 @@ use Rattle.ledger_steps.specs.Sent.{SentOutcome, sent_on}
 use Rattle.ledger_steps.specs.Accept.{AcceptOutcome, accept_on}
 use Rattle.ledger_steps.specs.Observe.{ObserveOutcome, observe_on}
 use Rattle.ledger_steps.specs.Calls.{number, accept_number, sent_by, accept_by, observe_by, sent_to, accept_to, observe_to}
-use Rattle.link_steps.specs.declared.Watch.{Watch}
-use Rattle.link_steps.specs.declared.Watch.TheVariants.{Absent, Present}
 use Rattle.link_steps.specs.Steps.{LinkStand, Watched, standing, watch_refuses_sent, watch_refuses, watch_sent, watch_reply, watch_advance, watch_idle, sent_leaves, accept_leaves, observe_leaves, refuses, after}
 
 -- a monitor and its queue, as they are
-abbrev pub kept : Watch → List QueuedProbe → Watched
+abbrev pub kept : Option Monitor → List QueuedProbe → Watched
 kept w queue = record { watch = w; queue = queue }
 
 -- ---- the monitor, where the call does not go on or is refused
 
-sent_off : (w : Watch) (queue : List QueuedProbe) (s : SentProbe) → watch_sent false w queue s ≡ kept w queue
+sent_off : (w : Option Monitor) (queue : List QueuedProbe) (s : SentProbe) → watch_sent false w queue s ≡ kept w queue
 unfolding sent_if
-sent_off Absent queue s = refl
-sent_off (Present m) queue s = refl
+sent_off None queue s = refl
+sent_off (Some m) queue s = refl
 
-pub reply_off : (w : Watch) (queue : List QueuedProbe) (a : Reply) → watch_reply false w queue a ≡ kept w queue
+pub reply_off : (w : Option Monitor) (queue : List QueuedProbe) (a : Reply) → watch_reply false w queue a ≡ kept w queue
 unfolding reply_if
-reply_off Absent queue a = refl
-reply_off (Present m) queue a = refl
+reply_off None queue a = refl
+reply_off (Some m) queue a = refl
 
-advance_off : (w : Watch) (queue : List QueuedProbe) (t n : ℕ) → watch_refuses w (length queue) ≡ suc n → watch_advance w queue t ≡ kept w queue
+advance_off : (w : Option Monitor) (queue : List QueuedProbe) (t n : ℕ) → watch_refuses w (length queue) ≡ suc n → watch_advance w queue t ≡ kept w queue
 unfolding advance_if
-advance_off Absent queue t n e = refl
-advance_off (Present m) queue t n e = rw (e, eq_false (suc n) 0 (λ q. omega (arith, q)))
+advance_off None queue t n e = refl
+advance_off (Some m) queue t n e = rw (e, eq_false (suc n) 0 (λ q. omega (arith, q)))
 
-idle_off : (w : Watch) (queue : List QueuedProbe) (n : ℕ) → watch_refuses w capacity ≡ suc n → watch_idle w queue ≡ kept w queue
-idle_off Absent queue n e = refl
-idle_off (Present m) queue n e = rw (e, eq_false (suc n) 0 (λ q. omega (arith, q)))
+idle_off : (w : Option Monitor) (queue : List QueuedProbe) (n : ℕ) → watch_refuses w capacity ≡ suc n → watch_idle w queue ≡ kept w queue
+idle_off None queue n e = refl
+idle_off (Some m) queue n e = rw (e, eq_false (suc n) 0 (λ q. omega (arith, q)))
 
 -- ---- the calls
 

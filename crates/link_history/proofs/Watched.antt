@@ -1,5 +1,8 @@
 -- A link made fresh, after any calls, refused ones included: what its monitor shows follows from the served calls.
 -- Assumes nothing.
+use Rattle.std.specs.Prelude.{Result}
+use Rattle.ledger_state.specs.declared.Ledger.{Ledger}
+use Rattle.ledger_steps.specs.declared.Accepted.{Accepted}
 use mathlib.Core.Path.{◌≡◌, refl, sym, subst}
 use mathlib.Core.List.{List, [], ◌∷◌}
 use Prim.Native.Nat.{ℕ, zero, suc}
@@ -10,7 +13,6 @@ use Rattle.call_types.specs.declared.Reply.{Reply}
 use Rattle.call_types.specs.declared.Call.{Call}
 use Rattle.call_types.specs.declared.Call.TheVariants.{Sent, Accept, Observe, Advance, Idle}
 use Rattle.history.specs.Ledger.{copies_of}
-use Rattle.ledger_steps.specs.declared.AcceptAnswer.{AcceptAnswer}
 use Rattle.ledger_steps.specs.Refusals.{refusal_of_sent, refusal_of_accept}
 use Rattle.ledger_steps.specs.Sent.{SentOutcome, sent_on}
 use Rattle.ledger_steps.specs.Accept.{AcceptOutcome, accept_on}
@@ -65,7 +67,7 @@ module _ (v : Watching) (copies : ℕ) (h : List Call) (k : LinkStand) (shows : 
   accept-left : (a : Reply) → KeyFits a.key → refuses k (Accept a) ≡ 0 → Left (Accept a) (after k (Accept a))
   unfolding after
   accept-left a fits e =
-      subst (λ (x : AcceptAnswer). WatchFollows v (Accept a ∷ h) (watch_reply (was_unique x) k.link.watch k.queue a).watch (watch_reply (was_unique x) k.link.watch k.queue a).queue)
+      subst (λ (x : Result (Ledger × Accepted) ℕ). WatchFollows v (Accept a ∷ h) (watch_reply (was_unique x) k.link.watch k.queue a).watch (watch_reply (was_unique x) k.link.watch k.queue a).queue)
       (sym (shows.accepted a fits e))
       (watch_accept h v k.link.watch k.queue a (accept-other a e) f)
 

@@ -1,6 +1,7 @@
 -- A link as the code makes it fresh, over any rooms of the right size, whatever they held; and calls whose numbers fit their types.
 -- Assumes nothing.
-use Rattle.std.specs.Prelude.{◌≡◌, List, [], ◌∷◌, ℕ, ◌^◌, ◌<◌, length}
+use Rattle.monitor.specs.declared.Monitor.{Monitor}
+use Rattle.std.specs.Prelude.{◌≡◌, List, [], ◌∷◌, ℕ, ◌^◌, ◌<◌, length, Option, Some, None}
 use Rattle.limits.specs.Limits.{capacity}
 use Rattle.call_types.specs.declared.Call.{Call}
 use Rattle.call_types.specs.declared.Call.TheVariants.{Sent, Accept, Observe, Advance, Idle}
@@ -11,8 +12,6 @@ use Rattle.ledger_steps.specs.Rooms.{Rooms, LedgerStand}
 use Rattle.reply_history.specs.Fits.{CallFits}
 use Rattle.reply_history.specs.Stands.{RoomsFit}
 use Rattle.observe_history.specs.FollowUps.{QualityFits}
-use Rattle.link_steps.specs.declared.Watch.{Watch}
-use Rattle.link_steps.specs.declared.Watch.TheVariants.{Absent, Present}
 use Rattle.link_steps.specs.Steps.{LinkStand}
 
 -- ---- how a link is made
@@ -44,9 +43,9 @@ pub record MakingFits (m : Making) : Type 0 where
 -- ---- the fresh link: what `fresh` of crate ledger_state and `new` of crate monitor hand back
 
 -- the monitor, or none
-abbrev pub fresh_watch : Watching → Watch
-fresh_watch alone = Absent
-fresh_watch (watching threshold timeout) = Present (fresh threshold timeout)
+abbrev pub fresh_watch : Watching → Option Monitor
+fresh_watch alone = None
+fresh_watch (watching threshold timeout) = Some (fresh threshold timeout)
 
 -- the ledger and the monitor, with the rooms as they are
 abbrev pub fresh_link : Making → LinkStand

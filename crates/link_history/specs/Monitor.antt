@@ -1,7 +1,7 @@
 -- The monitor of a link, from the plain list of its served calls, newest first: the plain model of crate monitor_model, without ring or room.
 -- With a monitor, `sent` and `accept` drive it: a unique reply is a reply to the monitor.
 -- Assumes nothing.
-use Rattle.std.specs.Prelude.{◌≡◌, cond, List, [], ◌∷◌, ℕ}
+use Rattle.std.specs.Prelude.{◌≡◌, cond, List, [], ◌∷◌, ℕ, Option, Some, None}
 use Rattle.limits.specs.Limits.{capacity}
 use Rattle.call_types.specs.declared.Call.{Call}
 use Rattle.call_types.specs.declared.Call.TheVariants.{Sent, Accept, Observe, Advance, Idle}
@@ -12,8 +12,6 @@ use Rattle.monitor_model.specs.Plain.{Plain, new, sent, reply, advance, idle, de
 use Rattle.monitor_model.specs.Playing.{Shows}
 use Rattle.history.specs.Given.{packet_of}
 use Rattle.history.specs.Ledger.{unique?, events}
-use Rattle.link_steps.specs.declared.Watch.{Watch}
-use Rattle.link_steps.specs.declared.Watch.TheVariants.{Absent, Present}
 use Rattle.link_history.specs.Fresh.{Watching, alone, watching}
 
 -- the plain monitor after the served calls
@@ -32,8 +30,8 @@ pub record MonitorShows (m : Monitor) (queue : List QueuedProbe) (p : Plain) : T
   pub deadline_is : deadline_of m queue ≡ deadline p.probes
 
 -- WHAT THE MONITOR OF A LINK SHOWS IS WHAT THE SERVED CALLS h CALL FOR; a link made without a monitor has none.
-abbrev pub WatchShows : Watching → List Call → Watch → List QueuedProbe → Type 0
-WatchShows alone h Absent queue = Unit
-WatchShows alone h (Present m) queue = ⊥
-WatchShows (watching threshold timeout) h Absent queue = ⊥
-WatchShows (watching threshold timeout) h (Present m) queue = MonitorShows m queue (monitor_from threshold timeout h)
+abbrev pub WatchShows : Watching → List Call → Option Monitor → List QueuedProbe → Type 0
+WatchShows alone h None queue = Unit
+WatchShows alone h (Some m) queue = ⊥
+WatchShows (watching threshold timeout) h None queue = ⊥
+WatchShows (watching threshold timeout) h (Some m) queue = MonitorShows m queue (monitor_from threshold timeout h)

@@ -1,7 +1,6 @@
 -- What a link shows, from the plain list h of its served calls, newest first (crate history): every count, figure and answer.
 -- Assumes nothing.
-use Rattle.std.specs.Prelude.{◌≡◌, Bool, true, false, not, ◌&&◌, List, ℕ, eqb, ltb}
-use Rattle.std.proofs.Math.Option.{Option, none, some}
+use Rattle.std.specs.Prelude.{◌≡◌, Bool, true, false, not, ◌&&◌, List, ℕ, eqb, ltb, Some, None, Option, Ok}
 use Rattle.limits.specs.Limits.{capacity}
 use Rattle.call_types.specs.declared.ReplyKey.{ReplyKey}
 use Rattle.call_types.specs.declared.Reply.{Reply}
@@ -23,11 +22,7 @@ use Rattle.ledger_state.specs.declared.Counts.{Counts}
 use Rattle.ledger_snapshot.specs.declared.Snapshot.{Snapshot}
 use Rattle.ledger_state.specs.BurstWait.{burst_wait}
 use Rattle.ledger_snapshot.specs.Snapshot.{snapshot_of}
-use Rattle.thousandths.specs.declared.Thousandths.{Thousandths}
-use Rattle.thousandths.specs.declared.Thousandths.TheVariants.{Absent, Known}
 use Rattle.ledger_steps.specs.declared.Accepted.{Accepted}
-use Rattle.ledger_steps.specs.declared.AcceptAnswer.TheVariants as accepts
-use Rattle.ledger_steps.specs.declared.AnsweredAnswer.TheVariants as answers
 use Rattle.ledger_steps.specs.Refusals.{awaits_key}
 use Rattle.ledger_steps.specs.Calls.{answered_to}
 use Rattle.link_steps.specs.Steps.{LinkStand, accept_result, refuses, after}
@@ -39,9 +34,9 @@ abbrev pub lost_of : ReplyCounts → ℕ
 lost_of c = unobserved c.requested c.satisfied
 
 -- the figure of loss, or none, as the snapshot holds it
-abbrev pub thousandths_from : Option ℕ → Thousandths
-thousandths_from none = Absent
-thousandths_from (some n) = Known n
+abbrev pub thousandths_from : Option ℕ → Option ℕ
+thousandths_from None = None
+thousandths_from (Some n) = Some n
 
 -- every field of the snapshot
 abbrev pub snapshot_from : (copies : ℕ) → List Call → Snapshot
@@ -104,6 +99,6 @@ pub record LedgerShows (copies : ℕ) (h : List Call) (k : LinkStand) : Type 0 w
   pub calls : k.link.ledger.calls ≡ calls_in h
   pub waits : burst_wait k.link.ledger ≡ wait_from copies h
   pub awaits : (key : ReplyKey) → awaits_key k.link.ledger k.rooms.keys key ≡ awaits_from h key
-  pub answered : (q : ℕ) → answered_to k.link.ledger k.rooms.probes k.rooms.links q ≡ answers.Served (answered_from h q)
+  pub answered : (q : ℕ) → answered_to k.link.ledger k.rooms.probes k.rooms.links q ≡ Ok (answered_from h q)
   pub accepted : (a : Reply) → KeyFits a.key → refuses k (Accept a) ≡ 0
-      → (accept_result k a).answer ≡ accepts.Served (after k (Accept a)).link.ledger (accepted_from h a)
+      → (accept_result k a).answer ≡ Ok ((after k (Accept a)).link.ledger, accepted_from h a)

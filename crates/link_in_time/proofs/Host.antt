@@ -1,9 +1,9 @@
 -- Q-10 of a host's calls, whatever its words, rooms and queue held before: of a monitor alone, and of a link with a monitor.
 -- Assumes nothing.
+use Rattle.std.specs.Prelude.{Some}
 use mathlib.Core.Path.{◌≡◌, refl, sym, subst}
 use mathlib.Core.Bool.{false}
 use mathlib.Core.List.{List}
-use mathlib.Core.Option.{some}
 use Prim.Native.Nat.{ℕ, ◌<◌, ◌^◌}
 use lib.ListN.{length}
 use Rattle.limits.specs.Limits.{capacity}
@@ -39,7 +39,7 @@ host_models = record {
   steps = λ x p n c typed.
       let a = agrees c x typed in
       let s = core_models.steps (said x) p n c tt in
-      (s.0, subst (λ (y : MonitorStand). Next y s.0) (sym a.1) s.1, subst (λ (k : ℕ). Steps (some c) k p s.0) (sym a.0) s.2);
+      (s.0, subst (λ (y : MonitorStand). Next y s.0) (sym a.1) s.1, subst (λ (k : ℕ). Steps (Some c) k p s.0) (sym a.0) s.2);
 }
 
 -- THE THEOREM, of the monitor's words

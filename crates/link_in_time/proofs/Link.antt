@@ -1,9 +1,10 @@
 -- Q-10 of a link with a monitor, made fresh over any rooms of the right size, by any calls, refused ones included.
 -- Assumes nothing.
+use Rattle.std.specs.Prelude.{Some, None, Option}
+use Rattle.monitor.specs.declared.Monitor.{Monitor}
 use mathlib.Core.Path.{◌≡◌, refl, sym, ap, subst, ◌∙◌}
 use mathlib.Core.Bool.{Bool, true, false, cond}
 use mathlib.Core.List.{List, [], ◌∷◌}
-use mathlib.Core.Option.{Option, none, some}
 use Prim.Native.Nat.{ℕ, zero, suc, ◌<◌, ◌^◌}
 use Rattle.limits.specs.Limits.{capacity}
 use Rattle.call_types.specs.declared.Reply.{Reply}
@@ -20,8 +21,6 @@ use Rattle.monitor_in_time.proofs.InTime.{Steps, Models, holds}
 use Rattle.monitor_in_time.proofs.Core.{counting_few}
 use Rattle.history.specs.Given.{packet_of}
 use Rattle.history.specs.Ledger.{copies_of, unique?, events}
-use Rattle.link_steps.specs.declared.Watch.{Watch}
-use Rattle.link_steps.specs.declared.Watch.TheVariants.{Absent, Present}
 use Rattle.link_steps.specs.Steps.{LinkStand, accept_result, was_unique, refuses, after, played, kept_if, served}
 use Rattle.link_history.specs.Fresh.{Watching, watching, Making, MakingFits, fresh_link, Fits, AllFits}
 use Rattle.link_history.specs.Shows.{LedgerShows}
@@ -32,9 +31,9 @@ use Rattle.link_history.proofs.Watched.{watch_shows}
 use Rattle.link_in_time.specs.Link.{drives_of, seen_watch, link}
 
 -- what is shown is what is seen
-seen-shown : (threshold timeout : ℕ) (h : List Call) (w : Watch) (queue : List QueuedProbe) → WatchShows (watching threshold timeout) h w queue → seen_watch w queue ≡ seen_plain (monitor_from threshold timeout h)
-seen-shown threshold timeout h Absent queue s = absurd s
-seen-shown threshold timeout h (Present m) queue s = λ i. record { summary = s.state.summary i; transmitting = s.state.transmitting i; queued = s.state.probes i }
+seen-shown : (threshold timeout : ℕ) (h : List Call) (w : Option Monitor) (queue : List QueuedProbe) → WatchShows (watching threshold timeout) h w queue → seen_watch w queue ≡ seen_plain (monitor_from threshold timeout h)
+seen-shown threshold timeout h None queue s = absurd s
+seen-shown threshold timeout h (Some m) queue s = λ i. record { summary = s.state.summary i; transmitting = s.state.transmitting i; queued = s.state.probes i }
 
 -- ---- one call: what the served calls then call for is what the call does to the monitor
 
@@ -43,14 +42,14 @@ module _ (threshold timeout : ℕ) (h : List Call) where
   p = monitor_from threshold timeout h
 
   accepted : (a : Reply) (b : Bool) → b ≡ unique? capacity a.key (packet_of a.pending) (events capacity h)
-      → Steps (cond b (some (replying a.key.sender)) none) 0 p (monitor_from threshold timeout (Accept a ∷ h))
+      → Steps (cond b (Some (replying a.key.sender)) None) 0 p (monitor_from threshold timeout (Accept a ∷ h))
   unfolding monitor_from does
   accepted a true e = ap (λ (b : Bool). cond b (reply p a.key.sender) p) (sym e)
   accepted a false e = ap (λ (b : Bool). cond b (reply p a.key.sender) p) (sym e)
 
   turned_away : (d : Option monitor.Call) (n : ℕ) → Steps d (suc n) p p
-  turned_away none n = refl
-  turned_away (some c) n = refl
+  turned_away None n = refl
+  turned_away (Some c) n = refl
 
   module _ (copies : ℕ) (k : LinkStand) (shows : LedgerShows copies h k) where
     served-steps : (c : Call) → Fits c → refuses k c ≡ 0 → Steps (drives_of k c) 0 p (monitor_from threshold timeout (c ∷ h))

@@ -1,6 +1,6 @@
 -- A host's calls, each given the words and rooms that the last one left: of a monitor alone, and of a link with a monitor.
 -- Assumes nothing.
-use Rattle.std.proofs.Math.Option.{some}
+use Rattle.std.specs.Prelude.{Some}
 use Rattle.monitor_model.specs.Playing.{Call}
 use Rattle.monitor_in_time.specs.Calls.{Monitored}
 use Rattle.monitor_in_time.specs.Core.{seen_stand}
@@ -12,7 +12,7 @@ use Rattle.link_in_time.specs.Link.{link}
 
 -- `ambrulicciu_monitor_sent`, `_reply`, `_advance` and `_idle`, on the monitor that the words say
 abbrev pub host_monitor : Monitored Call Lent
-host_monitor = record { number = λ x c. (play_host c x).number; after = λ x c. (play_host c x).lent; drives = λ x c. some c; seen = λ x. seen_stand (said x) }
+host_monitor = record { number = λ x c. (play_host c x).number; after = λ x c. (play_host c x).lent; drives = λ x c. Some c; seen = λ x. seen_stand (said x) }
 
 -- `ambrulicciu_watched_sent`, `_watched_accept`, `_observe`, `_monitor_advance` and `_monitor_idle`, on the link that the words say
 abbrev pub host_link : Monitored HostCall HostLink

@@ -1,5 +1,7 @@
 -- The ledger of a link after any calls is that of a link without a monitor after the calls that it was served.
 -- Assumes nothing.
+use Rattle.std.specs.Prelude.{Option, Some, None}
+use Rattle.monitor.specs.declared.Monitor.{Monitor}
 use mathlib.Core.Path.{◌≡◌, refl, sym, ap, ◌∙◌, subst}
 use mathlib.Core.Bool.{Bool}
 use mathlib.Core.List.{List, [], ◌∷◌}
@@ -15,8 +17,6 @@ use Rattle.ledger_steps.specs.Sent.{SentOutcome, sent_on}
 use Rattle.ledger_steps.specs.Accept.{AcceptOutcome, accept_on}
 use Rattle.ledger_steps.specs.Calls.{number, accept_number, SentResult, AcceptResult, sent_by, accept_by, sent_to, accept_to}
 use Rattle.monitor_model.specs.Playing as monitor
-use Rattle.link_steps.specs.declared.Watch.{Watch}
-use Rattle.link_steps.specs.declared.Watch.TheVariants.{Absent, Present}
 use Rattle.link_steps.specs.Steps.{LinkStand, watch_refuses_sent, watch_refuses, sent_result, accept_result, sent_leaves, accept_leaves, refuses, after, played, kept_if, served}
 use Rattle.link_history.proofs.Unchanged.{refused_changes_nothing}
 use Rattle.link_history.proofs.Monitor.{watch_serves_sent, watch_serves}
@@ -87,9 +87,9 @@ module _ (k : LinkStand) where
   plain_alike Idle = refl
 
   -- a call of the monitor alone leaves the ledger
-  pub alone_alike : (w : Watch) (c : monitor.Call) → unwatched (alone_leaves w k c) ≡ u
-  alone_alike Absent c = refl
-  alone_alike (Present m) c = refl
+  pub alone_alike : (w : Option Monitor) (c : monitor.Call) → unwatched (alone_leaves w k c) ≡ u
+  alone_alike None c = refl
+  alone_alike (Some m) c = refl
 
 -- ---- any calls
 

@@ -16,14 +16,11 @@ use Rattle.monitor_model.specs.Playing as monitor
 use Rattle.history.specs.Given.{packet_of}
 use Rattle.history.specs.Ledger.{copies_of, unique?, events}
 use Rattle.ledger_state.specs.declared.Ledger.{Ledger}
-use Rattle.ledger_steps.specs.declared.AcceptAnswer.{AcceptAnswer}
 use Rattle.ledger_steps.specs.Refusals.{earlier, refusal_of_sent, refusal_of_accept}
 use Rattle.ledger_steps.specs.Sent.{SentOutcome, sent_on}
 use Rattle.ledger_steps.specs.Accept.{AcceptOutcome, accept_on}
 use Rattle.ledger_steps.specs.Calls.{number, accept_number, AcceptResult, sent_by, accept_by, sent_to, accept_to}
 use Rattle.reply_history.specs.Fits.{KeyFits}
-use Rattle.link_steps.specs.declared.Watch.{Watch}
-use Rattle.link_steps.specs.declared.Watch.TheVariants.{Absent, Present}
 use Rattle.link_steps.specs.Steps.{LinkStand, watch_refuses_sent, watch_refuses, watch_sent, watch_reply, was_unique, accept_result, sent_leaves, refuses, after, played, kept_if, served}
 use Rattle.link_history.specs.Fresh.{Watching, Making, MakingFits, fresh_link, stand_of, words_in, Fits, AllFits}
 use Rattle.link_history.specs.Fresh as making

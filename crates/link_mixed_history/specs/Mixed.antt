@@ -1,7 +1,8 @@
 -- A link whose host makes each call with the monitor beside the ledger or without it, and calls the monitor alone as it likes. Here: what each such call
 -- does, by what the calls of a link and of a monitor do; and which calls the ledger and the monitor were served.
 -- Assumes nothing.
-use Rattle.std.specs.Prelude.{Bool, cond, List, [], ◌∷◌, ℕ, zero, suc}
+use Rattle.monitor.specs.declared.Monitor.{Monitor}
+use Rattle.std.specs.Prelude.{Bool, cond, List, [], ◌∷◌, ℕ, zero, suc, Option, Some, None}
 use Rattle.limits.specs.Limits.{capacity}
 use Rattle.call_types.specs.declared.Call.{Call}
 use Rattle.call_types.specs.declared.Call.TheVariants.{Sent, Accept, Observe, Advance, Idle}
@@ -10,8 +11,6 @@ use Rattle.monitor.specs.Operations.{MonitorStand}
 use Rattle.monitor_model.specs.Playing as monitor
 use Rattle.history.specs.Given.{packet_of}
 use Rattle.history.specs.Ledger.{unique?, events}
-use Rattle.link_steps.specs.declared.Watch.{Watch}
-use Rattle.link_steps.specs.declared.Watch.TheVariants.{Absent, Present}
 use Rattle.link_steps.specs.Steps.{LinkStand, refuses, after, kept_if}
 
 -- a call of the host: of the link with its monitor, of the ledger without it, or of the monitor alone
@@ -24,7 +23,7 @@ pub data MixedCall : Type 0 where
 
 -- the ledger with its rooms, as a link that has no monitor
 abbrev pub unwatched : LinkStand → LinkStand
-unwatched k = record { link = record { ledger = k.link.ledger; watch = Absent }; rooms = k.rooms; queue = [] }
+unwatched k = record { link = record { ledger = k.link.ledger; watch = None }; rooms = k.rooms; queue = [] }
 
 -- a ledger with its rooms beside the monitor and the queue of a link
 abbrev pub beside : (ledger link : LinkStand) → LinkStand
@@ -32,17 +31,17 @@ beside l k = record { link = record { ledger = l.link.ledger; watch = k.link.wat
 
 -- the link with its monitor and queue as a call of the monitor alone left them
 abbrev pub with_monitor : LinkStand → MonitorStand → LinkStand
-with_monitor k x = record { link = record { ledger = k.link.ledger; watch = Present x.monitor }; rooms = k.rooms; queue = x.room }
+with_monitor k x = record { link = record { ledger = k.link.ledger; watch = Some x.monitor }; rooms = k.rooms; queue = x.room }
 
 -- the number of a call of the monitor alone; without a monitor there is nothing to call
-abbrev pub alone_number : Watch → List QueuedProbe → monitor.Call → ℕ
-alone_number Absent queue c = 0
-alone_number (Present m) queue c = (monitor.play_ring c (record { monitor = m; room = queue })).number
+abbrev pub alone_number : Option Monitor → List QueuedProbe → monitor.Call → ℕ
+alone_number None queue c = 0
+alone_number (Some m) queue c = (monitor.play_ring c (record { monitor = m; room = queue })).number
 
 -- what it leaves, likewise
-abbrev pub alone_leaves : Watch → LinkStand → monitor.Call → LinkStand
-alone_leaves Absent k c = record { link = record { ledger = k.link.ledger; watch = Absent }; rooms = k.rooms; queue = k.queue }
-alone_leaves (Present m) k c = with_monitor k (monitor.play_ring c (record { monitor = m; room = k.queue })).stand
+abbrev pub alone_leaves : Option Monitor → LinkStand → monitor.Call → LinkStand
+alone_leaves None k c = record { link = record { ledger = k.link.ledger; watch = None }; rooms = k.rooms; queue = k.queue }
+alone_leaves (Some m) k c = with_monitor k (monitor.play_ring c (record { monitor = m; room = k.queue })).stand
 
 -- the number of a call, 0 where it is served
 unfoldable pub number_of : LinkStand → MixedCall → ℕ

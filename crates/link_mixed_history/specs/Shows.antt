@@ -1,14 +1,13 @@
 -- What a link shows after any calls, with the monitor, without it and of the monitor alone: by the plain lists of what each part was served.
 -- Assumes nothing.
-use Rattle.std.specs.Prelude.{◌≡◌, List, [], ◌∷◌, ℕ}
+use Rattle.monitor.specs.declared.Monitor.{Monitor}
+use Rattle.std.specs.Prelude.{◌≡◌, List, [], ◌∷◌, ℕ, Option, Some, None}
 use Rattle.call_types.specs.declared.Call.{Call}
 use Rattle.call_types.specs.declared.Call.TheVariants.{Sent, Accept, Observe, Advance, Idle}
 use Rattle.probe_queue.specs.declared.QueuedProbe.{QueuedProbe}
 use Rattle.monitor_model.specs.Plain.{Plain, new, refusal, sent_refusal}
 use Rattle.monitor_model.specs.Playing as monitor
 use Rattle.ledger_steps.specs.Refusals.{earlier}
-use Rattle.link_steps.specs.declared.Watch.{Watch}
-use Rattle.link_steps.specs.declared.Watch.TheVariants.{Absent, Present}
 use Rattle.link_steps.specs.Steps.{LinkStand}
 use Rattle.link_history.specs.Fresh.{Watching, Fits}
 use Rattle.link_history.specs.Fresh as making
@@ -23,11 +22,11 @@ plain_from threshold timeout [] = new threshold timeout
 plain_from threshold timeout (c ∷ ops) = (monitor.play_plain c (plain_from threshold timeout ops)).plain
 
 -- the monitor and its queue show it; a link made without a monitor has none
-abbrev pub PlainShows : Watching → List monitor.Call → Watch → List QueuedProbe → Type 0
-PlainShows making.alone ops Absent queue = Unit
-PlainShows making.alone ops (Present m) queue = ⊥
-PlainShows (making.watching threshold timeout) ops Absent queue = ⊥
-PlainShows (making.watching threshold timeout) ops (Present m) queue = MonitorShows m queue (plain_from threshold timeout ops)
+abbrev pub PlainShows : Watching → List monitor.Call → Option Monitor → List QueuedProbe → Type 0
+PlainShows making.alone ops None queue = Unit
+PlainShows making.alone ops (Some m) queue = ⊥
+PlainShows (making.watching threshold timeout) ops None queue = ⊥
+PlainShows (making.watching threshold timeout) ops (Some m) queue = MonitorShows m queue (plain_from threshold timeout ops)
 
 -- the monitor's refusal of `sent` at a time: 6, 4 and 3; none without a monitor
 abbrev pub plain_refuses_sent : Watching → List monitor.Call → ℕ → ℕ

@@ -12,6 +12,8 @@ use contract.Lifetimes.{Lfts}
 use borrow.Fn.World as World
 use borrow.Fn.Kinds as Kinds'
 use denote.Triple.Clauses as Clauses
+use Rattle.limits.proofs.Numbers.{numbered_unique}
+use Rattle.limits.specs.Numbers.{numbered}
 use Rattle.determined.specs.Determines.{Determines}
 use Rattle.determined.proofs.Facts.{both_say}
 use Rattle.probe_queue.specs.declared.QueuedProbe.{QueuedProbe}
@@ -19,11 +21,9 @@ use Rattle.ledger_steps.specs.Rooms.{Rooms}
 use Rattle.log_whole.specs.declared.Settings.{Settings}
 use Rattle.log_whole.specs.Logs.{log_of}
 use Rattle.log_play.specs.Tally.{Tallied}
-use Rattle.report.specs.declared.ReportAnswer.{ReportAnswer}
-use Rattle.report.specs.declared.ReportAnswer.TheVariants.{Written, Refused}
 use Rattle.report.specs.Report.{Outcome, outcome}
-use Rattle.log_settings.specs.declared.Checked.{Checked}
-use Rattle.log_settings.specs.declared.Checked.TheVariants as checked
+use Rattle.std.specs.Prelude.{Result, Ok, Err}
+use Rattle.limits.specs.declared.Refusal.{Refusal}
 use Rattle.link_report.specs.LogReport.{end_of, Reported, reported, report_by, fits, report_of_log}
 use Rattle.log_settings.specs.Checks.{checked_by}
 use Rattle.link_report.specs.contracts.report_log as report-log
@@ -32,20 +32,20 @@ use Rattle.link_report.proofs.report_log_alone.Kinds as alone-kinds
 use Rattle.link_report.proofs.report_log_alone.Reads as alone-reads
 
 -- an outcome tells the answer
-same_answer : (a b : ReportAnswer) (l m : List ℕ) → outcome a l ≡ outcome b m → a ≡ b
+same_answer : (a b : Result ℕ ℕ) (l m : List ℕ) → outcome a l ≡ outcome b m → a ≡ b
 unfolding outcome
-same_answer (Written x) (Written y) l m e = cc (ap (λ (o : Outcome). o.values) e)
-same_answer (Written x) (Refused y) l m e = cc (ap (λ (o : Outcome). o.values) e)
-same_answer (Refused x) (Written y) l m e = cc (ap (λ (o : Outcome). o.values) e)
-same_answer (Refused x) (Refused y) l m e = ap Refused (ap (λ (o : Outcome). o.number) e)
+same_answer (Ok x) (Ok y) l m e = cc (ap (λ (o : Outcome). o.values) e)
+same_answer (Ok x) (Err y) l m e = cc (ap (λ (o : Outcome). o.values) e)
+same_answer (Err x) (Ok y) l m e = cc (ap (λ (o : Outcome). o.values) e)
+same_answer (Err x) (Err y) l m e = ap Err (ap (λ (o : Outcome). o.number) e)
 
 -- and the buffer
-buffer_of : (a : ReportAnswer) (l : List ℕ) → (outcome a l).buffer ≡ l
+buffer_of : (a : Result ℕ ℕ) (l : List ℕ) → (outcome a l).buffer ≡ l
 unfolding outcome
-buffer_of (Written n) l = refl
-buffer_of (Refused n) l = refl
+buffer_of (Ok n) l = refl
+buffer_of (Err n) l = refl
 
-same_buffer : (a b : ReportAnswer) (l m : List ℕ) → outcome a l ≡ outcome b m → l ≡ m
+same_buffer : (a b : Result ℕ ℕ) (l m : List ℕ) → outcome a l ≡ outcome b m → l ≡ m
 same_buffer a b l m e = sym (buffer_of a l) ∙ ap (λ (o : Outcome). o.buffer) e ∙ buffer_of b m
 
 -- the answer, the five rooms, the queue and the buffer; the function is lent the queue, so it is stated over its clauses
@@ -54,14 +54,14 @@ pub report-log-unique :
     → Determines 𝓤 report-log.ended (report-log.clauses 𝓛 mem run) (λ κs r₁ r₂ s₁ s₂. (r₁ ≡ r₂) × (s₁.1.1.0.now ≡ s₂.1.1.0.now) × (s₁.1.1.1.0.now ≡ s₂.1.1.1.0.now) × (s₁.1.1.1.1.0.now ≡ s₂.1.1.1.1.0.now) × (s₁.1.1.1.1.1.0.now ≡ s₂.1.1.1.1.1.0.now) × (s₁.1.1.1.1.1.1.0.now ≡ s₂.1.1.1.1.1.1.0.now) × (s₁.1.1.1.1.1.1.1.0.now ≡ s₂.1.1.1.1.1.1.1.0.now) × (s₁.1.1.1.1.1.1.1.1.0.now ≡ s₂.1.1.1.1.1.1.1.1.0.now))
 report-log-unique {𝓤 = 𝓤} 𝓛 mem run κs a g r₁ r₂ s₁ s₂ =
     both_say 𝓤 _ _ _ (λ p q. let e = p ∙ sym q in let o = ap (λ (x : Reported). x.outcome) e in (
-      same_answer r₁ r₂ s₁.1.1.1.1.1.1.1.1.0.now s₂.1.1.1.1.1.1.1.1.0.now o,
+      numbered_unique r₁ r₂ (same_answer (numbered r₁) (numbered r₂) s₁.1.1.1.1.1.1.1.1.0.now s₂.1.1.1.1.1.1.1.1.0.now o),
       ap (λ (x : Reported). x.rooms.keys) e,
       ap (λ (x : Reported). x.rooms.slots) e,
       ap (λ (x : Reported). x.rooms.probes) e,
       ap (λ (x : Reported). x.rooms.offsets) e,
       ap (λ (x : Reported). x.rooms.links) e,
       ap (λ (x : Reported). x.queue) e,
-      same_buffer r₁ r₂ s₁.1.1.1.1.1.1.1.1.0.now s₂.1.1.1.1.1.1.1.1.0.now o,
+      same_buffer (numbered r₁) (numbered r₂) s₁.1.1.1.1.1.1.1.1.0.now s₂.1.1.1.1.1.1.1.1.0.now o,
     ))
 
 -- the same with a queue of its own: the answer, the five rooms and the buffer
@@ -72,21 +72,21 @@ pub report-log-alone-unique :
     → (r₁ ≡ r₂) × (s₁.1.1.0.now ≡ s₂.1.1.0.now) × (s₁.1.1.1.0.now ≡ s₂.1.1.1.0.now) × (s₁.1.1.1.1.0.now ≡ s₂.1.1.1.1.0.now) × (s₁.1.1.1.1.1.0.now ≡ s₂.1.1.1.1.1.0.now) × (s₁.1.1.1.1.1.1.0.now ≡ s₂.1.1.1.1.1.1.0.now) × (s₁.1.1.1.1.1.1.1.0.now ≡ s₂.1.1.1.1.1.1.1.0.now)
 report-log-alone-unique κs a r₁ r₂ s₁ s₂ p q =
     let o = p.0 ∙ sym q.0 in let e = p.1 ∙ sym q.1 in (
-      same_answer r₁ r₂ s₁.1.1.1.1.1.1.1.0.now s₂.1.1.1.1.1.1.1.0.now o,
+      numbered_unique r₁ r₂ (same_answer (numbered r₁) (numbered r₂) s₁.1.1.1.1.1.1.1.0.now s₂.1.1.1.1.1.1.1.0.now o),
       ap (λ (x : Rooms). x.keys) e,
       ap (λ (x : Rooms). x.slots) e,
       ap (λ (x : Rooms). x.probes) e,
       ap (λ (x : Rooms). x.offsets) e,
       ap (λ (x : Rooms). x.links) e,
-      same_buffer r₁ r₂ s₁.1.1.1.1.1.1.1.0.now s₂.1.1.1.1.1.1.1.0.now o,
+      same_buffer (numbered r₁) (numbered r₂) s₁.1.1.1.1.1.1.1.0.now s₂.1.1.1.1.1.1.1.0.now o,
     )
 
 -- A refusal changes no byte of the buffer, no probe of the queue and no word of a room.
 pub refused-unchanged : (log secret : List ℕ) (queue queue' : List QueuedProbe) (rooms rooms' : Rooms) (buffer buffer' : List ℕ) (n : ℕ)
-    → reported (outcome (Refused n) buffer') queue' rooms' ≡ report_of_log log secret queue rooms buffer → (buffer' ≡ buffer) × (queue' ≡ queue) × (rooms' ≡ rooms)
+    → reported (outcome (Err n) buffer') queue' rooms' ≡ report_of_log log secret queue rooms buffer → (buffer' ≡ buffer) × (queue' ≡ queue) × (rooms' ≡ rooms)
 unfolding outcome report_of_log
 refused-unchanged log secret queue queue' rooms rooms' buffer buffer' n e = go (checked_by (fits queue rooms buffer) (log_of log)) (end_of log secret queue rooms) e
   where
-    go : (c : Checked) (end : Settings → Tallied) → reported (outcome (Refused n) buffer') queue' rooms' ≡ report_by c end queue rooms buffer → (buffer' ≡ buffer) × (queue' ≡ queue) × (rooms' ≡ rooms)
-    go (checked.Refused m) end e = (ap (λ (x : Reported). x.outcome.buffer) e, ap (λ (x : Reported). x.queue) e, ap (λ (x : Reported). x.rooms) e)
-    go (checked.Good s) end e = (cc (ap (λ (x : Reported). x.outcome.values) e), cc (ap (λ (x : Reported). x.outcome.values) e), cc (ap (λ (x : Reported). x.outcome.values) e))
+    go : (c : Result Settings Refusal) (end : Settings → Tallied) → reported (outcome (Err n) buffer') queue' rooms' ≡ report_by c end queue rooms buffer → (buffer' ≡ buffer) × (queue' ≡ queue) × (rooms' ≡ rooms)
+    go (Err r) end e = (ap (λ (x : Reported). x.outcome.buffer) e, ap (λ (x : Reported). x.queue) e, ap (λ (x : Reported). x.rooms) e)
+    go (Ok s) end e = (cc (ap (λ (x : Reported). x.outcome.values) e), cc (ap (λ (x : Reported). x.outcome.values) e), cc (ap (λ (x : Reported). x.outcome.values) e))

@@ -1,7 +1,9 @@
 -- The report of a log (document 01, 'Log and program'): its records played on a link that is made fresh, or the number with which it is refused.
 -- Assumes nothing.
-use Rattle.std.specs.Prelude.{Bool, List, [], ℕ, length, replicate}
+use Rattle.std.specs.Prelude.{Bool, List, [], ℕ, length, replicate, Result, Ok, Err}
 use Rattle.limits.specs.Limits.{capacity}
+use Rattle.limits.specs.Numbers.{number_of}
+use Rattle.limits.specs.declared.Refusal.{Refusal}
 use Rattle.probe_queue.specs.declared.QueuedProbe.{QueuedProbe}
 use Rattle.probe_queue.specs.Queue.{nil}
 use Rattle.ledger_steps.specs.Rooms.{Rooms}
@@ -12,8 +14,6 @@ use Rattle.log_play.specs.Tally.{standing_of, Tallied, tallied}
 use Rattle.report.specs.Lines.{text_of}
 use Rattle.report.specs.Report.{Outcome, written, report_of}
 use Rattle.link_figures.specs.Figures.{figures_of}
-use Rattle.log_settings.specs.declared.Checked.{Checked}
-use Rattle.log_settings.specs.declared.Checked.TheVariants.{Refused, Good}
 use Rattle.log_settings.specs.Checks.{checked_by, rooms_fit}
 use Rattle.log_settings.specs.Fresh.{link_by}
 
@@ -38,9 +38,9 @@ abbrev pub refused_with : ℕ → List ℕ → Outcome
 refused_with n buffer = record { number = n; values = []; buffer = buffer }
 
 -- the refusal, or the report of a link and of how many records it turned away
-abbrev pub outcome_by : Checked → Link → ℕ → List ℕ → Outcome
-outcome_by (Refused n) link turned buffer = refused_with n buffer
-outcome_by (Good s) link turned buffer = report_of buffer (figures_of link s.count turned)
+abbrev pub outcome_by : Result Settings Refusal → Link → ℕ → List ℕ → Outcome
+outcome_by (Err r) link turned buffer = refused_with (number_of r) buffer
+outcome_by (Ok s) link turned buffer = report_of buffer (figures_of link s.count turned)
 
 -- ---- what the call leaves
 
@@ -55,9 +55,9 @@ abbrev pub reported : Outcome → List QueuedProbe → Rooms → Reported
 reported o queue rooms = record { outcome = o; queue = queue; rooms = rooms }
 
 -- a refusal changes nothing; else the text in the buffer and its length, and what the records leave
-abbrev pub report_by : Checked → (Settings → Tallied) → List QueuedProbe → Rooms → List ℕ → Reported
-report_by (Refused n) end queue rooms buffer = reported (refused_with n buffer) queue rooms
-report_by (Good s) end queue rooms buffer = reported (written (played_text s (end s)) buffer) (end s).standing.queue (end s).standing.rooms
+abbrev pub report_by : Result Settings Refusal → (Settings → Tallied) → List QueuedProbe → Rooms → List ℕ → Reported
+report_by (Err r) end queue rooms buffer = reported (refused_with (number_of r) buffer) queue rooms
+report_by (Ok s) end queue rooms buffer = reported (written (played_text s (end s)) buffer) (end s).standing.queue (end s).standing.rooms
 
 -- whether the rooms, the queue and the buffer have their sizes: 4,096 entries each, and 1,024 bytes
 abbrev pub fits : List QueuedProbe → Rooms → List ℕ → Bool

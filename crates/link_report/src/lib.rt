@@ -1,6 +1,7 @@
 // The report of a log: its records played on a link that is made fresh, and its figures as text; or the number with which the log is refused.
 // The link's ledger is made, lent to the records and read for its figures in its words. The queue is lent, so that `report_log` is a straight line of calls: of a log that is refused no record is played, and nothing is written.
 ghost use Rattle.std.specs.Prelude.{◌≡◌};
+ghost use Rattle.limits.specs.Numbers.{numbered};
 ghost use Rattle.report.specs.Report.{outcome, report_of};
 ghost use Rattle.link_figures.specs.Figures.{figures_of};
 ghost use Rattle.log_play_parts.specs.Parts.{rooms_of};
@@ -8,16 +9,17 @@ ghost use Rattle.log_play.specs.Tally.{link_at};
 ghost use Rattle.link_report.specs.LogReport.{outcome_by, empty_queue, reported, report_of_log};
 
 use host_ledger::LEDGER_WORDS;
-use link_steps::{Link, Watch};
+use limits::Refusal;
+use link_steps::Link;
 use log_play::Tally;
-use log_settings::Checked;
+use log_whole::Settings;
+use monitor::Monitor;
 use probe_queue::QueuedProbe;
-use report::ReportAnswer;
 
 // ---- the text
 
 // The link that the ledger's words say, with its monitor.
-fn link_of(words: [u64; LEDGER_WORDS], watch: Watch) -> Link
+fn link_of(words: [u64; LEDGER_WORDS], watch: Option<Monitor>) -> Link
     ensures { result ≡ link_at words watch }
 {
     let ledger = host_ledger::load(&words);
@@ -29,8 +31,8 @@ fn write_played(
     ledger: [u64; LEDGER_WORDS],
     tally: Tally,
     count: u32,
-) -> ReportAnswer
-    ensures { outcome result text.new ≡ report_of text.old (figures_of (link_at ledger tally.watch) count tally.turned) }
+) -> Result<usize, Refusal>
+    ensures { outcome (numbered result) text.new ≡ report_of text.old (figures_of (link_at ledger tally.watch) count tally.turned) }
 {
     let watch = tally.watch;
     let link = link_of(ledger, watch);
@@ -40,15 +42,15 @@ fn write_played(
 
 fn write_checked(
     text: &mut [u8],
-    checked: Checked,
+    checked: Result<Settings, Refusal>,
     ledger: [u64; LEDGER_WORDS],
     tally: Tally,
-) -> ReportAnswer
-    ensures { outcome result text.new ≡ outcome_by checked (link_at ledger tally.watch) tally.turned text.old }
+) -> Result<usize, Refusal>
+    ensures { outcome (numbered result) text.new ≡ outcome_by checked (link_at ledger tally.watch) tally.turned text.old }
 {
     match checked {
-        Checked::Refused(number) => ReportAnswer::Refused(number),
-        Checked::Good(settings) => write_played(text, ledger, tally, settings.count),
+        Ok(settings) => write_played(text, ledger, tally, settings.count),
+        Err(refusal) => Err(refusal),
     }
 }
 
@@ -66,10 +68,10 @@ pub fn report_log(
     links: &mut [[u16; 8]],
     queue: &mut [QueuedProbe],
     text: &mut [u8],
-) -> ReportAnswer
+) -> Result<usize, Refusal>
     ensures { let before = rooms_of keys.old slots.old probes.old offsets.old links.old in
         let after = rooms_of keys.new slots.new probes.new offsets.new links.new in
-        reported (outcome result text.new) queue.new after ≡ report_of_log log.now secret.now queue.old before text.old }
+        reported (outcome (numbered result) text.new) queue.new after ≡ report_of_log log.now secret.now queue.old before text.old }
 {
     let fit = log_settings::rooms_fit(
         queue.len(),
@@ -121,10 +123,10 @@ pub fn report_log_alone(
     offsets: &mut [u32],
     links: &mut [[u16; 8]],
     text: &mut [u8],
-) -> ReportAnswer
+) -> Result<usize, Refusal>
     ensures { let before = rooms_of keys.old slots.old probes.old offsets.old links.old in
         let after = rooms_of keys.new slots.new probes.new offsets.new links.new in
-        (outcome result text.new ≡ (report_of_log log.now secret.now empty_queue before text.old).outcome) × (after ≡ (report_of_log log.now secret.now empty_queue before text.old).rooms) }
+        (outcome (numbered result) text.new ≡ (report_of_log log.now secret.now empty_queue before text.old).outcome) × (after ≡ (report_of_log log.now secret.now empty_queue before text.old).rooms) }
 {
     let mut queue = empty_queue();
     report_log(

@@ -1,7 +1,7 @@
 -- A link is a ledger with its rooms and, where it has one, a monitor with the room of its queue. Here: what each call of the host does to it.
 -- With a monitor, `sent` and `accept` drive it. A refusal "returns its number only and changes nothing": of both parts.
 -- Assumes nothing.
-use Rattle.std.specs.Prelude.{Bool, true, false, List, [], ◌∷◌, ℕ, zero, suc, ◌+◌, eqb, length}
+use Rattle.std.specs.Prelude.{Bool, true, false, List, [], ◌∷◌, ℕ, zero, suc, ◌+◌, eqb, length, Option, Some, None, Result, Ok, Err}
 use Rattle.limits.specs.Limits.{capacity}
 use Rattle.call_types.specs.declared.SentProbe.{SentProbe}
 use Rattle.call_types.specs.declared.Reply.{Reply}
@@ -15,14 +15,8 @@ use Rattle.monitor.specs.Operations.{MonitorStand, sent_if, reply_if, advance_if
 use Rattle.ledger_state.specs.declared.Ledger.{Ledger}
 use Rattle.ledger_steps.specs.declared.Accepted.{Accepted}
 use Rattle.ledger_steps.specs.declared.Accepted.TheVariants as accepted
-use Rattle.ledger_steps.specs.declared.LedgerAnswer.{LedgerAnswer}
-use Rattle.ledger_steps.specs.declared.LedgerAnswer.TheVariants as answer
-use Rattle.ledger_steps.specs.declared.AcceptAnswer.{AcceptAnswer}
-use Rattle.ledger_steps.specs.declared.AcceptAnswer.TheVariants as accepts
 use Rattle.ledger_steps.specs.Rooms.{Rooms}
 use Rattle.ledger_steps.specs.Calls.{number, accept_number, SentResult, AcceptResult, ObserveResult, sent_to, accept_to, observe_to}
-use Rattle.link_steps.specs.declared.Watch.{Watch}
-use Rattle.link_steps.specs.declared.Watch.TheVariants.{Absent, Present}
 use Rattle.link_steps.specs.declared.Link.{Link}
 
 -- a link with all of its rooms; without a monitor the queue is not looked at
@@ -33,16 +27,16 @@ pub record LinkStand : Type 0 where
 
 -- a monitor and the queue, as the monitor's operation left them
 pub record Watched : Type 0 where
-  pub watch : Watch
+  pub watch : Option Monitor
   pub queue : List QueuedProbe
 
 -- of a monitor that is there, with its room
 abbrev pub watched : MonitorStand → Watched
-watched s = record { watch = Present s.monitor; queue = s.room }
+watched s = record { watch = Some s.monitor; queue = s.room }
 
 -- where there is no monitor the queue stays
 abbrev pub unwatched : List QueuedProbe → Watched
-unwatched queue = record { watch = Absent; queue = queue }
+unwatched queue = record { watch = None; queue = queue }
 
 -- the record above, made of its parts in their order
 abbrev pub standing : Ledger → Rooms → Watched → LinkStand
@@ -51,29 +45,29 @@ standing l r w = record { link = record { ledger = l; watch = w.watch }; rooms =
 -- ---- the monitor's part
 
 -- its refusal of `sent` with a room of this size, 0 where there is no monitor
-abbrev pub watch_refuses_sent : Watch → ℕ → SentProbe → ℕ
-watch_refuses_sent Absent room s = 0
-watch_refuses_sent (Present m) room s = monitor.refusal_of_sent m room s.packet.time
+abbrev pub watch_refuses_sent : Option Monitor → ℕ → SentProbe → ℕ
+watch_refuses_sent None room s = 0
+watch_refuses_sent (Some m) room s = monitor.refusal_of_sent m room s.packet.time
 
 -- its refusal of any other call, likewise
-abbrev pub watch_refuses : Watch → ℕ → ℕ
-watch_refuses Absent room = 0
-watch_refuses (Present m) room = monitor.refusal_of m room
+abbrev pub watch_refuses : Option Monitor → ℕ → ℕ
+watch_refuses None room = 0
+watch_refuses (Some m) room = monitor.refusal_of m room
 
 -- what it does where the call goes on: at `sent`, with the probe's sequence and send time
-abbrev pub watch_sent : Bool → Watch → List QueuedProbe → SentProbe → Watched
-watch_sent go Absent queue s = unwatched queue
-watch_sent go (Present m) queue s = watched (sent_if go m queue s.sequence s.packet.time)
+abbrev pub watch_sent : Bool → Option Monitor → List QueuedProbe → SentProbe → Watched
+watch_sent go None queue s = unwatched queue
+watch_sent go (Some m) queue s = watched (sent_if go m queue s.sequence s.packet.time)
 
 -- at a reply: its key's sender number is the sequence that the monitor hears
-abbrev pub watch_reply : Bool → Watch → List QueuedProbe → Reply → Watched
-watch_reply go Absent queue a = unwatched queue
-watch_reply go (Present m) queue a = watched (reply_if go m queue a.key.sender)
+abbrev pub watch_reply : Bool → Option Monitor → List QueuedProbe → Reply → Watched
+watch_reply go None queue a = unwatched queue
+watch_reply go (Some m) queue a = watched (reply_if go m queue a.key.sender)
 
 -- "Without a monitor kinds 3 and 4 do nothing."
-abbrev pub watch_advance : Watch → List QueuedProbe → ℕ → Watched
-watch_advance Absent queue time = unwatched queue
-watch_advance (Present m) queue time = watched (advance_if true m queue time)
+abbrev pub watch_advance : Option Monitor → List QueuedProbe → ℕ → Watched
+watch_advance None queue time = unwatched queue
+watch_advance (Some m) queue time = watched (advance_if true m queue time)
 
 -- `idle` where it is served; a refusal changes nothing
 abbrev pub idle_by : Bool → Monitor → Monitor
@@ -81,21 +75,21 @@ idle_by true m = idle_on m
 idle_by false m = m
 
 -- `idle` is lent no room: it is tested as with one of 4,096, and the queue's room stays
-abbrev pub watch_idle : Watch → List QueuedProbe → Watched
-watch_idle Absent queue = unwatched queue
-watch_idle (Present m) queue = record { watch = Present (idle_by (eqb (monitor.refusal_of m capacity) 0) m); queue = queue }
+abbrev pub watch_idle : Option Monitor → List QueuedProbe → Watched
+watch_idle None queue = unwatched queue
+watch_idle (Some m) queue = record { watch = Some (idle_by (eqb (monitor.refusal_of m capacity) 0) m); queue = queue }
 
 -- ---- `sent`: the ledger's part with the monitor's refusal, then the monitor's where it was served
 
 -- the call was served
-abbrev pub was_served : LedgerAnswer → Bool
-was_served (answer.Served l) = true
-was_served (answer.Refused n) = false
+abbrev pub was_served : Result Ledger ℕ → Bool
+was_served (Ok l) = true
+was_served (Err n) = false
 
 -- the ledger of an answer: a refusal leaves it as it was
-abbrev pub ledger_of : Ledger → LedgerAnswer → Ledger
-ledger_of l (answer.Served next) = next
-ledger_of l (answer.Refused n) = l
+abbrev pub ledger_of : Ledger → Result Ledger ℕ → Ledger
+ledger_of l (Ok next) = next
+ledger_of l (Err n) = l
 
 -- the ledger's answer and the rooms that it is lent; the monitor's refusal is one of its own
 abbrev pub sent_result : LinkStand → SentProbe → SentResult
@@ -117,14 +111,14 @@ is_unique accepted.Unknown = false
 is_unique (accepted.Unique p o t) = true
 
 -- the call was served, and its reply is unique
-abbrev pub was_unique : AcceptAnswer → Bool
-was_unique (accepts.Served l a) = is_unique a
-was_unique (accepts.Refused n) = false
+abbrev pub was_unique : Result (Ledger × Accepted) ℕ → Bool
+was_unique (Ok (l, a)) = is_unique a
+was_unique (Err n) = false
 
 -- the ledger of an answer, likewise: a refusal leaves it as it was
-abbrev pub ledger_of_accept : Ledger → AcceptAnswer → Ledger
-ledger_of_accept l (accepts.Served next a) = next
-ledger_of_accept l (accepts.Refused n) = l
+abbrev pub ledger_of_accept : Ledger → Result (Ledger × Accepted) ℕ → Ledger
+ledger_of_accept l (Ok (next, a)) = next
+ledger_of_accept l (Err n) = l
 
 -- the ledger's answer and the rooms that it is lent; the monitor's refusal is one of its own
 abbrev pub accept_result : LinkStand → Reply → AcceptResult

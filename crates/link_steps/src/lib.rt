@@ -2,16 +2,9 @@
 use ledger_state::Ledger;
 use monitor::Monitor;
 
-// The monitor of a link, or none.
-#[derive(Clone, Copy)]
-pub enum Watch {
-    Absent,
-    Present(Monitor),
-}
-
 // The states of a link, without its rooms.
 #[derive(Clone, Copy)]
 pub struct Link {
     pub ledger: Ledger,
-    pub watch: Watch,
+    pub watch: Option<Monitor>,
 }

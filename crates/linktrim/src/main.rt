@@ -2,8 +2,8 @@
 // Its three words are the trailer's settings. On standard error it says in one line `kept N stop N dropped N`, or `refused 9`, or what was wrong.
 #![tactic(auto)]
 
-use decimal_word::{Small, Word};
-use log_trim::{Cut, Trimmed};
+use limits::Refusal;
+use log_trim::Cut;
 use std::env::{Env, FillError};
 use std::io::{Read, Write};
 
@@ -31,9 +31,9 @@ fn say_cut<E: Write>(errors: &mut E, cut: Cut) {
     write(errors, &text, end);
 }
 
-fn say_refused<E: Write>(errors: &mut E, number: u8) {
+fn say_refused<E: Write>(errors: &mut E, refusal: Refusal) {
     let mut text = [0u8; 128];
-    let end = trim_print::put_refused(&mut text, number as u64);
+    let end = trim_print::put_refused(&mut text, u64::from(u8::from(refusal)));
     write(errors, &text, end);
 }
 
@@ -61,12 +61,8 @@ fn trim<W: Write, E: Write>(
     let mut room = [0u8; 65536];
     let trimmed = log_trim::trim(log, copies, threshold, timeout, &mut room);
     match trimmed {
-        Trimmed::Kept(cut) => {
-            put_log(to, errors, &room, cut);
-        }
-        Trimmed::Refused(number) => {
-            say_refused(errors, number);
-        }
+        Ok(cut) => put_log(to, errors, &room, cut),
+        Err(refusal) => say_refused(errors, refusal),
     }
 }
 
@@ -100,19 +96,19 @@ fn trim_input<R: Read, W: Write, E: Write>(
 }
 
 // A word that is longer than its buffer, or is not there, is wrong.
-fn small<R: Env>(rt: &R, i: usize) -> Small {
+fn small<R: Env>(rt: &R, i: usize) -> Option<u16> {
     let mut word = [0u8; 64];
     match rt.arg(i, &mut word) {
         Ok(end) => decimal_word::u16_of(&word[..end]),
-        Err(_) => Small::Wrong,
+        Err(_) => None,
     }
 }
 
-fn large<R: Env>(rt: &R, i: usize) -> Word {
+fn large<R: Env>(rt: &R, i: usize) -> Option<u64> {
     let mut word = [0u8; 64];
     match rt.arg(i, &mut word) {
         Ok(end) => decimal_word::u64_of(&word[..end], 18446744073709551615),
-        Err(_) => Word::Wrong,
+        Err(_) => None,
     }
 }
 
@@ -130,21 +126,21 @@ fn main(rt: HostRuntime) {
         );
         return;
     }
-    let Small::Number(copies) = small(&rt, 1) else {
+    let Some(copies) = small(&rt, 1) else {
         say(
             &mut errors,
             b"linktrim: COPIES is a number from 0 to 65535\n",
         );
         return;
     };
-    let Small::Number(threshold) = small(&rt, 2) else {
+    let Some(threshold) = small(&rt, 2) else {
         say(
             &mut errors,
             b"linktrim: THRESHOLD is a number from 0 to 65535\n",
         );
         return;
     };
-    let Word::Number(timeout) = large(&rt, 3) else {
+    let Some(timeout) = large(&rt, 3) else {
         say(
             &mut errors,
             b"linktrim: TIMEOUT is a number from 0 to 18446744073709551615\n",

@@ -1,4 +1,5 @@
 -- Worked examples: cut logs of records of the kind idle, and what is no whole log. Assumes nothing.
+use Rattle.std.specs.Prelude.{Ok}
 use mathlib.Core.Path.{◌≡◌, refl}
 use mathlib.Core.Bool.{true}
 use mathlib.Core.List.{List, [], ◌∷◌, ◌++◌}
@@ -6,7 +7,6 @@ use Prim.Native.Nat.{ℕ}
 use lib.ListN.{take, drop, replicate}
 use Rattle.log_record.specs.Records.{table_of, blank, record_of, entry_of, good}
 use Rattle.record_parts.specs.Parts.{observe_flags}
-use Rattle.log_whole.specs.declared.Log.TheVariants as log
 use Rattle.log_whole.specs.Logs.{settings_of, trailer_good, log_of, trailer_over}
 use Rattle.log_cut.specs.Cut.{kept_of, whole, dropped_of, trailer_of, output_of}
 
@@ -96,7 +96,7 @@ unfolding good record_of table_of blank entry_of observe_flags
 unlucky_good = refl
 
 -- cut behind byte 27 it is accepted as a log of no records with four bytes before it
-pub unlucky_accepted : log_of (take 28 unlucky) ≡ log.Good (record { copies = 1; threshold = 0; timeout = 0; count = 0; start = 4 })
+pub unlucky_accepted : log_of (take 28 unlucky) ≡ Ok (record { copies = 1; threshold = 0; timeout = 0; count = 0; start = 4 })
 unfolding log_of trailer_good settings_of
 unlucky_accepted = refl
 

@@ -1,5 +1,6 @@
 -- Records and a new trailer behind them are read as they were written, whatever the records are: 8 at the first bad one, and else the settings.
 -- Assumes nothing.
+use Rattle.std.specs.Prelude.{Err, Ok}
 use mathlib.Core.Path.{◌≡◌, refl, sym, ap, ap₂, ◌∙◌, subst}
 use mathlib.Core.Bool.{Bool, true, false, ◌&&◌, cond}
 use mathlib.Core.List.{List, ◌++◌}
@@ -15,7 +16,7 @@ use Rattle.big_endian.specs.Fields.{Field}
 use Rattle.big_endian.proofs.Laws.{In, first, later, field_back, written-length}
 use Rattle.record_parts.specs.Fits.{U16, U64}
 use Rattle.log_whole.specs.declared.Settings.{Settings}
-use Rattle.log_whole.specs.declared.Log.TheVariants as log
+use Rattle.log_whole.specs.declared.Fault.TheVariants as fault
 use Rattle.log_whole.specs.Logs.{mark, trailer_at, distance_of, count_of, mark_of, settings_of, trailer_fits, trailer_good, record_at, first_bad, by_records, log_of, trailer_table, trailer_over}
 use Rattle.log_whole.proofs.Laws.{by-good, by-bad, log_by_records}
 use Rattle.log_cut.specs.Cut.{trailer_of}
@@ -122,9 +123,9 @@ module _ (front : List ℕ) (count copies threshold timeout : ℕ) (sized : leng
   by_first f e = log_by_records bytes f said small kept (sym settings_is) e
 
   -- Where every record is good the log is accepted, with the settings that were written.
-  pub fresh-accepted : first_bad bytes 0 0 count ≡ count → log_of bytes ≡ log.Good said
+  pub fresh-accepted : first_bad bytes 0 0 count ≡ count → log_of bytes ≡ Ok said
   fresh-accepted h = sym (by-good count said refl ∙ by_first count (sym h))
 
   -- Where one is bad it is refused with 8, at the first that is.
-  pub fresh-refused : (f : ℕ) → first_bad bytes 0 0 count ≡ f → (f ≡ count → ⊥) → log_of bytes ≡ log.BadRecord f
+  pub fresh-refused : (f : ℕ) → first_bad bytes 0 0 count ≡ f → (f ≡ count → ⊥) → log_of bytes ≡ Err (fault.BadRecord f)
   fresh-refused f h n = sym (by-bad f said n ∙ by_first f (sym h))

@@ -1,4 +1,5 @@
 -- What is kept: the records that are there and good, up to the first that is not, and no other number. Assumes nothing.
+use Rattle.std.specs.Prelude.{Err, Ok, Result}
 use mathlib.Core.Path.{◌≡◌, refl, sym, ap, ◌∙◌, subst}
 use mathlib.Core.Bool.{Bool, true, false}
 use mathlib.Core.List.{List}
@@ -11,8 +12,8 @@ use lib.ListN.{length}
 use borrow.Author.Tests.{ltb-true, ltb-false, eqb-true, eq-eqb}
 use Rattle.log_record.specs.Records.{good}
 use Rattle.log_whole.specs.declared.Settings.{Settings}
-use Rattle.log_whole.specs.declared.Log.{Log}
-use Rattle.log_whole.specs.declared.Log.TheVariants as log
+use Rattle.log_whole.specs.declared.Fault.{Fault}
+use Rattle.log_whole.specs.declared.Fault.TheVariants as fault
 use Rattle.log_whole.specs.Logs.{count_of, settings_of, trailer_good, record_at, first_bad, log_of}
 use Rattle.log_whole.specs.Meaning.{Means}
 use Rattle.log_whole.proofs.Accepted.{answer_means}
@@ -100,7 +101,7 @@ first-at bs n f h goods bad = by (first_bad bs 0 0 n) (first_is bs 0 0 n)
 -- ---- whole logs
 
 pub record Whole (bs : List ℕ) : Type 0 where
-  pub accepted : log_of bs ≡ log.Good (settings_of bs)
+  pub accepted : log_of bs ≡ Ok (settings_of bs)
   pub small : length bs ≤ 65536
   pub marked : trailer_good bs ≡ true
   pub sized : length bs ≡ 96 * count_of bs + 24
@@ -115,15 +116,15 @@ whole_is bs w = by (log_of bs) refl w
     no : false ≡ true → ⊥
     no e = both_ways false e refl
 
-    by : (l : Log) → log_of bs ≡ l → whole_by l ≡ true → Whole bs
-    by log.TooLong e h = absurd (no h)
-    by log.BadTrailer e h = absurd (no h)
-    by (log.BadRecord n) e h = absurd (no h)
-    by (log.Good s) e h =
-        let m : Means bs (log.Good s) = subst (Means bs) e (answer_means bs) in
+    by : (l : Result Settings Fault) → log_of bs ≡ l → whole_by l ≡ true → Whole bs
+    by (Err fault.TooLong) e h = absurd (no h)
+    by (Err fault.BadTrailer) e h = absurd (no h)
+    by (Err (fault.BadRecord n)) e h = absurd (no h)
+    by (Ok s) e h =
+        let m : Means bs (Ok s) = subst (Means bs) e (answer_means bs) in
         let zero_start : (settings_of bs).start ≡ 0 = ap (λ (x : Settings). x.start) (sym m.2) ∙ eqb-true s.start 0 h in
         record {
-          accepted = e ∙ ap log.Good m.2;
+          accepted = e ∙ ap Ok m.2;
           small = m.0;
           marked = m.1;
           sized = from_start (settings_of bs).start (count_of bs) (length bs) zero_start (records-within bs m.1);
@@ -136,7 +137,7 @@ whole_is bs w = by (log_of bs) refl w
         from_start : (a k n : ℕ) → a ≡ 0 → a + 96 * k + 24 ≡ n → n ≡ 96 * k + 24
         from_start a k n z e = omega arith
 
-pub accepted-whole : (bs : List ℕ) (s : Settings) → log_of bs ≡ log.Good s → s.start ≡ 0 → whole bs ≡ true
+pub accepted-whole : (bs : List ℕ) (s : Settings) → log_of bs ≡ Ok s → s.start ≡ 0 → whole bs ≡ true
 unfolding whole
 accepted-whole bs s e z = ap whole_by e ∙ eq-eqb s.start 0 z
 

@@ -1,5 +1,6 @@
 -- What is written of a cut log (document 02, Q-11): the records that were kept, unchanged, in a log that the reader accepts with exactly these and the
 -- settings; a whole log as it is; and the same again when it is run on what it wrote. Assumes nothing.
+use Rattle.std.specs.Prelude.{Err, Ok}
 use mathlib.Core.Path.{◌≡◌, refl, sym, ap, ◌∙◌, subst}
 use mathlib.Core.Bool.{Bool, true, false, cond}
 use mathlib.Core.List.{List, ◌++◌}
@@ -10,7 +11,7 @@ use lib.Seq.{length-take-le, take_at}
 use Rattle.record_parts.specs.Fits.{U16, U64}
 use Rattle.log_record.specs.Records.{good, read_of}
 use Rattle.log_whole.specs.declared.Settings.{Settings}
-use Rattle.log_whole.specs.declared.Log.TheVariants as log
+use Rattle.log_whole.specs.declared.Fault.TheVariants as fault
 use Rattle.log_whole.specs.Logs.{trailer_at, count_of, settings_of, record_at, log_of, played_by, call_at}
 use Rattle.log_whole.specs.Meaning.{Means}
 use Rattle.log_whole.proofs.Accepted.{answer_means}
@@ -127,7 +128,7 @@ module _ (bs : List ℕ) (copies threshold timeout : ℕ) where
 
 module _ (bs : List ℕ) (copies threshold timeout : ℕ) (small : length bs ≤ 65536) (fc : U16 copies) (ft : U16 threshold) (fo : U64 timeout) where
   cut_accepted : whole bs ≡ false → log_of (take (stop_of bs) bs ++ trailer_of (kept_of bs) copies threshold timeout)
-      ≡ log.Good (record { copies = copies; threshold = threshold; timeout = timeout; count = kept_of bs; start = 0 })
+      ≡ Ok (record { copies = copies; threshold = threshold; timeout = timeout; count = kept_of bs; start = 0 })
   cut_accepted w =
       fresh-accepted (take (stop_of bs) bs) (kept_of bs) copies threshold timeout (front_length bs) (kept_few bs small) fc ft fo
       (first-at (take (stop_of bs) bs ++ trailer_of (kept_of bs) copies threshold timeout) (kept_of bs) (kept_of bs) (omega arith)
@@ -140,19 +141,19 @@ module _ (bs : List ℕ) (copies threshold timeout : ℕ) (small : length bs ≤
       never k l = omega arith
 
   -- "its output is accepted by `linkreport`": by the reader, with the settings and as many records as were kept.
-  pub output_accepted : log_of (output_of bs copies threshold timeout) ≡ log.Good (settings_for bs copies threshold timeout)
+  pub output_accepted : log_of (output_of bs copies threshold timeout) ≡ Ok (settings_for bs copies threshold timeout)
   output_accepted = by (whole bs) refl
     where
-      by : (b : Bool) → whole bs ≡ b → log_of (output_of bs copies threshold timeout) ≡ log.Good (settings_for bs copies threshold timeout)
+      by : (b : Bool) → whole bs ≡ b → log_of (output_of bs copies threshold timeout) ≡ Ok (settings_for bs copies threshold timeout)
       by true w =
-          ap log_of (output_whole bs copies threshold timeout w) ∙ (whole_is bs w).accepted ∙ sym (ap log.Good (settings_whole bs copies threshold timeout w))
+          ap log_of (output_whole bs copies threshold timeout w) ∙ (whole_is bs w).accepted ∙ sym (ap Ok (settings_whole bs copies threshold timeout w))
       by false w =
-          ap log_of (output_cut bs copies threshold timeout w) ∙ cut_accepted w ∙ sym (ap log.Good (settings_cut bs copies threshold timeout w))
+          ap log_of (output_cut bs copies threshold timeout w) ∙ cut_accepted w ∙ sym (ap Ok (settings_cut bs copies threshold timeout w))
 
   pub again_whole : whole (output_of bs copies threshold timeout) ≡ true
   again_whole = accepted-whole (output_of bs copies threshold timeout) (settings_for bs copies threshold timeout) output_accepted (settings_start bs copies threshold timeout)
 
-  means : Means (output_of bs copies threshold timeout) (log.Good (settings_for bs copies threshold timeout))
+  means : Means (output_of bs copies threshold timeout) (Ok (settings_for bs copies threshold timeout))
   means = subst (Means (output_of bs copies threshold timeout)) output_accepted (answer_means (output_of bs copies threshold timeout))
 
   -- Record i of it plays what record i of the bytes says.
@@ -186,11 +187,11 @@ pub record GivenBack (bs : List ℕ) (s : Settings) (copies threshold timeout : 
 
 -- "A log that `linkreport` accepts, with no leading matter, is given back as it is, its own trailer settings too, with 0 dropped and the stop at the
 -- first byte of its trailer."
-pub given_back : (bs : List ℕ) (s : Settings) (copies threshold timeout : ℕ) → log_of bs ≡ log.Good s → s.start ≡ 0
+pub given_back : (bs : List ℕ) (s : Settings) (copies threshold timeout : ℕ) → log_of bs ≡ Ok s → s.start ≡ 0
     → GivenBack bs s copies threshold timeout
 given_back bs s copies threshold timeout e z =
     let w : whole bs ≡ true = accepted-whole bs s e z in
-    let m : Means bs (log.Good s) = subst (Means bs) e (answer_means bs) in
+    let m : Means bs (Ok s) = subst (Means bs) e (answer_means bs) in
     record {
       same = output_whole bs copies threshold timeout w;
       settings = settings_whole bs copies threshold timeout w ∙ sym m.2;
@@ -214,7 +215,7 @@ dropped_behind bs w = ap (λ (n : ℕ). stop_of bs + n) (dropped_cut bs w) ∙ a
 module _ (copies threshold timeout : ℕ) (fc : U16 copies) (ft : U16 threshold) (fo : U64 timeout) where
   -- The kept records and the next whole one, in a log of their own, are refused with 8 at that one.
   pub stops-at_8 : (bs : List ℕ) → length bs ≤ 65536 → stop_of bs + 96 ≤ length bs
-      → log_of (take (stop_of bs + 96) bs ++ trailer_of (kept_of bs + 1) copies threshold timeout) ≡ log.BadRecord (kept_of bs)
+      → log_of (take (stop_of bs + 96) bs ++ trailer_of (kept_of bs + 1) copies threshold timeout) ≡ Err (fault.BadRecord (kept_of bs))
   stops-at_8 bs small more =
       fresh-refused (take (stop_of bs + 96) bs) (kept_of bs + 1) copies threshold timeout size (few (kept_of bs) (length bs) more small) fc ft fo (kept_of bs)
       (first-at (take (stop_of bs + 96) bs ++ trailer_of (kept_of bs + 1) copies threshold timeout) (kept_of bs + 1) (kept_of bs) (omega arith)
@@ -244,14 +245,14 @@ module _ (copies threshold timeout : ℕ) (fc : U16 copies) (ft : U16 threshold)
           (subst (λ (m : ℕ). 96 * j + 96 ≤ m) (sym (length-take-le (stop_of bs + 96) bs more)) h)
           ∙ taken bs (stop_of bs + 96) j h more
 
-not_whole : (bs : List ℕ) (n : ℕ) → log_of bs ≡ log.BadRecord n → whole bs ≡ false
+not_whole : (bs : List ℕ) (n : ℕ) → log_of bs ≡ Err (fault.BadRecord n) → whole bs ≡ false
 unfolding whole
 not_whole bs n e = ap whole_by e
 
 -- A log that is refused with 8 at record n, with no leading matter, is kept up to that record.
-pub refused_8 : (bs : List ℕ) (n : ℕ) → log_of bs ≡ log.BadRecord n → (settings_of bs).start ≡ 0 → (kept_of bs ≡ n) × (whole bs ≡ false)
+pub refused_8 : (bs : List ℕ) (n : ℕ) → log_of bs ≡ Err (fault.BadRecord n) → (settings_of bs).start ≡ 0 → (kept_of bs ≡ n) × (whole bs ≡ false)
 refused_8 bs n e z =
-    let m : Means bs (log.BadRecord n) = subst (Means bs) e (answer_means bs) in
+    let m : Means bs (Err (fault.BadRecord n)) = subst (Means bs) e (answer_means bs) in
     let r : (settings_of bs).start + 96 * count_of bs + 24 ≡ length bs = records-within bs m.1 in (
       kept_is bs n (record {
         there = room (settings_of bs).start (count_of bs) n (length bs) m.2 r;

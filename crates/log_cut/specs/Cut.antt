@@ -1,10 +1,10 @@
 -- A log that was cut short on the way (document 02, Q-11): "It keeps records from byte 0 up to the first that is bad or incomplete, and writes them
 -- with a new trailer. It says how many records were kept, at which byte it stopped and how many bytes were dropped. A bad record here is exactly one
 -- that document 01 answers with 8." What a log is, and a bad record, are those of log_whole. Assumes nothing.
-use Rattle.std.specs.Prelude.{Bool, false, cond, List, ◌++◌, ℕ, ◌-◌, ◌*◌, ◌/◌, eqb, length, take, replicate}
+use Rattle.std.specs.Prelude.{Bool, false, cond, List, ◌++◌, ℕ, ◌-◌, ◌*◌, ◌/◌, eqb, length, take, replicate, Err, Ok, Result}
 use Rattle.log_whole.specs.declared.Settings.{Settings}
-use Rattle.log_whole.specs.declared.Log.{Log}
-use Rattle.log_whole.specs.declared.Log.TheVariants as log
+use Rattle.log_whole.specs.declared.Fault.{Fault}
+use Rattle.log_whole.specs.declared.Fault.TheVariants as fault
 use Rattle.log_whole.specs.Logs.{settings_of, first_bad, log_of, trailer_over}
 
 -- ---- what is kept
@@ -18,11 +18,11 @@ abbrev pub stop_of : List ℕ → ℕ
 stop_of bs = 96 * kept_of bs
 
 -- of the reader's answer: accepted, and the first record stands at byte 0
-abbrev pub whole_by : Log → Bool
-whole_by (log.Good s) = eqb s.start 0
-whole_by log.TooLong = false
-whole_by log.BadTrailer = false
-whole_by (log.BadRecord n) = false
+abbrev pub whole_by : Result Settings Fault → Bool
+whole_by (Ok s) = eqb s.start 0
+whole_by (Err fault.TooLong) = false
+whole_by (Err fault.BadTrailer) = false
+whole_by (Err (fault.BadRecord n)) = false
 
 -- "A log that `linkreport` accepts, with no leading matter"
 unfoldable pub whole : List ℕ → Bool

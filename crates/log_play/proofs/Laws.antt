@@ -1,13 +1,13 @@
 -- From a record to the tally of all records so far. Assumes nothing.
+use Rattle.std.specs.Prelude.{Option, Some, None}
+use Rattle.call_types.specs.declared.Call.{Call}
+use Rattle.monitor.specs.declared.Monitor.{Monitor}
 use mathlib.Core.Path.{◌≡◌, refl, sym, ap, subst, ◌∙◌}
 use mathlib.Core.List.{List}
 use native.Mathlib.Omega.{arith}
 use Prim.Native.Nat.{ℕ, zero, suc, ◌+◌, ◌≤◌, ◌<◌, ◌^◌}
 use Rattle.probe_queue.specs.declared.QueuedProbe.{QueuedProbe}
-use Rattle.log_whole.specs.declared.PlayedCall.{PlayedCall as Read}
-use Rattle.log_whole.specs.declared.PlayedCall.TheVariants as read
 use Rattle.log_whole.specs.Logs.{call_at}
-use Rattle.link_steps.specs.declared.Watch.{Watch}
 use Rattle.link_steps.specs.Steps.{LinkStand, refuses, one_if}
 use Rattle.log_play_parts.specs.Parts.{rooms_of}
 use Rattle.log_play.specs.declared.Step.{Step}
@@ -30,32 +30,32 @@ one_at_most : (k n m : ℕ) → n ≤ m → one_if k n ≤ m + 1
 one_at_most zero n m l = omega arith
 one_at_most (suc k) n m l = omega arith
 
-recorded-most : (t : Tallied) (r : Read) (m : ℕ) → t.turned ≤ m → (recorded t r).turned ≤ m + 1
-recorded-most t read.Nothing m l = omega arith
-recorded-most t (read.Call c) m l = one_at_most (refuses t.standing c) t.turned m l
+recorded-most : (t : Tallied) (r : Option Call) (m : ℕ) → t.turned ≤ m → (recorded t r).turned ≤ m + 1
+recorded-most t None m l = omega arith
+recorded-most t (Some c) m l = one_at_most (refuses t.standing c) t.turned m l
 
 turned_on : (log : List ℕ) (start t t' : Tallied) (n : ℕ) → t' ≡ recorded t (call_at log n) → t ≡ tallied log start n → t.turned ≤ n → t'.turned ≤ n + 1
 turned_on log start t t' n e _ l = subst (λ (x : Tallied). x.turned ≤ n + 1) (sym e) (recorded-most t (call_at log n) n l)
 
 -- a record that is counted is the tally's next
-counted : (t : Tallied) (r : Read) (step : Step) (left : LinkStand) (turned : ℕ) → Stepped t.standing r step left → turned ≡ one_if step.refused t.turned → tally_of left turned ≡ recorded t r
-counted t read.Nothing step left turned h e = λ j. tally_of (h.stands j) ((e ∙ ap (λ (n : ℕ). one_if n t.turned) h.refused) j)
-counted t (read.Call c) step left turned h e = λ j. tally_of (h.stands j) ((e ∙ ap (λ (n : ℕ). one_if n t.turned) h.refused) j)
+counted : (t : Tallied) (r : Option Call) (step : Step) (left : LinkStand) (turned : ℕ) → Stepped t.standing r step left → turned ≡ one_if step.refused t.turned → tally_of left turned ≡ recorded t r
+counted t None step left turned h e = λ j. tally_of (h.stands j) ((e ∙ ap (λ (n : ℕ). one_if n t.turned) h.refused) j)
+counted t (Some c) step left turned h e = λ j. tally_of (h.stands j) ((e ∙ ap (λ (n : ℕ). one_if n t.turned) h.refused) j)
 
-module _ (start : Watch) (log : List ℕ) (count : ℕ) (ledger₀ : List ℕ) (keys₀ slots₀ probes₀ : List (List ℕ)) (offsets₀ : List ℕ) (links₀ : List (List ℕ)) (queue₀ : List QueuedProbe) where
+module _ (start : Option Monitor) (log : List ℕ) (count : ℕ) (ledger₀ : List ℕ) (keys₀ slots₀ probes₀ : List (List ℕ)) (offsets₀ : List ℕ) (links₀ : List (List ℕ)) (queue₀ : List QueuedProbe) where
   abbrev begun : Tallied
   begun = tally_of (standing_of (link_at ledger₀ start) queue₀ (rooms_of keys₀ slots₀ probes₀ offsets₀ links₀)) 0
 
   -- what stands after i records, and that no more were turned away than were played
-  abbrev pub Played : ℕ → Watch → ℕ → List ℕ → List (List ℕ) → List (List ℕ) → List (List ℕ) → List ℕ → List (List ℕ) → List QueuedProbe → Type 0
+  abbrev pub Played : ℕ → Option Monitor → ℕ → List ℕ → List (List ℕ) → List (List ℕ) → List (List ℕ) → List ℕ → List (List ℕ) → List QueuedProbe → Type 0
   Played i watch turned ledger keys slots probes offsets links queue =
       (tally_of (standing_of (link_at ledger watch) queue (rooms_of keys slots probes offsets links)) turned ≡ tallied log begun i) × (turned ≤ i)
 
   pub begins_played : Played 0 start 0 ledger₀ keys₀ slots₀ probes₀ offsets₀ links₀ queue₀
   begins_played = (tallied-none log begun, omega arith)
 
-  pub plays_on : (i : ℕ) (watch : Watch) (turned : ℕ) (ledger : List ℕ) (keys slots probes : List (List ℕ)) (offsets : List ℕ) (links : List (List ℕ)) (queue : List QueuedProbe)
-      (step : Step) (ledger' : List ℕ) (keys' slots' probes' : List (List ℕ)) (offsets' : List ℕ) (links' : List (List ℕ)) (queue' : List QueuedProbe) (turned' : ℕ) (watch' : Watch)
+  pub plays_on : (i : ℕ) (watch : Option Monitor) (turned : ℕ) (ledger : List ℕ) (keys slots probes : List (List ℕ)) (offsets : List ℕ) (links : List (List ℕ)) (queue : List QueuedProbe)
+      (step : Step) (ledger' : List ℕ) (keys' slots' probes' : List (List ℕ)) (offsets' : List ℕ) (links' : List (List ℕ)) (queue' : List QueuedProbe) (turned' : ℕ) (watch' : Option Monitor)
       → Played i watch turned ledger keys slots probes offsets links queue → i < count
       → Stepped (standing_of (link_at ledger watch) queue (rooms_of keys slots probes offsets links)) (call_at log i) step (standing_of (link_at ledger' step.watch) queue' (rooms_of keys' slots' probes' offsets' links'))
       → turned' ≡ one_if step.refused turned → watch' ≡ step.watch
@@ -67,7 +67,7 @@ module _ (start : Watch) (log : List ℕ) (count : ℕ) (ledger₀ : List ℕ) (
       (λ j. tally_of (standing_of (link_at ledger' (el j)) queue' rooms) turned') ∙ counted t (call_at log i) step (standing_of (link_at ledger' step.watch) queue' rooms) turned' hs et in
       (tallied_on log begun t _ i next h.0, turned_on log begun t _ i next h.0 h.1)
 
-  pub all_played : (i : ℕ) (watch : Watch) (turned : ℕ) (ledger : List ℕ) (keys slots probes : List (List ℕ)) (offsets : List ℕ) (links : List (List ℕ)) (queue : List QueuedProbe) (r : Tally)
+  pub all_played : (i : ℕ) (watch : Option Monitor) (turned : ℕ) (ledger : List ℕ) (keys slots probes : List (List ℕ)) (offsets : List ℕ) (links : List (List ℕ)) (queue : List QueuedProbe) (r : Tally)
       → Played i watch turned ledger keys slots probes offsets links queue → i ≤ count → count ≤ i → (r.watch ≡ watch) × (r.turned ≡ turned)
       → tally_of (standing_of (link_at ledger r.watch) queue (rooms_of keys slots probes offsets links)) r.turned ≡ tallied log begun count
   all_played i watch turned ledger keys slots probes offsets links queue r h most least er =

@@ -1,4 +1,6 @@
 -- From the parts of a record, in a row, to the step of link_steps. Assumes nothing.
+use Rattle.std.specs.Prelude.{Option, Some, None}
+use Rattle.call_types.specs.declared.Call.{Call}
 use mathlib.Core.Path.{◌≡◌, refl, ap, ◌∙◌}
 use mathlib.Core.Bool.{Bool}
 use mathlib.Core.List.{List}
@@ -11,11 +13,7 @@ use Rattle.ledger_state.specs.declared.Ledger.{Ledger}
 use Rattle.ledger_steps.specs.Rooms.{Rooms}
 use Rattle.monitor.specs.declared.Monitor.{Monitor}
 use Rattle.monitor.specs.Operations.{MonitorStand, Leaves, sent_if, reply_if, advance_if}
-use Rattle.log_whole.specs.declared.PlayedCall.{PlayedCall as Read}
-use Rattle.log_whole.specs.declared.PlayedCall.TheVariants as read
 use Rattle.log_whole.specs.Logs.{call_at}
-use Rattle.link_steps.specs.declared.Watch.{Watch}
-use Rattle.link_steps.specs.declared.Watch.TheVariants.{Absent, Present}
 use Rattle.link_steps.specs.Steps.{LinkStand, after, refuses}
 use Rattle.log_play_parts.specs.declared.Part.{Part}
 use Rattle.log_play_parts.specs.Parts.{ReadFits, rooms_of, other_of, Parted, parted, part_of, monitor_of, goes_on, kind_of, sequence_of, time_of, watch_after}
@@ -32,46 +30,46 @@ three g₁ g₂ g₃ m queue s t =
     advance_if g₃ y.monitor y.room t
 
 -- the record from its parts
-abbrev joined : Watch → Read → Parted → MonitorStand → LinkStand
+abbrev joined : Option Monitor → Option Call → Parted → MonitorStand → LinkStand
 joined w r p x = standing_of (record { ledger = p.ledger; watch = watch_after w (idled_if (eqb (kind_of r) 5) x.monitor) }) x.room p.rooms
 
-abbrev parts_of : LinkStand → Read → Parted
+abbrev parts_of : LinkStand → Option Call → Parted
 parts_of k r = part_of (other_of k.link.watch r (length k.queue)) k.link.ledger k.rooms r
 
-abbrev three_of : LinkStand → Read → MonitorStand
+abbrev three_of : LinkStand → Option Call → MonitorStand
 three_of k r =
     let w = k.link.watch in
     let go = (parts_of k r).part.go in
     three (goes_on 1 w r go) (goes_on 2 w r go) (goes_on 4 w r go) (monitor_of w) k.queue (sequence_of r) (time_of r)
 
-joins : (w : Watch) (l : Ledger) (rooms : Rooms) (queue : List QueuedProbe) (r : Read) →
+joins : (w : Option Monitor) (l : Ledger) (rooms : Rooms) (queue : List QueuedProbe) (r : Option Call) →
     let k = standing_of (record { ledger = l; watch = w }) queue rooms in
     joined w r (parts_of k r) (three_of k r) ≡ after_read k r
 unfolding after sent_if reply_if advance_if
-joins Absent l rooms queue read.Nothing = refl
-joins (Present m) l rooms queue read.Nothing = refl
-joins Absent l rooms queue (read.Call (call.Sent s)) = refl
-joins (Present m) l rooms queue (read.Call (call.Sent s)) = refl
-joins Absent l rooms queue (read.Call (call.Accept a)) = refl
-joins (Present m) l rooms queue (read.Call (call.Accept a)) = refl
-joins Absent l rooms queue (read.Call (call.Observe o)) = refl
-joins (Present m) l rooms queue (read.Call (call.Observe o)) = refl
-joins Absent l rooms queue (read.Call (call.Advance t)) = refl
-joins (Present m) l rooms queue (read.Call (call.Advance t)) = refl
-joins Absent l rooms queue (read.Call call.Idle) = refl
-joins (Present m) l rooms queue (read.Call call.Idle) = refl
+joins None l rooms queue None = refl
+joins (Some m) l rooms queue None = refl
+joins None l rooms queue (Some (call.Sent s)) = refl
+joins (Some m) l rooms queue (Some (call.Sent s)) = refl
+joins None l rooms queue (Some (call.Accept a)) = refl
+joins (Some m) l rooms queue (Some (call.Accept a)) = refl
+joins None l rooms queue (Some (call.Observe o)) = refl
+joins (Some m) l rooms queue (Some (call.Observe o)) = refl
+joins None l rooms queue (Some (call.Advance t)) = refl
+joins (Some m) l rooms queue (Some (call.Advance t)) = refl
+joins None l rooms queue (Some call.Idle) = refl
+joins (Some m) l rooms queue (Some call.Idle) = refl
 
-numbers : (k : LinkStand) (r : Read) → (parts_of k r).part.refused ≡ refuses_read k r
+numbers : (k : LinkStand) (r : Option Call) → (parts_of k r).part.refused ≡ refuses_read k r
 unfolding refuses
-numbers k read.Nothing = refl
-numbers k (read.Call (call.Sent s)) = refl
-numbers k (read.Call (call.Accept a)) = refl
-numbers k (read.Call (call.Observe o)) = refl
-numbers k (read.Call (call.Advance t)) = refl
-numbers k (read.Call call.Idle) = refl
+numbers k None = refl
+numbers k (Some (call.Sent s)) = refl
+numbers k (Some (call.Accept a)) = refl
+numbers k (Some (call.Observe o)) = refl
+numbers k (Some (call.Advance t)) = refl
+numbers k (Some call.Idle) = refl
 
-pub steps : (watch : Watch) (log : List ℕ) (i : ℕ) (ledger : List ℕ) (keys slots probes : List (List ℕ)) (offsets : List ℕ) (links : List (List ℕ)) (queue : List QueuedProbe)
-    (r : Read) (other : ℕ) (part : Part) (ledger' : List ℕ) (keys' slots' probes' : List (List ℕ)) (offsets' : List ℕ) (links' : List (List ℕ)) (m : Monitor) (g₁ g₂ g₃ : Bool) (s t : ℕ)
+pub steps : (watch : Option Monitor) (log : List ℕ) (i : ℕ) (ledger : List ℕ) (keys slots probes : List (List ℕ)) (offsets : List ℕ) (links : List (List ℕ)) (queue : List QueuedProbe)
+    (r : Option Call) (other : ℕ) (part : Part) (ledger' : List ℕ) (keys' slots' probes' : List (List ℕ)) (offsets' : List ℕ) (links' : List (List ℕ)) (m : Monitor) (g₁ g₂ g₃ : Bool) (s t : ℕ)
     (first : Monitor) (queue₁ : List QueuedProbe) (second : Monitor) (queue₂ : List QueuedProbe) (third : Monitor) (queue₃ : List QueuedProbe) (step : Step)
     → (r ≡ call_at log i) × ReadFits r → other ≡ other_of watch r (length queue)
     → parted part (ledger_at ledger') (rooms_of keys' slots' probes' offsets' links') ≡ part_of other (ledger_at ledger) (rooms_of keys slots probes offsets links) r

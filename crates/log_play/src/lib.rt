@@ -8,28 +8,27 @@ ghost use Rattle.log_play_parts.specs.Parts.{rooms_of, kind_of, watch_after};
 ghost use Rattle.log_play_turn.specs.Turn.{idled_if};
 ghost use Rattle.log_play.specs.Tally.{link_at, standing_of, tally_of, tallied, Stepped};
 
+use call_types::Call;
 use host_ledger::LEDGER_WORDS;
-use link_steps::Watch;
 use log_play_parts::Part;
-use log_whole::PlayedCall as Read;
 use monitor::Monitor;
 use probe_queue::QueuedProbe;
 
 // The monitor after a record, if the link has one, and the number of the refusal or 0.
 #[derive(Clone, Copy)]
 pub struct Step {
-    pub watch: Watch,
+    pub watch: Option<Monitor>,
     pub refused: u8,
 }
 
 // The monitor, and how many records were turned away so far.
 #[derive(Clone, Copy)]
 pub struct Tally {
-    pub watch: Watch,
+    pub watch: Option<Monitor>,
     pub turned: u64,
 }
 
-fn step_of(watch: Watch, read: Read, part: Part, monitor: Monitor) -> Step
+fn step_of(watch: Option<Monitor>, read: Option<Call>, part: Part, monitor: Monitor) -> Step
     ensures { (result.watch ≡ watch_after watch (idled_if (eqb (kind_of read) 5) monitor)) × (result.refused ≡ part.refused) }
 {
     let next = log_play_parts::watch_after(
@@ -42,7 +41,7 @@ fn step_of(watch: Watch, read: Read, part: Part, monitor: Monitor) -> Step
     }
 }
 
-fn watch_of(step: Step) -> Watch
+fn watch_of(step: Step) -> Option<Monitor>
     ensures { result ≡ step.watch }
 {
     step.watch
@@ -56,7 +55,7 @@ fn count_refused(step: Step, turned: u64) -> u64
     log_play_turn::turned_by(step.refused, turned)
 }
 
-fn tally_of(watch: Watch, turned: u64) -> Tally
+fn tally_of(watch: Option<Monitor>, turned: u64) -> Tally
     ensures { (result.watch ≡ watch) × (result.turned ≡ turned) }
 {
     Tally {
@@ -67,7 +66,7 @@ fn tally_of(watch: Watch, turned: u64) -> Tally
 
 // Record i; nothing where the log has no such record.
 pub fn play_record(
-    watch: Watch,
+    watch: Option<Monitor>,
     log: &[u8],
     i: u32,
     ledger: &mut [u64; LEDGER_WORDS],
@@ -102,7 +101,7 @@ pub fn play_record(
 
 // The first `count` records of a log.
 pub fn play_records(
-    start: Watch,
+    start: Option<Monitor>,
     log: &[u8],
     count: u32,
     ledger: &mut [u64; LEDGER_WORDS],

@@ -1,4 +1,6 @@
 -- The numbers of a record that is read from the bytes of a log fit their types. Assumes nothing.
+use Rattle.std.specs.Prelude.{Option, None}
+use Rattle.call_types.specs.declared.Call.{Call}
 use mathlib.Core.Path.{◌≡◌}
 use mathlib.Core.Bool.{Bool, true, false, cond}
 use mathlib.Core.List.{List, [], ◌∷◌}
@@ -14,9 +16,7 @@ use Rattle.record_parts.specs.declared.Entry.{Entry}
 use Rattle.record_parts.specs.declared.Entry.TheVariants as entry
 use Rattle.record_parts.specs.Parts.{call_of, flag, time_by, ordinal_by, counters_by, follow_by, estimates_by}
 use Rattle.record_parts.specs.Fits.{U32, U64, TimeFits, OrdinalFits, CountersFit, FollowFits, EstimateFits, EstimatesFit, ObservationFits}
-use Rattle.log_record.specs.Records.{sent_at, accept_at, observe_at, converted_at, entry_of, answer, read_number, read_of}
-use Rattle.log_whole.specs.declared.PlayedCall.{PlayedCall}
-use Rattle.log_whole.specs.declared.PlayedCall.TheVariants as read
+use Rattle.log_record.specs.Records.{sent_at, accept_at, observe_at, converted_at, entry_of, good, answer, read_of}
 use Rattle.log_whole.specs.Logs.{count_of, settings_of, most_bytes, trailer_good, record_at, played_by, call_at}
 use Rattle.log_play_parts.specs.Parts.{CallFits, ReadFits}
 
@@ -110,15 +110,16 @@ module _ (r : List ℕ) (h : Bytes r) where
   unfolding entry_of
   call_fits = by_kind (number_at 0 r 1) (eqb (number_at 0 r 0) 0) (eqb (number_at 0 r 0) 1) (eqb (number_at 0 r 0) 2) (eqb (number_at 0 r 0) 3)
 
-answer-fits : (n : ℕ) (e : Entry) → CallFits (call_of e) → ReadFits (played_by (answer n e))
-answer-fits zero e f = f
-answer-fits (suc n) e f = tt
+answer-fits : (sized kept : Bool) (e : Entry) → CallFits (call_of e) → ReadFits (played_by (answer sized kept e))
+answer-fits true true e f = f
+answer-fits true false e f = tt
+answer-fits false kept e f = tt
 
 read_fits : (r : List ℕ) → Bytes r → ReadFits (played_by (read_of r))
 unfolding read_of
-read_fits r h = answer-fits (read_number r) (entry_of r) (call_fits r h)
+read_fits r h = answer-fits (eqb (length r) 96) (good r) (entry_of r) (call_fits r h)
 
-picked_fits : (a b c : Bool) (p : PlayedCall) → ReadFits p → ReadFits (cond a read.Nothing (cond b (cond c p read.Nothing) read.Nothing))
+picked_fits : (a b c : Bool) (p : Option Call) → ReadFits p → ReadFits (cond a None (cond b (cond c p None) None))
 picked_fits true b c p f = tt
 picked_fits false true true p f = f
 picked_fits false true false p f = tt

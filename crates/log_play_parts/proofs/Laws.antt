@@ -1,4 +1,8 @@
 -- From what each callee of a part leaves to the part. Assumes nothing.
+use Rattle.limits.specs.Numbers.{number}
+use Rattle.std.specs.Prelude.{Option, Some, None}
+use Rattle.call_types.specs.declared.CounterPoint.{CounterPoint}
+use Rattle.monitor.specs.declared.Monitor.{Monitor}
 use mathlib.Core.Path.{◌≡◌, refl, sym, ap, subst, ◌∙◌}
 use mathlib.Core.Bool.{Bool, false}
 use mathlib.Core.List.{List}
@@ -9,8 +13,6 @@ use lib.ListN.{length}
 use borrow.Author.Tests.{ne_eqb}
 use Rattle.call_types.specs.declared.Call.{Call}
 use Rattle.call_types.specs.declared.Call.TheVariants as call
-use Rattle.call_types.specs.declared.Counters.{Counters}
-use Rattle.call_types.specs.declared.Counters.TheVariants as counters
 use Rattle.call_types.specs.declared.SentProbe.{SentProbe}
 use Rattle.call_types.specs.declared.Reply.{Reply}
 use Rattle.call_types.specs.declared.ReplyObservation.{ReplyObservation}
@@ -23,9 +25,6 @@ use Rattle.ledger_steps.specs.Accept.{accept_on}
 use Rattle.ledger_steps.specs.Observe.{observe_on}
 use Rattle.ledger_steps.specs.Calls.{sent_by, accept_by, observe_by, sent_to, accept_to, observe_to}
 use Rattle.ledger_steps.specs.Rooms.{Rooms}
-use Rattle.log_whole.specs.declared.PlayedCall.{PlayedCall as Read}
-use Rattle.log_whole.specs.declared.PlayedCall.TheVariants as read
-use Rattle.link_steps.specs.declared.Watch.{Watch}
 use Rattle.host_observation.specs.Observation.{observation_at}
 use Rattle.host_call_words.specs.Words.{observation_words}
 use Rattle.host_call_words.proofs.Back.{observation-back}
@@ -44,8 +43,8 @@ use Rattle.log_play_parts.specs.declared.Part.{Part}
 use Rattle.log_play_parts.specs.Parts.{CallFits, ReadFits, rooms_of, other_of, part_with, Parted, parted, by_sent, by_accept, by_observe, call_part, part_of}
 
 -- the monitor's refusal of a call that is known
-pub other_at : (w : Watch) (room : ℕ) (r : Read) (c c' : Call) (n : ℕ) → r ≡ read.Call c → c ≡ c' → n ≡ other_of w (read.Call c') room → n ≡ other_of w r room
-other_at w room r c c' n er ec en = en ∙ sym (ap (λ (x : Call). other_of w (read.Call x) room) ec) ∙ sym (ap (λ (x : Read). other_of w x room) er)
+pub other_at : (w : Option Monitor) (room : ℕ) (r : Option Call) (c c' : Call) (n : ℕ) → r ≡ Some c → c ≡ c' → n ≡ other_of w (Some c') room → n ≡ other_of w r room
+other_at w room r c c' n er ec en = en ∙ sym (ap (λ (x : Call). other_of w (Some x) room) ec) ∙ sym (ap (λ (x : Option Call). other_of w x room) er)
 
 -- a refusal's number is not 0
 not_zero : (k : ℕ) → suc k ≡ 0 → ⊥
@@ -61,9 +60,9 @@ observed-told w keys slots offsets links o words x fits ew ex =
     ex ∙ ap (λ (y : ReplyObservation). left_by (observe_to (ledger_at w) keys slots offsets links y) y.counters w) same
 
 -- the counters of what was told, in the words of crate reply_history
-counters_fit : (k : Counters) → CountersFit k → history.CountersFit k
-counters_fit counters.Absent f = tt
-counters_fit (counters.Point p) f = record { sender_in = f.sender; received_in = f.received; transmitted_in = f.transmitted }
+counters_fit : (k : Option CounterPoint) → CountersFit k → history.CountersFit k
+counters_fit None f = tt
+counters_fit (Some p) f = record { sender_in = f.sender; received_in = f.received; transmitted_in = f.transmitted }
 
 -- ---- what the words say after the ledger's call is the ledger after the call
 
@@ -124,7 +123,7 @@ module _ (other : ℕ) (w : List ℕ) (long : length w ≡ 80) (keys slots probe
         (λ j. parted (ep j) (ledger_at w') (rooms_of keys slots probes' offsets links')) ∙ ap sent_parted ea ∙ sent-parted s ∙ sym (ap (call_part other (ledger_at w) rooms) ec)
 
     pub by-accept : (a : Reply) (g : ReplyAnswer) (w' : List ℕ) (keys' slots' probes' links' : List (List ℕ)) → c ≡ call.Accept a
-        → accept_left g.number w' keys' slots' probes' links' g.words ≡ accept_from w zeros (accept_to other (ledger_at w) keys slots probes links a) → p ≡ part_with g.number (heard_in g.words)
+        → accept_left (number g.refused) w' keys' slots' probes' links' g.words ≡ accept_from w zeros (accept_to other (ledger_at w) keys slots probes links a) → p ≡ part_with (number g.refused) (heard_in g.words)
         → parted p (ledger_at w') (rooms_of keys' slots' probes' offsets links') ≡ call_part other (ledger_at w) rooms c
     by-accept a g w' keys' slots' probes' links' ec ea ep =
         (λ j. parted (ep j) (ledger_at w') (rooms_of keys' slots' probes' offsets links')) ∙ ap accept_parted ea ∙ accept-parted a (subst CallFits ec fits) ∙ sym (ap (call_part other (ledger_at w) rooms) ec)
@@ -140,8 +139,8 @@ pub by-none : (other : ℕ) (l : Ledger) (rooms : Rooms) (c c' : Call) (p q : Pa
 by-none other l rooms c c' p q ec ep e = (λ j. parted (ep j) l rooms) ∙ e ∙ sym (ap (call_part other l rooms) ec)
 
 -- a record, and none
-pub part_call : (other : ℕ) (l : Ledger) (rooms : Rooms) (r : Read) (c : Call) (x : Parted) → r ≡ read.Call c → x ≡ call_part other l rooms c → x ≡ part_of other l rooms r
+pub part_call : (other : ℕ) (l : Ledger) (rooms : Rooms) (r : Option Call) (c : Call) (x : Parted) → r ≡ Some c → x ≡ call_part other l rooms c → x ≡ part_of other l rooms r
 part_call other l rooms r c x er e = e ∙ sym (ap (part_of other l rooms) er)
 
-pub part_none : (other : ℕ) (l : Ledger) (rooms : Rooms) (r : Read) (p q : Part) → r ≡ read.Nothing → p ≡ q → parted q l rooms ≡ part_of other l rooms read.Nothing → parted p l rooms ≡ part_of other l rooms r
+pub part_none : (other : ℕ) (l : Ledger) (rooms : Rooms) (r : Option Call) (p q : Part) → r ≡ None → p ≡ q → parted q l rooms ≡ part_of other l rooms None → parted p l rooms ≡ part_of other l rooms r
 part_none other l rooms r p q er ep e = (λ j. parted (ep j) l rooms) ∙ e ∙ sym (ap (part_of other l rooms) er)

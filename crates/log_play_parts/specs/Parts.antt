@@ -1,21 +1,16 @@
 -- One record of a log on a link, in parts: the ledger's part, and which of the monitor's calls goes on, with what. log_play proves that the parts
 -- in a row are the step of link_steps. Assumes nothing.
-use Rattle.std.specs.Prelude.{Bool, true, false, ◌&&◌, List, ℕ, eqb}
+use Rattle.ledger_steps.specs.declared.Accepted.{Accepted}
+use Rattle.std.specs.Prelude.{Bool, true, false, ◌&&◌, List, ℕ, eqb, Option, Some, None, Result}
 use Rattle.limits.specs.Limits.{capacity}
 use Rattle.call_types.specs.declared.Call.{Call}
 use Rattle.call_types.specs.declared.Call.TheVariants as call
 use Rattle.ledger_state.specs.declared.Ledger.{Ledger}
-use Rattle.ledger_steps.specs.declared.LedgerAnswer.{LedgerAnswer}
-use Rattle.ledger_steps.specs.declared.AcceptAnswer.{AcceptAnswer}
 use Rattle.ledger_steps.specs.Rooms.{Rooms}
 use Rattle.ledger_steps.specs.Calls.{number, accept_number, SentResult, AcceptResult, ObserveResult, sent_to, accept_to, observe_to}
 use Rattle.monitor.specs.declared.Monitor.{Monitor}
 use Rattle.monitor.specs.Operations as monitor
 use Rattle.record_parts.specs.Fits.{U32, ObservationFits}
-use Rattle.log_whole.specs.declared.PlayedCall.{PlayedCall as Read}
-use Rattle.log_whole.specs.declared.PlayedCall.TheVariants as read
-use Rattle.link_steps.specs.declared.Watch.{Watch}
-use Rattle.link_steps.specs.declared.Watch.TheVariants.{Absent, Present}
 use Rattle.link_steps.specs.Steps.{watch_refuses_sent, watch_refuses, was_served, ledger_of, was_unique, ledger_of_accept}
 use Rattle.log_play_parts.specs.declared.Part.{Part}
 
@@ -30,9 +25,9 @@ CallFits (call.Advance t) = Unit
 CallFits call.Idle = Unit
 
 -- the same of a record, or of none
-abbrev pub ReadFits : Read → Type 0
-ReadFits read.Nothing = Unit
-ReadFits (read.Call c) = CallFits c
+abbrev pub ReadFits : Option Call → Type 0
+ReadFits None = Unit
+ReadFits (Some c) = CallFits c
 
 -- ---- the ledger's part
 
@@ -41,28 +36,28 @@ abbrev pub rooms_of : List (List ℕ) → List (List ℕ) → List (List ℕ) �
 rooms_of keys slots probes offsets links = record { keys = keys; slots = slots; probes = probes; offsets = offsets; links = links }
 
 -- why the monitor refuses a record, with a queue of this size, or 0
-abbrev pub other_of : Watch → Read → ℕ → ℕ
-other_of w read.Nothing room = 0
-other_of w (read.Call (call.Sent s)) room = watch_refuses_sent w room s
-other_of w (read.Call (call.Accept a)) room = watch_refuses w room
-other_of w (read.Call (call.Observe o)) room = 0
-other_of w (read.Call (call.Advance t)) room = watch_refuses w room
-other_of w (read.Call call.Idle) room = watch_refuses w capacity
+abbrev pub other_of : Option Monitor → Option Call → ℕ → ℕ
+other_of w None room = 0
+other_of w (Some (call.Sent s)) room = watch_refuses_sent w room s
+other_of w (Some (call.Accept a)) room = watch_refuses w room
+other_of w (Some (call.Observe o)) room = 0
+other_of w (Some (call.Advance t)) room = watch_refuses w room
+other_of w (Some call.Idle) room = watch_refuses w capacity
 
 -- why the record is refused or 0, and whether the monitor's call goes on
 abbrev pub part_with : ℕ → Bool → Part
 part_with n go = record { refused = n; go = go }
 
 -- `sent`: the monitor's goes on where the ledger's was served
-abbrev pub sent_part : LedgerAnswer → Part
+abbrev pub sent_part : Result Ledger ℕ → Part
 sent_part a = part_with (number a) (was_served a)
 
 -- `accept`: where the reply was unique
-abbrev pub accept_part : AcceptAnswer → Part
+abbrev pub accept_part : Result (Ledger × Accepted) ℕ → Part
 accept_part a = part_with (accept_number a) (was_unique a)
 
 -- `observe`: the monitor has none
-abbrev pub observe_part : LedgerAnswer → Part
+abbrev pub observe_part : Result Ledger ℕ → Part
 observe_part a = part_with (number a) false
 
 -- a part with the ledger and the rooms that it left
@@ -96,54 +91,54 @@ call_part other l r (call.Advance t) = parted (part_with other true) l r
 call_part other l r call.Idle = parted (part_with other false) l r
 
 -- a record: nothing where the log has none
-abbrev pub part_of : ℕ → Ledger → Rooms → Read → Parted
-part_of other l r read.Nothing = parted (part_with 0 false) l r
-part_of other l r (read.Call c) = call_part other l r c
+abbrev pub part_of : ℕ → Ledger → Rooms → Option Call → Parted
+part_of other l r None = parted (part_with 0 false) l r
+part_of other l r (Some c) = call_part other l r c
 
 -- ---- the monitor's part
 
 -- the link's monitor; a fresh one where it has none, with which nothing goes on
-abbrev pub monitor_of : Watch → Monitor
-monitor_of Absent = monitor.fresh 1 0
-monitor_of (Present m) = m
+abbrev pub monitor_of : Option Monitor → Monitor
+monitor_of None = monitor.fresh 1 0
+monitor_of (Some m) = m
 
 -- whether the link has a monitor
-abbrev pub is_watched : Watch → Bool
-is_watched Absent = false
-is_watched (Present m) = true
+abbrev pub is_watched : Option Monitor → Bool
+is_watched None = false
+is_watched (Some m) = true
 
 -- 0 no record, 1 sent, 2 accept, 3 observe, 4 advance, 5 idle
-abbrev pub kind_of : Read → ℕ
-kind_of read.Nothing = 0
-kind_of (read.Call (call.Sent s)) = 1
-kind_of (read.Call (call.Accept a)) = 2
-kind_of (read.Call (call.Observe o)) = 3
-kind_of (read.Call (call.Advance t)) = 4
-kind_of (read.Call call.Idle) = 5
+abbrev pub kind_of : Option Call → ℕ
+kind_of None = 0
+kind_of (Some (call.Sent s)) = 1
+kind_of (Some (call.Accept a)) = 2
+kind_of (Some (call.Observe o)) = 3
+kind_of (Some (call.Advance t)) = 4
+kind_of (Some call.Idle) = 5
 
 -- whether the monitor's call of this kind goes on
-abbrev pub goes_on : ℕ → Watch → Read → Bool → Bool
+abbrev pub goes_on : ℕ → Option Monitor → Option Call → Bool → Bool
 goes_on kind w r go = is_watched w && eqb (kind_of r) kind && go
 
 -- the sequence that the monitor is told
-abbrev pub sequence_of : Read → ℕ
-sequence_of read.Nothing = 0
-sequence_of (read.Call (call.Sent s)) = s.sequence
-sequence_of (read.Call (call.Accept a)) = a.key.sender
-sequence_of (read.Call (call.Observe o)) = 0
-sequence_of (read.Call (call.Advance t)) = 0
-sequence_of (read.Call call.Idle) = 0
+abbrev pub sequence_of : Option Call → ℕ
+sequence_of None = 0
+sequence_of (Some (call.Sent s)) = s.sequence
+sequence_of (Some (call.Accept a)) = a.key.sender
+sequence_of (Some (call.Observe o)) = 0
+sequence_of (Some (call.Advance t)) = 0
+sequence_of (Some call.Idle) = 0
 
 -- the time that the monitor is told
-abbrev pub time_of : Read → ℕ
-time_of read.Nothing = 0
-time_of (read.Call (call.Sent s)) = s.packet.time
-time_of (read.Call (call.Accept a)) = 0
-time_of (read.Call (call.Observe o)) = 0
-time_of (read.Call (call.Advance t)) = t
-time_of (read.Call call.Idle) = 0
+abbrev pub time_of : Option Call → ℕ
+time_of None = 0
+time_of (Some (call.Sent s)) = s.packet.time
+time_of (Some (call.Accept a)) = 0
+time_of (Some (call.Observe o)) = 0
+time_of (Some (call.Advance t)) = t
+time_of (Some call.Idle) = 0
 
 -- the link's monitor afterwards, if it has one
-abbrev pub watch_after : Watch → Monitor → Watch
-watch_after Absent m = Absent
-watch_after (Present before) m = Present m
+abbrev pub watch_after : Option Monitor → Monitor → Option Monitor
+watch_after None m = None
+watch_after (Some before) m = Some m

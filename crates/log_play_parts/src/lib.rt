@@ -9,13 +9,13 @@ ghost use Rattle.log_whole.specs.Logs.{call_at};
 ghost use Rattle.host_ledger.specs.Words.{ledger_at};
 ghost use Rattle.host_observe_words.specs.Observe.{left, left_by};
 ghost use Rattle.host_watched_accept_words.specs.Calls.{heard_in};
+ghost use Rattle.limits.specs.Numbers.{number};
 ghost use Rattle.log_play_parts.specs.Parts.{CallFits, ReadFits, rooms_of, other_of, part_with, parted, call_part, part_of, monitor_of, is_watched, kind_of, goes_on, sequence_of, time_of, watch_after};
 
 use call_types::{Call, ReplyObservation, SentProbe};
 use host_ledger::{LEDGER_WORDS, counted};
 use host_watched_accept_words::ReplyAnswer;
-use link_steps::Watch;
-use log_whole::PlayedCall as Read;
+use limits::Refusal;
 use monitor::Monitor;
 
 // The number of the refusal or 0, and whether the monitor's call goes on.
@@ -28,7 +28,7 @@ pub struct Part {
 // ---- the record
 
 // Record i of a log, whose numbers fit their types; nothing where there is none to play.
-pub fn record_at(log: &[u8], i: u32) -> Read
+pub fn record_at(log: &[u8], i: u32) -> Option<Call>
     ensures { (result ≡ call_at log.now i) × ReadFits result }
 {
     log_whole::call_at(log, i)
@@ -36,69 +36,59 @@ pub fn record_at(log: &[u8], i: u32) -> Read
 
 // ---- the ledger's part
 
-// Why the monitor refuses `sent`, with a room of this size, or 0.
-fn refuses_sent(watch: Watch, room: usize, sent: SentProbe) -> u8
-    ensures { result ≡ watch_refuses_sent watch room sent }
+// Why the monitor refuses `sent`, with a room of this size.
+fn refuses_sent(watch: Option<Monitor>, room: usize, sent: SentProbe) -> Option<Refusal>
+    ensures { number result ≡ watch_refuses_sent watch room sent }
 {
     match watch {
-        Watch::Absent => 0,
-        Watch::Present(monitor) => {
-            let packet = sent.packet;
-            monitor.refusal_of_sent(room, packet.time)
-        }
+        None => None,
+        Some(monitor) => monitor.refusal_of_sent(room, sent.packet.time),
     }
 }
 
-// Why the monitor refuses any other call, or 0.
-fn refuses(watch: Watch, room: usize) -> u8
-    ensures { result ≡ watch_refuses watch room }
+// Why the monitor refuses any other call.
+fn refuses(watch: Option<Monitor>, room: usize) -> Option<Refusal>
+    ensures { number result ≡ watch_refuses watch room }
 {
     match watch {
-        Watch::Absent => 0,
-        Watch::Present(monitor) => monitor.refusal(room),
+        None => None,
+        Some(monitor) => monitor.refusal(room),
     }
 }
 
-// Why the monitor refuses a record, or 0.
-pub fn refusal_of(watch: Watch, read: Read, room: usize) -> u8
-    ensures { result ≡ other_of watch read room }
+// Why the monitor refuses a record.
+pub fn refusal_of(watch: Option<Monitor>, read: Option<Call>, room: usize) -> Option<Refusal>
+    ensures { number result ≡ other_of watch read room }
 {
     match read {
-        Read::Nothing => 0,
-        Read::Call(call) => {
-            match call {
-                Call::Sent(probe) => refuses_sent(watch, room, probe),
-                Call::Accept(_) => refuses(watch, room),
-                Call::Observe(_) => 0,
-                Call::Advance(_) => refuses(watch, room),
-                Call::Idle => refuses(watch, limits::CAPACITY),
-            }
-        }
+        None | Some(Call::Observe(_)) => None,
+        Some(Call::Sent(probe)) => refuses_sent(watch, room, probe),
+        Some(Call::Accept(_)) | Some(Call::Advance(_)) => refuses(watch, room),
+        Some(Call::Idle) => refuses(watch, limits::CAPACITY),
     }
 }
 
-fn plain_part(refused: u8, go: bool) -> Part
-    ensures { result ≡ part_with refused go }
+fn plain_part(refused: Option<Refusal>, go: bool) -> Part
+    ensures { result ≡ part_with (number refused) go }
 {
     Part {
-        refused: refused,
-        go: go,
+        refused: limits::number(refused),
+        go,
     }
 }
 
 // A probe that was sent is the monitor's too, where nothing refused it.
-fn sent_part(number: u8) -> Part
-    ensures { result ≡ part_with number (eqb number 0) }
+fn sent_part(refused: Option<Refusal>) -> Part
+    ensures { result ≡ part_with (number refused) (eqb (number refused) 0) }
 {
-    plain_part(number, number == 0)
+    plain_part(refused, refused.is_none())
 }
 
 // A unique reply is the monitor's too.
 fn accept_part(given: ReplyAnswer) -> Part
-    ensures { result ≡ part_with given.number (heard_in given.words) }
+    ensures { result ≡ part_with (number given.refused) (heard_in given.words) }
 {
-    let unique = host_watched_accept_words::was_unique(given);
-    plain_part(given.number, unique)
+    plain_part(given.refused, host_watched_accept_words::was_unique(given))
 }
 
 // `observe` of an observation by value, by way of the words in which a host tells it.
@@ -109,10 +99,10 @@ fn observe(
     offsets: &mut [u32],
     links: &mut [[u16; 8]],
     told: ReplyObservation,
-) -> u8
+) -> Option<Refusal>
     requires { ObservationFits told }
     ensures { let words = ledger.old in
-        left result ledger.new slots.new offsets.new links.new ≡ left_by (observe_to (ledger_at words) keys.now slots.old offsets.old links.old told) told.counters words }
+        left (number result) ledger.new slots.new offsets.new links.new ≡ left_by (observe_to (ledger_at words) keys.now slots.old offsets.old links.old told) told.counters words }
 {
     let words = host_call_words::observation_words(told);
     host_observe_words::observe(ledger, keys, slots, offsets, links, &words)
@@ -120,7 +110,7 @@ fn observe(
 
 // The ledger's part of a call, with the monitor's refusal.
 fn call_part(
-    other: u8,
+    other: Option<Refusal>,
     call: Call,
     ledger: &mut [u64; LEDGER_WORDS],
     keys: &mut [[u64; 2]],
@@ -130,7 +120,7 @@ fn call_part(
     links: &mut [[u16; 8]],
 ) -> Part
     requires { CallFits call }
-    ensures { parted result (ledger_at ledger.new) (rooms_of keys.new slots.new probes.new offsets.new links.new) ≡ call_part other (ledger_at ledger.old) (rooms_of keys.old slots.old probes.old offsets.old links.old) call }
+    ensures { parted result (ledger_at ledger.new) (rooms_of keys.new slots.new probes.new offsets.new links.new) ≡ call_part (number other) (ledger_at ledger.old) (rooms_of keys.old slots.old probes.old offsets.old links.old) call }
 {
     counted(*ledger);
     match call {
@@ -155,8 +145,8 @@ fn call_part(
 
 // The ledger's part of a record, with the monitor's refusal.
 pub fn ledger_part(
-    other: u8,
-    read: Read,
+    other: Option<Refusal>,
+    read: Option<Call>,
     ledger: &mut [u64; LEDGER_WORDS],
     keys: &mut [[u64; 2]],
     slots: &mut [[u64; 3]],
@@ -165,42 +155,42 @@ pub fn ledger_part(
     links: &mut [[u16; 8]],
 ) -> Part
     requires { ReadFits read }
-    ensures { parted result (ledger_at ledger.new) (rooms_of keys.new slots.new probes.new offsets.new links.new) ≡ part_of other (ledger_at ledger.old) (rooms_of keys.old slots.old probes.old offsets.old links.old) read }
+    ensures { parted result (ledger_at ledger.new) (rooms_of keys.new slots.new probes.new offsets.new links.new) ≡ part_of (number other) (ledger_at ledger.old) (rooms_of keys.old slots.old probes.old offsets.old links.old) read }
 {
     match read {
-        Read::Nothing => plain_part(0, false),
-        Read::Call(call) => { call_part(other, call, ledger, keys, slots, probes, offsets, links) }
+        None => plain_part(None, false),
+        Some(call) => { call_part(other, call, ledger, keys, slots, probes, offsets, links) }
     }
 }
 
 // ---- the monitor's part
 
 // The link's monitor; a fresh one where it has none, with which nothing goes on.
-pub fn monitor_of(watch: Watch) -> Monitor
+pub fn monitor_of(watch: Option<Monitor>) -> Monitor
     ensures { result ≡ monitor_of watch }
 {
     match watch {
-        Watch::Absent => Monitor::new(1, 0),
-        Watch::Present(monitor) => monitor,
+        None => Monitor::new(1, 0),
+        Some(monitor) => monitor,
     }
 }
 
-fn watches(watch: Watch) -> bool
+fn watches(watch: Option<Monitor>) -> bool
     ensures { result ≡ is_watched watch }
 {
     match watch {
-        Watch::Absent => false,
-        Watch::Present(_) => true,
+        None => false,
+        Some(_) => true,
     }
 }
 
 // 0 no record, 1 sent, 2 accept, 3 observe, 4 advance, 5 idle.
-pub fn kind_of(read: Read) -> u8
+pub fn kind_of(read: Option<Call>) -> u8
     ensures { result ≡ kind_of read }
 {
     match read {
-        Read::Nothing => 0,
-        Read::Call(call) => {
+        None => 0,
+        Some(call) => {
             match call {
                 Call::Sent(_) => 1,
                 Call::Accept(_) => 2,
@@ -213,18 +203,18 @@ pub fn kind_of(read: Read) -> u8
 }
 
 // Whether the monitor's call of this kind goes on.
-pub fn goes(kind: u8, watch: Watch, read: Read, part: Part) -> bool
+pub fn goes(kind: u8, watch: Option<Monitor>, read: Option<Call>, part: Part) -> bool
     ensures { result ≡ goes_on kind watch read part.go }
 {
     watches(watch) & (kind_of(read) == kind) & part.go
 }
 
-pub fn sequence_of(read: Read) -> u32
+pub fn sequence_of(read: Option<Call>) -> u32
     ensures { result ≡ sequence_of read }
 {
     match read {
-        Read::Nothing => 0,
-        Read::Call(call) => {
+        None => 0,
+        Some(call) => {
             match call {
                 Call::Sent(probe) => probe.sequence,
                 Call::Accept(reply) => {
@@ -239,12 +229,12 @@ pub fn sequence_of(read: Read) -> u32
     }
 }
 
-pub fn time_of(read: Read) -> u64
+pub fn time_of(read: Option<Call>) -> u64
     ensures { result ≡ time_of read }
 {
     match read {
-        Read::Nothing => 0,
-        Read::Call(call) => {
+        None => 0,
+        Some(call) => {
             match call {
                 Call::Sent(probe) => {
                     let packet = probe.packet;
@@ -259,11 +249,11 @@ pub fn time_of(read: Read) -> u64
     }
 }
 
-pub fn watch_after(watch: Watch, monitor: Monitor) -> Watch
+pub fn watch_after(watch: Option<Monitor>, monitor: Monitor) -> Option<Monitor>
     ensures { result ≡ watch_after watch monitor }
 {
     match watch {
-        Watch::Absent => Watch::Absent,
-        Watch::Present(_) => Watch::Present(monitor),
+        None => None,
+        Some(_) => Some(monitor),
     }
 }

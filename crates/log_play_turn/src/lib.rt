@@ -3,17 +3,16 @@ ghost use Rattle.std.specs.Prelude.{◌≡◌, ◌^◌, ◌<◌, eqb};
 ghost use Rattle.link_steps.specs.Steps.{one_if};
 ghost use Rattle.log_play_turn.specs.Turn.{idled_if};
 
-use monitor::{Monitor, MonitorAnswer};
+use monitor::Monitor;
 
 // The monitor after a record of this kind, 5 for an `idle`. A refused `idle` leaves the monitor as it was.
 pub fn idled(monitor: Monitor, kind: u8) -> Monitor
     ensures { result ≡ idled_if (eqb kind 5) monitor }
 {
     if kind == 5 {
-        let answer = monitor.idle();
-        match answer {
-            MonitorAnswer::Served(next) => next,
-            MonitorAnswer::Refused(_) => monitor,
+        match monitor.idle() {
+            Ok(next) => next,
+            Err(_) => monitor,
         }
     } else {
         monitor

@@ -1,21 +1,20 @@
 -- What a program prints of a log: document 01, 'Log and program': "prints `refused 9`, `refused 7` or `refused 8 at N`; else as here". Assumes nothing.
-use Rattle.std.specs.Prelude.{cond, List, [], ◌++◌, ℕ, eqb, length, take}
+use Rattle.std.specs.Prelude.{cond, List, [], ◌++◌, ℕ, eqb, length, take, Err, Ok, Result}
 use Rattle.decimal.specs.Decimal.{decimal}
 use Rattle.decimal.specs.Writing.{over}
 use Rattle.template.specs.Text.{bytes}
-use Rattle.report.specs.declared.ReportAnswer.{ReportAnswer}
-use Rattle.report.specs.declared.ReportAnswer.TheVariants.{Written, Refused}
 use Rattle.report.specs.Report.{report_room}
-use Rattle.log_whole.specs.declared.Log.{Log}
-use Rattle.log_whole.specs.declared.Log.TheVariants as log'
+use Rattle.log_whole.specs.declared.Fault.{Fault}
+use Rattle.log_whole.specs.declared.Settings.{Settings}
+use Rattle.log_whole.specs.declared.Fault.TheVariants as fault
 use Rattle.log_whole.specs.Logs.{log_of}
 
 -- the line of a log that is refused; of a good one there is none
-abbrev pub refusal_line : Log → List ℕ
-refusal_line log'.TooLong = bytes "refused 9\n"
-refusal_line log'.BadTrailer = bytes "refused 7\n"
-refusal_line (log'.BadRecord n) = bytes "refused 8 at " ++ decimal n ++ bytes "\n"
-refusal_line (log'.Good s) = []
+abbrev pub refusal_line : Result Settings Fault → List ℕ
+refusal_line (Err fault.TooLong) = bytes "refused 9\n"
+refusal_line (Err fault.BadTrailer) = bytes "refused 7\n"
+refusal_line (Err (fault.BadRecord n)) = bytes "refused 8 at " ++ decimal n ++ bytes "\n"
+refusal_line (Ok s) = []
 
 -- how many bytes at the start of the buffer are to be printed, and the buffer
 pub record Said : Type 0 where
@@ -35,10 +34,10 @@ unfoldable pub line_in : List ℕ → List ℕ → Said
 line_in line text = said (length line) (over text 0 line)
 
 -- why a log is refused; a buffer of another size than a report's is left as it is, and nothing is printed
-unfoldable pub refused_in : Log → List ℕ → Said
+unfoldable pub refused_in : Result Settings Fault → List ℕ → Said
 refused_in checked text = cond (eqb (length text) report_room) (line_in (refusal_line checked) text) (said 0 text)
 
 -- of a report that was written, its bytes as they stand; of a log that was refused, why
-unfoldable pub printed_in : List ℕ → ReportAnswer → List ℕ → Said
-printed_in log (Written n) text = said n text
-printed_in log (Refused n) text = refused_in (log_of log) text
+unfoldable pub printed_in : List ℕ → Result ℕ ℕ → List ℕ → Said
+printed_in log (Ok n) text = said n text
+printed_in log (Err n) text = refused_in (log_of log) text

@@ -3,14 +3,16 @@
 #![tactic(auto)]
 
 ghost use Rattle.std.specs.Prelude.{◌≡◌, ◌++◌, ◌≤◌, length};
+ghost use Rattle.limits.specs.Numbers.{numbered};
 ghost use Rattle.decimal.specs.Decimal.{decimal};
 ghost use Rattle.decimal.specs.Writing.{Stands};
 ghost use Rattle.template.specs.Text.{bytes};
-ghost use Rattle.log_print.specs.Printed.{said, refused_in, printed_in};
+ghost use Rattle.log_print.specs.Printed.{refusal_line, said, line_in, refused_in, printed_in};
 
-use log_whole::Log;
+use limits::Refusal;
+use log_whole::{Fault, Settings};
+use report::REPORT_ROOM;
 use report::words::{put_figure, put_text};
-use report::{REPORT_ROOM, ReportAnswer};
 use std::io;
 use std::io::Write;
 
@@ -22,28 +24,38 @@ fn put_bad_record(text: &mut [u8], first: u32) -> usize
     put_text(text, end, b"\n")
 }
 
+// Why bytes are no log, as a line.
+fn put_fault(text: &mut [u8], fault: Fault) -> usize
+    requires { 64 ≤ length text.old }
+    ensures { said result text.new ≡ line_in (refusal_line (Err fault)) text.old }
+{
+    match fault {
+        Fault::TooLong => put_text(text, 0, b"refused 9\n"),
+        Fault::BadTrailer => put_text(text, 0, b"refused 7\n"),
+        Fault::BadRecord(first) => put_bad_record(text, first),
+    }
+}
+
 // Nothing of a log that is good: it is refused only where a room has another size, and a program's have theirs.
-fn put_refused(text: &mut [u8], checked: Log) -> usize
+fn put_refused(text: &mut [u8], checked: Result<Settings, Fault>) -> usize
     ensures { said result text.new ≡ refused_in checked text.old }
 {
     if text.len() != REPORT_ROOM {
         return 0;
     }
     match checked {
-        Log::TooLong => put_text(text, 0, b"refused 9\n"),
-        Log::BadTrailer => put_text(text, 0, b"refused 7\n"),
-        Log::BadRecord(first) => put_bad_record(text, first),
-        Log::Good(_) => 0,
+        Ok(_) => 0,
+        Err(fault) => put_fault(text, fault),
     }
 }
 
 // How many bytes at the start of the buffer are to be printed: those of the report that stands there, or of why the log is refused, put there.
-pub fn printed(log: &[u8], text: &mut [u8], answer: ReportAnswer) -> usize
-    ensures { said result text.new ≡ printed_in log.now answer text.old }
+pub fn printed(log: &[u8], text: &mut [u8], answer: Result<usize, Refusal>) -> usize
+    ensures { said result text.new ≡ printed_in log.now (numbered answer) text.old }
 {
     match answer {
-        ReportAnswer::Written(end) => end,
-        ReportAnswer::Refused(_) => put_refused(text, log_whole::check(log)),
+        Ok(end) => end,
+        Err(_) => put_refused(text, log_whole::check(log)),
     }
 }
 

@@ -1,4 +1,5 @@
 -- Nothing is lost in a record: what it says is what was written. Assumes nothing.
+use Rattle.std.specs.Prelude.{Option, ℤ}
 use mathlib.Core.Path.{◌≡◌, refl, sym, ap, ◌∙◌}
 use mathlib.Core.Bool.{Bool, true, false}
 use mathlib.Core.List.{List, [], ◌∷◌}
@@ -19,13 +20,12 @@ use Rattle.record_parts.specs.declared.Entry.TheVariants as entry
 use Rattle.call_types.specs.declared.Reply.{Reply}
 use Rattle.call_types.specs.declared.ReplyObservation.{ReplyObservation}
 use Rattle.call_types.specs.declared.SentProbe.{SentProbe}
-use Rattle.call_types.specs.declared.Time.{Time}
 use Rattle.record_parts.specs.Parts.{flag, follow_time, observe_flags, pending_by, time_by, ordinal_by, counters_by, follow_by, estimates_by}
 use Rattle.record_parts.specs.Fits.{U64, SentFits, ReplyFits, ObservationFits, ConvertedFits, EntryFits}
 use Rattle.record_parts.proofs.Back.{pending_back, time-back, ordinal-back, counters-back, follow-back, converted-back, estimates-back, format_back}
 use Rattle.record_parts.proofs.Back.{pending_time-fits, pending_tag-fits, time_word-fits, ordinal_number-fits, sender_count-fits, received_count-fits}
 use Rattle.record_parts.proofs.Back.{transmitted_count-fits, follow_sequence-fits, follow_timestamp-fits, follow_time-fits, sender_wire-fits, reflector_wire-fits}
-use Rattle.record_parts.proofs.Back.{pending_flag_lt, pending_flag-back, FlagsBack, flags-back}
+use Rattle.record_parts.proofs.Back.{flag_of_lt, pending_flag-back, FlagsBack, flags-back}
 use Rattle.log_record.specs.Records.{table_of, blank, record_of, entry_of}
 use Rattle.log_record.proofs.Laws.{kind_0, kind_1, kind_2, kind_3, kind_other}
 
@@ -86,7 +86,7 @@ accept-back : (r : Reply) → ReplyFits r → entry_of (record_of (entry.Accept 
 unfolding table_of
 accept-back r h =
     let c = entry.Accept r in
-    let flags = field c 1 tt (below (pending_flag_lt r.pending)) in
+    let flags = field c 1 tt (below (flag_of_lt r.pending)) in
     sym (kind_1 (record_of c) (field c 0 tt (lit< tt)))
     ∙ (λ i. entry.Accept (record {
       key = record { sender = field c 3 tt h.key.sender i; reflector = field c 4 tt h.key.reflector i; t3 = field c 5 tt h.key.t3 i };
@@ -100,7 +100,7 @@ accept-back r h =
     below h = omega arith
 
 -- the observation with each field's number, then with each part
-module _ (o : ReplyObservation) (t : Time) (h : ObservationFits o) (z : ConvertedFits o.follow t) where
+module _ (o : ReplyObservation) (t : Option ℤ) (h : ObservationFits o) (z : ConvertedFits o.follow t) where
   abbrev c : Entry
   c = entry.Observe o t
 

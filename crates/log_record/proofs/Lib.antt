@@ -3,3 +3,4 @@ pub mod Answers
 pub mod Back
 pub mod Good
 pub mod Determined
+pub mod Told

@@ -1,46 +1,12 @@
 // One record of a log, 96 bytes (document 01, 'Log and program'): written, read and checked.
 ghost use Rattle.std.specs.Prelude.{◌≡◌, length};
-ghost use Rattle.log_record.specs.Records.{blank, same_bytes, record_of, read_of, wrote, written_to, scales_fit};
+ghost use Rattle.log_record.specs.Records.{same_bytes, record_of, read_of, number_in, wrote, written_to, scales_fit};
 
 mod putting;
 mod reading;
 
+use limits::Refusal;
 use record_parts::Entry;
-
-// Document 01's answer for a record that breaks a rule.
-pub const BAD_RECORD: u8 = 8;
-
-// What reading a record answers: what it says, or the number of the refusal.
-#[derive(Clone, Copy)]
-pub enum Record {
-    Good(Entry),
-    Refused(u8),
-}
-
-fn same(a: &[u8], b: &[u8]) -> bool
-    requires { (length a.now ≡ 96) × (length b.now ≡ 96) }
-    ensures { result ≡ same_bytes a.now b.now }
-{
-    let mut i = 0;
-    while i < 96 {
-        if a[i] != b[i] {
-            return false;
-        }
-        i += 1;
-    }
-    true
-}
-
-fn clear(bytes: &mut [u8])
-    requires { length bytes.old ≡ 96 }
-    ensures { bytes.new ≡ blank }
-{
-    let mut i = 0;
-    while i < 96 {
-        bytes[i] = 0;
-        i += 1;
-    }
-}
 
 // Whether 96 bytes are the record of an entry.
 fn is_record(bytes: &[u8], said: Entry) -> bool
@@ -49,21 +15,21 @@ fn is_record(bytes: &[u8], said: Entry) -> bool
 {
     let mut own = [0u8; 96];
     putting::put_entry(&mut own, said);
-    same(bytes, &own)
+    bytes == &own[..]
 }
 
-// What a good record says; 8 for a bad one, and 5 for a slice that has not 96 bytes.
-pub fn read(bytes: &[u8]) -> Record
+// What a good record says: else it is a bad record, or, where a slice has not 96 bytes, a room of the wrong size.
+pub fn read(bytes: &[u8]) -> Result<Entry, Refusal>
     ensures { result ≡ read_of bytes.now }
 {
     if bytes.len() != 96 {
-        return Record::Refused(limits::WRONG_ROOM);
+        return Err(Refusal::WrongRoom);
     }
     let said = reading::said(bytes);
     if is_record(bytes, said) {
-        return Record::Good(said);
+        return Ok(said);
     }
-    Record::Refused(BAD_RECORD)
+    Err(Refusal::BadRecord)
 }
 
 fn scales_fit(said: Entry) -> bool
@@ -81,17 +47,27 @@ fn scales_fit(said: Entry) -> bool
     }
 }
 
-// Writes the record of an entry over 96 lent bytes and answers 0; 5 for another number of bytes, and 1 for a scale above 63.
-pub fn write(bytes: &mut [u8], said: Entry) -> u8
+// The number that a host is told: 0 where nothing is refused.
+pub fn number_in(answer: Result<(), Refusal>) -> u8
+    ensures { result ≡ number_in answer }
+{
+    match answer {
+        Ok(()) => 0,
+        Err(refusal) => u8::from(refusal),
+    }
+}
+
+// Writes the record of an entry over 96 lent bytes. Refused: another number of bytes, as a room of the wrong size, and a scale above 63, as out of range.
+pub fn write(bytes: &mut [u8], said: Entry) -> Result<(), Refusal>
     ensures { wrote result bytes.new ≡ written_to bytes.old said }
 {
     if bytes.len() != 96 {
-        return limits::WRONG_ROOM;
+        return Err(Refusal::WrongRoom);
     }
     if !scales_fit(said) {
-        return limits::OUT_OF_RANGE;
+        return Err(Refusal::OutOfRange);
     }
-    clear(bytes);
+    bytes.fill(0);
     putting::put_entry(bytes, said);
-    0
+    Ok(())
 }

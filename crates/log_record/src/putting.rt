@@ -8,9 +8,9 @@ ghost use Rattle.log_record.specs.Groups.{pending_group, times_group, counts_gro
 
 use big_endian::{put_u8, put_u16, put_u32, put_u64};
 use call_types::{
-    Counters, FollowUp, Ordinal, Pending, Reply, ReplyKey, ReplyObservation, SentProbe, Time,
+    CounterPoint, FollowUpTelemetry, PendingPacket, Reply, ReplyKey, ReplyObservation, SentProbe,
 };
-use estimate::Estimates;
+use estimate::ErrorEstimate;
 use record_parts::Entry;
 
 fn put_frame(bytes: &mut [u8], kind: u8, flags: u8)
@@ -43,7 +43,7 @@ fn put_key(bytes: &mut [u8], key: ReplyKey)
     put_u64(bytes, 12, key.t3);
 }
 
-fn put_pending(bytes: &mut [u8], pending: Pending)
+fn put_pending(bytes: &mut [u8], pending: Option<PendingPacket>)
     requires { length bytes.old ≡ 96 }
     ensures { bytes.new ≡ written (pending_group pending) bytes.old }
 {
@@ -56,13 +56,13 @@ fn put_pending(bytes: &mut [u8], pending: Pending)
 fn reference_word(o: ReplyObservation) -> u64
     ensures { result ≡ of_z w64 o.reference }
 {
-    signed_words::word64(o.reference)
+    o.reference.cast_unsigned()
 }
 
 fn offset_word(o: ReplyObservation) -> u32
     ensures { result ≡ of_z w32 o.offset }
 {
-    signed_words::word32(o.offset)
+    o.offset.cast_unsigned()
 }
 
 fn put_times(bytes: &mut [u8], o: ReplyObservation)
@@ -79,7 +79,7 @@ fn put_times(bytes: &mut [u8], o: ReplyObservation)
     put_u32(bytes, 44, offset);
 }
 
-fn put_counts(bytes: &mut [u8], ordinal: Ordinal, counters: Counters)
+fn put_counts(bytes: &mut [u8], ordinal: Option<u32>, counters: Option<CounterPoint>)
     requires { length bytes.old ≡ 96 }
     ensures { bytes.new ≡ written (counts_group ordinal counters) bytes.old }
 {
@@ -93,7 +93,7 @@ fn put_counts(bytes: &mut [u8], ordinal: Ordinal, counters: Counters)
     put_u32(bytes, 60, transmitted);
 }
 
-fn put_follow(bytes: &mut [u8], follow: FollowUp, converted: Time)
+fn put_follow(bytes: &mut [u8], follow: Option<FollowUpTelemetry>, converted: Option<i64>)
     requires { length bytes.old ≡ 96 }
     ensures { bytes.new ≡ written (follow_group follow converted) bytes.old }
 {
@@ -105,7 +105,7 @@ fn put_follow(bytes: &mut [u8], follow: FollowUp, converted: Time)
     put_u64(bytes, 76, word);
 }
 
-fn put_quality(bytes: &mut [u8], quality: Estimates)
+fn put_quality(bytes: &mut [u8], quality: Option<(ErrorEstimate, ErrorEstimate)>)
     requires { length bytes.old ≡ 96 }
     ensures { bytes.new ≡ written (quality_group quality) bytes.old }
 {
@@ -125,7 +125,7 @@ fn put_accept(bytes: &mut [u8], reply: Reply)
     put_pending(bytes, pending);
 }
 
-fn put_observe(bytes: &mut [u8], o: ReplyObservation, converted: Time)
+fn put_observe(bytes: &mut [u8], o: ReplyObservation, converted: Option<i64>)
     requires { length bytes.old ≡ 96 }
     ensures { bytes.new ≡ written (observe_fields o converted) bytes.old }
 {
@@ -153,7 +153,7 @@ pub fn put_entry(bytes: &mut [u8], said: Entry)
         }
         Entry::Accept(reply) => {
             let pending = reply.pending;
-            put_frame(bytes, 1, record_parts::pending_flag(pending));
+            put_frame(bytes, 1, record_parts::flag_of(pending));
             put_accept(bytes, reply);
         }
         Entry::Observe(o, converted) => {

@@ -8,9 +8,9 @@ ghost use Rattle.log_record.specs.Records.{key_at, sent_at, accept_at, counters_
 
 use big_endian::{u8_at, u16_at, u32_at, u64_at};
 use call_types::{
-    Counters, FollowUp, Ordinal, PendingPacket, Reply, ReplyKey, ReplyObservation, SentProbe, Time,
+    CounterPoint, FollowUpTelemetry, PendingPacket, Reply, ReplyKey, ReplyObservation, SentProbe,
 };
-use estimate::Estimates;
+use estimate::ErrorEstimate;
 use record_parts::{Entry, flag_set};
 
 fn key(bytes: &[u8]) -> ReplyKey
@@ -51,7 +51,7 @@ fn accept(bytes: &[u8], flags: u8) -> Reply
     }
 }
 
-fn time(bytes: &[u8], at: usize, there: bool) -> Time
+fn time(bytes: &[u8], at: usize, there: bool) -> Option<i64>
     requires { at + 8 ≤ length bytes.now }
     ensures { result ≡ time_by there (number_at 3 bytes.now at) }
 {
@@ -62,24 +62,24 @@ fn reference(bytes: &[u8]) -> i64
     requires { length bytes.now ≡ 96 }
     ensures { result ≡ to_z w64 (number_at 3 bytes.now 36) }
 {
-    signed_words::signed64(u64_at(bytes, 36))
+    u64_at(bytes, 36).cast_signed()
 }
 
 fn offset(bytes: &[u8]) -> i32
     requires { length bytes.now ≡ 96 }
     ensures { result ≡ to_z w32 (number_at 2 bytes.now 44) }
 {
-    signed_words::signed32(u32_at(bytes, 44))
+    u32_at(bytes, 44).cast_signed()
 }
 
-fn ordinal(bytes: &[u8], there: bool) -> Ordinal
+fn ordinal(bytes: &[u8], there: bool) -> Option<u32>
     requires { length bytes.now ≡ 96 }
     ensures { result ≡ ordinal_by there (number_at 2 bytes.now 48) }
 {
     record_parts::ordinal_by(there, u32_at(bytes, 48))
 }
 
-fn counters(bytes: &[u8], flags: u8) -> Counters
+fn counters(bytes: &[u8], flags: u8) -> Option<CounterPoint>
     requires { length bytes.now ≡ 96 }
     ensures { result ≡ counters_at flags bytes.now }
 {
@@ -89,7 +89,7 @@ fn counters(bytes: &[u8], flags: u8) -> Counters
     record_parts::counters_by(flag_set(flags, 4), sender, received, transmitted)
 }
 
-fn follow(bytes: &[u8], flags: u8) -> FollowUp
+fn follow(bytes: &[u8], flags: u8) -> Option<FollowUpTelemetry>
     requires { length bytes.now ≡ 96 }
     ensures { result ≡ follow_at flags bytes.now }
 {
@@ -99,7 +99,7 @@ fn follow(bytes: &[u8], flags: u8) -> FollowUp
     record_parts::follow_by(flag_set(flags, 8), sequence, timestamp, unknown)
 }
 
-fn estimates(bytes: &[u8], flags: u8) -> Estimates
+fn estimates(bytes: &[u8], flags: u8) -> Option<(ErrorEstimate, ErrorEstimate)>
     requires { length bytes.now ≡ 96 }
     ensures { result ≡ estimates_at flags bytes.now }
 {

@@ -1,16 +1,11 @@
 -- Worked examples: the bytes of a record of each kind. Assumes nothing.
+use Rattle.std.specs.Prelude.{Some, None}
 use mathlib.Core.Path.{◌≡◌, refl}
 use mathlib.Core.Bool.{true}
 use mathlib.Core.List.{[], ◌∷◌}
 use lib.IntN.{pos, negsuc}
 use Rattle.estimate.specs.declared.ClockFormat.TheVariants.{NTP, PTP}
-use Rattle.estimate.specs.declared.Estimates.TheVariants as estimates
 use Rattle.estimate.specs.Wire.{estimate_of}
-use Rattle.call_types.specs.declared.Time.TheVariants as time
-use Rattle.call_types.specs.declared.Pending.TheVariants as pending
-use Rattle.call_types.specs.declared.Ordinal.TheVariants as ordinal
-use Rattle.call_types.specs.declared.Counters.TheVariants as counters
-use Rattle.call_types.specs.declared.FollowUp.TheVariants as follow
 use Rattle.record_parts.specs.declared.Entry.{Entry}
 use Rattle.record_parts.specs.declared.Entry.TheVariants as entry
 use Rattle.record_parts.specs.Parts.{observe_flags}
@@ -35,7 +30,7 @@ unfolding record_of table_of blank observe_flags
 train = refl
 
 -- accept (7,7,5) pending at 100
-accept : record_of (entry.Accept (record { key = record { sender = 7; reflector = 7; t3 = 5 }; pending = pending.Held (record { time = 100; tag = 300 }) })) ≡
+accept : record_of (entry.Accept (record { key = record { sender = 7; reflector = 7; t3 = 5 }; pending = Some (record { time = 100; tag = 300 }) })) ≡
     1 ∷ 1 ∷ 0 ∷ 0 ∷ 0 ∷ 0 ∷ 0 ∷ 7 ∷ 0 ∷ 0 ∷ 0 ∷ 7 ∷ 0 ∷ 0 ∷ 0 ∷ 0 ∷ 0 ∷ 0 ∷ 0 ∷ 5 ∷ 0 ∷ 0 ∷ 0 ∷ 0 ∷
     0 ∷ 0 ∷ 0 ∷ 100 ∷ 0 ∷ 0 ∷ 0 ∷ 0 ∷ 0 ∷ 0 ∷ 1 ∷ 44 ∷ 0 ∷ 0 ∷ 0 ∷ 0 ∷ 0 ∷ 0 ∷ 0 ∷ 0 ∷ 0 ∷ 0 ∷ 0 ∷ 0 ∷
     0 ∷ 0 ∷ 0 ∷ 0 ∷ 0 ∷ 0 ∷ 0 ∷ 0 ∷ 0 ∷ 0 ∷ 0 ∷ 0 ∷ 0 ∷ 0 ∷ 0 ∷ 0 ∷ 0 ∷ 0 ∷ 0 ∷ 0 ∷ 0 ∷ 0 ∷ 0 ∷ 0 ∷
@@ -47,15 +42,15 @@ abbrev bare : Entry
 bare = entry.Observe (record {
   key = record { sender = 7; reflector = 7; t3 = 5 };
   rtt = 50;
-  t4 = time.Absent;
+  t4 = None;
   format = NTP;
   reference = pos 0;
   offset = pos 0;
-  ordinal = ordinal.Absent;
-  counters = counters.Absent;
-  follow = follow.Absent;
-  quality = estimates.Absent;
-}) time.Absent
+  ordinal = None;
+  counters = None;
+  follow = None;
+  quality = None;
+}) None
 
 -- observe 50 with no flag
 observe : record_of (bare) ≡
@@ -70,15 +65,15 @@ abbrev full : Entry
 full = entry.Observe (record {
   key = record { sender = 1; reflector = 2; t3 = 3 };
   rtt = 4;
-  t4 = time.Nanoseconds (negsuc 4);
+  t4 = Some (negsuc 4);
   format = PTP;
   reference = negsuc 5;
   offset = negsuc 6;
-  ordinal = ordinal.Number 8;
-  counters = counters.Point (record { sender = record { 0 = 9 }; received = record { 0 = 10 }; transmitted = record { 0 = 11 } });
-  follow = follow.Telemetry (record { sequence = 12; timestamp = 13; unknown = true });
-  quality = estimates.Pair (estimate_of 0xa001) (estimate_of 0x4001);
-}) (time.Nanoseconds (negsuc 13))
+  ordinal = Some 8;
+  counters = Some (record { sender = record { 0 = 9 }; received = record { 0 = 10 }; transmitted = record { 0 = 11 } });
+  follow = Some (record { sequence = 12; timestamp = 13; unknown = true });
+  quality = Some (estimate_of 0xa001, estimate_of 0x4001);
+}) (Some (negsuc 13))
 
 -- an observe with every flag, T4 -5, reference -6, offset -7 and converted T3 -14
 all_flags : record_of (full) ≡

@@ -1,4 +1,9 @@
 -- The record of every entry keeps the rules. Assumes nothing.
+use Rattle.std.specs.Prelude.{Option, Some, None, ℤ}
+use Rattle.call_types.specs.declared.CounterPoint.{CounterPoint}
+use Rattle.call_types.specs.declared.FollowUpTelemetry.{FollowUpTelemetry}
+use Rattle.call_types.specs.declared.PendingPacket.{PendingPacket}
+use Rattle.estimate.specs.declared.ErrorEstimate.{ErrorEstimate}
 use mathlib.Core.Path.{◌≡◌, refl, sym, ◌∙◌, subst}
 use mathlib.Core.Bool.{Bool, true, false, ◌&&◌, ◌||◌, not}
 use mathlib.Core.List.{List, [], ◌∷◌}
@@ -11,18 +16,6 @@ use lib.ListN.{get_or, get_or-replicate}
 use borrow.Author.Tests.{eqb-false}
 use Rattle.big_endian.specs.Numbers.{base, number_at}
 use Rattle.big_endian.specs.Fields.{Field, written}
-use Rattle.estimate.specs.declared.Estimates.{Estimates}
-use Rattle.estimate.specs.declared.Estimates.TheVariants as estimates
-use Rattle.call_types.specs.declared.Time.{Time}
-use Rattle.call_types.specs.declared.Time.TheVariants as time
-use Rattle.call_types.specs.declared.Pending.{Pending}
-use Rattle.call_types.specs.declared.Pending.TheVariants as pending
-use Rattle.call_types.specs.declared.Ordinal.{Ordinal}
-use Rattle.call_types.specs.declared.Ordinal.TheVariants as ordinal
-use Rattle.call_types.specs.declared.Counters.{Counters}
-use Rattle.call_types.specs.declared.Counters.TheVariants as counters
-use Rattle.call_types.specs.declared.FollowUp.{FollowUp}
-use Rattle.call_types.specs.declared.FollowUp.TheVariants as follow
 use Rattle.call_types.specs.declared.Reply.{Reply}
 use Rattle.call_types.specs.declared.ReplyObservation.{ReplyObservation}
 use Rattle.record_parts.specs.declared.Entry.{Entry}
@@ -101,49 +94,49 @@ zero_field c k t p e = field c k t (subst (λ (n : ℕ). n < base (field_at (tab
 never : true ≡ false → ⊥
 never e = let z : ◌≡◌ {A = ℕ} 0 1 = cc in omega arith
 
-pending_time-none : (p : Pending) → eqb (pending_flag p) 1 ≡ false → pending_time p ≡ 0
-pending_time-none pending.Absent e = refl
-pending_time-none (pending.Held p) e = absurd (never e)
+pending_time-none : (p : Option PendingPacket) → eqb (pending_flag p) 1 ≡ false → pending_time p ≡ 0
+pending_time-none None e = refl
+pending_time-none (Some p) e = absurd (never e)
 
-pending_tag-none : (p : Pending) → eqb (pending_flag p) 1 ≡ false → pending_tag p ≡ 0
-pending_tag-none pending.Absent e = refl
-pending_tag-none (pending.Held p) e = absurd (never e)
+pending_tag-none : (p : Option PendingPacket) → eqb (pending_flag p) 1 ≡ false → pending_tag p ≡ 0
+pending_tag-none None e = refl
+pending_tag-none (Some p) e = absurd (never e)
 
-time-none : (t : Time) → eqb (time_flag t) 1 ≡ false → time_word t ≡ 0
-time-none time.Absent e = refl
-time-none (time.Nanoseconds z) e = absurd (never e)
+time-none : (t : Option ℤ) → eqb (time_flag t) 1 ≡ false → time_word t ≡ 0
+time-none None e = refl
+time-none (Some z) e = absurd (never e)
 
-ordinal-none : (o : Ordinal) → eqb (ordinal_flag o) 1 ≡ false → ordinal_number o ≡ 0
-ordinal-none ordinal.Absent e = refl
-ordinal-none (ordinal.Number n) e = absurd (never e)
+ordinal-none : (o : Option ℕ) → eqb (ordinal_flag o) 1 ≡ false → ordinal_number o ≡ 0
+ordinal-none None e = refl
+ordinal-none (Some n) e = absurd (never e)
 
-sender_none : (k : Counters) → eqb (counters_flag k) 1 ≡ false → sender_count k ≡ 0
-sender_none counters.Absent e = refl
-sender_none (counters.Point p) e = absurd (never e)
+sender_none : (k : Option CounterPoint) → eqb (counters_flag k) 1 ≡ false → sender_count k ≡ 0
+sender_none None e = refl
+sender_none (Some p) e = absurd (never e)
 
-received_none : (k : Counters) → eqb (counters_flag k) 1 ≡ false → received_count k ≡ 0
-received_none counters.Absent e = refl
-received_none (counters.Point p) e = absurd (never e)
+received_none : (k : Option CounterPoint) → eqb (counters_flag k) 1 ≡ false → received_count k ≡ 0
+received_none None e = refl
+received_none (Some p) e = absurd (never e)
 
-transmitted-none : (k : Counters) → eqb (counters_flag k) 1 ≡ false → transmitted_count k ≡ 0
-transmitted-none counters.Absent e = refl
-transmitted-none (counters.Point p) e = absurd (never e)
+transmitted-none : (k : Option CounterPoint) → eqb (counters_flag k) 1 ≡ false → transmitted_count k ≡ 0
+transmitted-none None e = refl
+transmitted-none (Some p) e = absurd (never e)
 
-sequence_none : (f : FollowUp) → eqb (follow_flag f) 1 ≡ false → follow_sequence f ≡ 0
-sequence_none follow.Absent e = refl
-sequence_none (follow.Telemetry f) e = absurd (never e)
+sequence_none : (f : Option FollowUpTelemetry) → eqb (follow_flag f) 1 ≡ false → follow_sequence f ≡ 0
+sequence_none None e = refl
+sequence_none (Some f) e = absurd (never e)
 
-timestamp_none : (f : FollowUp) → eqb (follow_flag f) 1 ≡ false → follow_timestamp f ≡ 0
-timestamp_none follow.Absent e = refl
-timestamp_none (follow.Telemetry f) e = absurd (never e)
+timestamp_none : (f : Option FollowUpTelemetry) → eqb (follow_flag f) 1 ≡ false → follow_timestamp f ≡ 0
+timestamp_none None e = refl
+timestamp_none (Some f) e = absurd (never e)
 
-sender_wire-none : (q : Estimates) → eqb (estimates_flag q) 1 ≡ false → sender_wire q ≡ 0
-sender_wire-none estimates.Absent e = refl
-sender_wire-none (estimates.Pair s r) e = absurd (never e)
+sender_wire-none : (q : Option (ErrorEstimate × ErrorEstimate)) → eqb (estimates_flag q) 1 ≡ false → sender_wire q ≡ 0
+sender_wire-none None e = refl
+sender_wire-none (Some (s, r)) e = absurd (never e)
 
-reflector_wire-none : (q : Estimates) → eqb (estimates_flag q) 1 ≡ false → reflector_wire q ≡ 0
-reflector_wire-none estimates.Absent e = refl
-reflector_wire-none (estimates.Pair s r) e = absurd (never e)
+reflector_wire-none : (q : Option (ErrorEstimate × ErrorEstimate)) → eqb (estimates_flag q) 1 ≡ false → reflector_wire q ≡ 0
+reflector_wire-none None e = refl
+reflector_wire-none (Some (s, r)) e = absurd (never e)
 
 -- ---- each kind
 
@@ -183,23 +176,23 @@ accept_rules r =
       empty = empty_of c 1 tt;
     })
   where
-    byte_lt : (p : Pending) → pending_flag p < 256
-    byte_lt pending.Absent = lit< tt
-    byte_lt (pending.Held p) = lit< tt
+    byte_lt : (p : Option PendingPacket) → pending_flag p < 256
+    byte_lt None = lit< tt
+    byte_lt (Some p) = lit< tt
 
-    one : (p : Pending) → pending_flag p ≤ 1
-    one pending.Absent = omega arith
-    one (pending.Held p) = omega arith
+    one : (p : Option PendingPacket) → pending_flag p ≤ 1
+    one None = omega arith
+    one (Some p) = omega arith
 
-converted_need : (f : FollowUp) (t : Time) → eqb (time_flag (follow_time f t)) 1 ≡ true → eqb (follow_flag f) 1 ≡ true
-converted_need follow.Absent t e = e
-converted_need (follow.Telemetry f) t e = refl
+converted_need : (f : Option FollowUpTelemetry) (t : Option ℤ) → eqb (time_flag (follow_time f t)) 1 ≡ true → eqb (follow_flag f) 1 ≡ true
+converted_need None t e = e
+converted_need (Some f) t e = refl
 
-unknown_need : (f : FollowUp) → eqb (unknown_flag f) 1 ≡ true → eqb (follow_flag f) 1 ≡ true
-unknown_need follow.Absent e = e
-unknown_need (follow.Telemetry f) e = refl
+unknown_need : (f : Option FollowUpTelemetry) → eqb (unknown_flag f) 1 ≡ true → eqb (follow_flag f) 1 ≡ true
+unknown_need None e = e
+unknown_need (Some f) e = refl
 
-module _ (o : ReplyObservation) (t : Time) where
+module _ (o : ReplyObservation) (t : Option ℤ) where
   abbrev c : Entry
   c = entry.Observe o t
 

@@ -1,30 +1,15 @@
 // From a log to its link: why nothing is played, or the settings with which a link is made fresh. What the report of a log asks before it plays
 // a record.
 ghost use Rattle.std.specs.Prelude.{◌≡◌};
-ghost use Rattle.log_settings.specs.Checks.{checked_of, checked_by, settings_by, rooms_fit};
+ghost use Rattle.log_settings.specs.Checks.{checked_by, settings_by, rooms_fit};
 ghost use Rattle.ledger_state.specs.State.{fresh_ledger};
 ghost use Rattle.host_ledger.specs.Words.{ledger_at};
 ghost use Rattle.log_settings.specs.Fresh.{watch_by};
 
 use host_ledger::LEDGER_WORDS;
-use limits::CAPACITY;
-use link_steps::Watch;
-use log_whole::{Log, Settings};
+use limits::{CAPACITY, Refusal};
+use log_whole::{Fault, Settings};
 use monitor::Monitor;
-
-// Document 01's answers to bytes that are no log.
-const TOO_LONG: u8 = 9;
-
-const BAD_TRAILER: u8 = 7;
-
-const BAD_RECORD: u8 = 8;
-
-// Why nothing is played, or what the log's link is made of.
-#[derive(Clone, Copy)]
-pub enum Checked {
-    Refused(u8),
-    Good(Settings),
-}
 
 // ---- the check
 
@@ -48,41 +33,27 @@ pub fn rooms_fit(
         & (text == report::REPORT_ROOM)
 }
 
-fn checked_of(found: Log) -> Checked
-    ensures { result ≡ checked_of found }
-{
-    match found {
-        Log::TooLong => Checked::Refused(TOO_LONG),
-        Log::BadTrailer => Checked::Refused(BAD_TRAILER),
-        Log::BadRecord(_) => Checked::Refused(BAD_RECORD),
-        Log::Good(settings) => Checked::Good(settings),
-    }
-}
-
-// A room of another size comes before what is wrong with the log.
-pub fn checked_by(fit: bool, found: Log) -> Checked
+// Why nothing is played, or what the log's link is made of. A room of another size comes before what is wrong with the log.
+pub fn checked_by(fit: bool, found: Result<Settings, Fault>) -> Result<Settings, Refusal>
     ensures { result ≡ checked_by fit found }
 {
-    if fit {
-        return checked_of(found);
+    if !fit {
+        return Err(Refusal::WrongRoom);
     }
-    Checked::Refused(limits::WRONG_ROOM)
+    Ok(found?)
 }
 
 // Those of a log with no record, where it is refused.
-pub fn settings_of(checked: Checked) -> Settings
+pub fn settings_of(checked: Result<Settings, Refusal>) -> Settings
     ensures { result ≡ settings_by checked }
 {
-    match checked {
-        Checked::Refused(_) => Settings {
-            copies: 0,
-            threshold: 0,
-            timeout: 0,
-            count: 0,
-            start: 0,
-        },
-        Checked::Good(settings) => settings,
-    }
+    checked.unwrap_or(Settings {
+        copies: 0,
+        threshold: 0,
+        timeout: 0,
+        count: 0,
+        start: 0,
+    })
 }
 
 pub fn count_of(settings: Settings) -> u32
@@ -93,18 +64,18 @@ pub fn count_of(settings: Settings) -> u32
 
 // ---- the link
 
-fn watch_by(threshold: u16, timeout: u64) -> Watch
+fn watch_by(threshold: u16, timeout: u64) -> Option<Monitor>
     ensures { result ≡ watch_by threshold timeout }
 {
     if threshold == 0 {
-        return Watch::Absent;
+        return None;
     }
     let monitor = Monitor::new(threshold, timeout);
-    Watch::Present(monitor)
+    Some(monitor)
 }
 
 // The monitor of a log's link, if its settings ask for one.
-pub fn watch_of(settings: Settings) -> Watch
+pub fn watch_of(settings: Settings) -> Option<Monitor>
     ensures { result ≡ watch_by settings.threshold settings.timeout }
 {
     watch_by(settings.threshold, settings.timeout)

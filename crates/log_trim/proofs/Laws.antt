@@ -1,31 +1,28 @@
 -- What the proofs of this crate's functions need of the definitions. Assumes nothing.
+use Rattle.std.specs.Prelude.{Result, Ok, Err}
 use mathlib.Core.Path.{◌≡◌, refl, sym, ap, ap₂, ◌∙◌, subst}
 use mathlib.Core.Bool.{Bool, true, false, cond}
 use mathlib.Core.List.{List, ◌++◌, append_assoc}
 use Prim.Native.Nat.{ℕ, ◌+◌, ◌-◌, ◌*◌, ◌/◌, ◌≤◌, ◌<◌}
-use native.Mathlib.Nat.{zero-add}
-use native.Mathlib.Numerals.{add-one}
 use native.Mathlib.Omega.{arith}
 use lib.Dec.{ltb}
-use lib.ListN.{length, get_or, set, take, drop, replicate, length-take, length-drop, length-append}
-use lib.Seq.{paste, paste-suc, take_all, take_at, drop_at, drop-drop, length-take-le}
+use lib.ListN.{length, take, drop, replicate, length-take, length-drop, length-append}
+use lib.Seq.{take_all, take_at, drop_at, drop-drop, length-take-le}
 use borrow.Author.Tests.{lt-ltb, le-ltb}
 use borrow.Rule.Slice.PartMut.{put_mid}
-use Rattle.log_whole.specs.declared.Log.{Log}
-use Rattle.log_whole.specs.Logs.{count_of, first_bad, log_of, Wrote, wrote, trailer_over, trailer_to}
+use Rattle.limits.specs.declared.Refusal.{Refusal}
+use Rattle.limits.specs.declared.Refusal.TheVariants as refusal
+use Rattle.log_record.specs.Records.{Wrote, wrote}
+use Rattle.log_whole.specs.Logs.{count_of, first_bad, trailer_over, trailer_to}
 use Rattle.log_whole.proofs.Laws.{write_done}
 use Rattle.log_whole.proofs.Whole.{trailer_whole}
-use Rattle.log_cut.specs.Cut.{kept_of, stop_of, whole_by, whole, dropped_of, trailer_of, output_of}
+use Rattle.log_cut.specs.Cut.{kept_of, stop_of, whole, dropped_of, trailer_of, output_of}
 use Rattle.log_cut.proofs.Kept.{keeps, whole_is, whole_keeps}
 use Rattle.log_cut.proofs.Output.{output_whole, output_cut, output_length, dropped_whole, dropped_cut}
-use Rattle.log_trim.specs.declared.Trimmed.TheVariants as trimmed
-use Rattle.log_trim.specs.Trimmed.{left, cut_of, refusal_of, room_after, answer_by, trim_to}
+use Rattle.log_trim.specs.declared.Cut.{Cut}
+use Rattle.log_trim.specs.Trimmed.{left, cut_of, answer_of, room_after, trim_to}
 
 -- ---- what is kept
-
-pub whole_by_lem : (bs : List ℕ) (l k : Log) (b : Bool) → l ≡ log_of bs → l ≡ k → b ≡ whole_by k → b ≡ whole bs
-unfolding whole
-whole_by_lem bs l k b e n p = p ∙ ap whole_by (sym n ∙ e)
 
 pub kept_all : (bs : List ℕ) → whole bs ≡ true → length bs / 96 ≡ kept_of bs
 kept_all bs w = count (length bs) (count_of bs) (whole_is bs w).sized ∙ sym (whole_keeps bs w)
@@ -37,20 +34,6 @@ pub kept-first : (bs : List ℕ) → first_bad bs 0 0 (length bs / 96) ≡ kept_
 unfolding kept_of
 kept-first bs = refl
 
--- ---- a copy
-
-pub copy_more : (room from r : List ℕ) (i v : ℕ) → i < length from → i < length room → r ≡ paste room 0 from i → v ≡ get_or from i 0
-    → set r i v ≡ paste room 0 from (i + 1)
-copy_more room from r i v l h e b =
-    ap (λ (x : List ℕ). set x i v) e
-    ∙ ap (set (paste room 0 from i) i) b
-    ∙ ap (λ (n : ℕ). set (paste room 0 from i) n (get_or from i 0)) (sym (zero-add i))
-    ∙ paste-suc room 0 from i 0 (subst (λ (n : ℕ). n < length room) (sym (zero-add i)) h) l
-    ∙ ap (paste room 0 from) (sym (add-one i))
-
-pub copied : (room from r : List ℕ) (i end : ℕ) → i ≡ end → r ≡ paste room 0 from i → r ≡ take end from ++ drop end room
-copied room from r i end h e = e ∙ ap (λ (n : ℕ). take i from ++ drop n room) (zero-add i) ∙ ap (λ (n : ℕ). take n from ++ drop n room) h
-
 -- ---- the trailer behind what was copied
 
 part_size : (xs : List ℕ) (at end : ℕ) → end ≡ at + 24 → end ≤ length xs → length (take (end - at) (drop at xs)) ≡ 24
@@ -61,12 +44,12 @@ trailer_new : (bs : List ℕ) (count copies threshold timeout : ℕ) → length 
 unfolding trailer_of
 trailer_new bs count copies threshold timeout l = trailer_whole count copies threshold timeout bs (replicate 24 0) l refl
 
-pub put_is : (log room first last : List ℕ) (count copies threshold timeout r stop end : ℕ)
+pub put_is : (log room first last : List ℕ) (count copies threshold timeout stop end : ℕ) (r : Result Unit Refusal)
     → count ≤ 682 → 96 * count ≤ length log → 96 * count + 24 ≤ length room → stop ≡ 96 * count → end ≡ stop + 24
     → first ≡ take stop log ++ drop stop room
     → wrote r last ≡ trailer_to (take (end - stop) (drop stop first)) count copies threshold timeout
     → put_mid stop (end - stop) first last ≡ (take (96 * count) log ++ trailer_of count copies threshold timeout) ++ drop (96 * count + 24) room
-put_is log room first last count copies threshold timeout r stop end few there fits s n c w =
+put_is log room first last count copies threshold timeout stop end r few there fits s n c w =
     (λ i. before i ++ (trailer_is i ++ behind i))
     ∙ sym (append_assoc (take stop log) (trailer_of count copies threshold timeout) (drop (stop + 24) room))
     ∙ (λ i. (take (s i) log ++ trailer_of count copies threshold timeout) ++ drop (at_end i) room)
@@ -107,41 +90,41 @@ put_is log room first last count copies threshold timeout r stop end few there f
 
 -- ---- the answers
 
-by_number : (bs room : List ℕ) (copies threshold timeout n : ℕ) → refusal_of bs room ≡ n
-    → left (answer_by n (cut_of bs)) (room_after n (output_of bs copies threshold timeout) room) ≡ trim_to bs copies threshold timeout room
+by_answer : (bs room : List ℕ) (copies threshold timeout : ℕ) (a : Result Cut Refusal) → answer_of bs room ≡ a
+    → left a (room_after a (output_of bs copies threshold timeout) room) ≡ trim_to bs copies threshold timeout room
 unfolding trim_to
-by_number bs room copies threshold timeout n e =
-    sym (ap (λ (m : ℕ). left (answer_by m (cut_of bs)) (room_after m (output_of bs copies threshold timeout) room)) e)
+by_answer bs room copies threshold timeout a e =
+    sym (ap (λ (b : Result Cut Refusal). left b (room_after b (output_of bs copies threshold timeout) room)) e)
 
-abbrev number_by : (long short : Bool) → ℕ
-number_by long short = cond long 9 (cond short 12 0)
+abbrev pub answer_by : List ℕ → (long short : Bool) → Result Cut Refusal
+answer_by bs long short = cond long (Err refusal.TooLong) (cond short (Err refusal.ShortRoom) (Ok (cut_of bs)))
 
-number-long : (bs room : List ℕ) → 65536 < length bs → refusal_of bs room ≡ 9
-unfolding refusal_of
-number-long bs room h = ap (λ (b : Bool). number_by b (ltb (length room) (stop_of bs + 24))) (lt-ltb 65536 (length bs) h)
+answer-long : (bs room : List ℕ) → 65536 < length bs → answer_of bs room ≡ Err refusal.TooLong
+unfolding answer_of
+answer-long bs room h = ap (λ (b : Bool). answer_by bs b (ltb (length room) (stop_of bs + 24))) (lt-ltb 65536 (length bs) h)
 
-number_short : (bs room : List ℕ) → length bs ≤ 65536 → length room < stop_of bs + 24 → refusal_of bs room ≡ 12
-unfolding refusal_of
-number_short bs room l h = ap₂ number_by (le-ltb 65536 (length bs) l) (lt-ltb (length room) (stop_of bs + 24) h)
+answer-short : (bs room : List ℕ) → length bs ≤ 65536 → length room < stop_of bs + 24 → answer_of bs room ≡ Err refusal.ShortRoom
+unfolding answer_of
+answer-short bs room l h = ap₂ (answer_by bs) (le-ltb 65536 (length bs) l) (lt-ltb (length room) (stop_of bs + 24) h)
 
-number-served : (bs room : List ℕ) → length bs ≤ 65536 → stop_of bs + 24 ≤ length room → refusal_of bs room ≡ 0
-unfolding refusal_of
-number-served bs room l h = ap₂ number_by (le-ltb 65536 (length bs) l) (le-ltb (length room) (stop_of bs + 24) h)
+answer-served : (bs room : List ℕ) → length bs ≤ 65536 → stop_of bs + 24 ≤ length room → answer_of bs room ≡ Ok (cut_of bs)
+unfolding answer_of
+answer-served bs room l h = ap₂ (answer_by bs) (le-ltb 65536 (length bs) l) (le-ltb (length room) (stop_of bs + 24) h)
 
 module _ (bs room : List ℕ) (copies threshold timeout : ℕ) where
-  pub trim-long : 65536 < length bs → left (trimmed.Refused 9) room ≡ trim_to bs copies threshold timeout room
-  trim-long h = by_number bs room copies threshold timeout 9 (number-long bs room h)
+  pub trim-long : 65536 < length bs → left (Err refusal.TooLong) room ≡ trim_to bs copies threshold timeout room
+  trim-long h = by_answer bs room copies threshold timeout (Err refusal.TooLong) (answer-long bs room h)
 
   module _ (kept : ℕ) (small : length bs ≤ 65536) (e : kept ≡ kept_of bs) where
-    pub trim_short : length room < 96 * kept + 24 → left (trimmed.Refused 12) room ≡ trim_to bs copies threshold timeout room
-    trim_short h = by_number bs room copies threshold timeout 12 (number_short bs room small (subst (λ (k : ℕ). length room < 96 * k + 24) e h))
+    pub trim_short : length room < 96 * kept + 24 → left (Err refusal.ShortRoom) room ≡ trim_to bs copies threshold timeout room
+    trim_short h = by_answer bs room copies threshold timeout (Err refusal.ShortRoom) (answer-short bs room small (subst (λ (k : ℕ). length room < 96 * k + 24) e h))
 
     served : (dropped : ℕ) (after : List ℕ) → 96 * kept + 24 ≤ length room → dropped ≡ dropped_of bs
         → after ≡ output_of bs copies threshold timeout ++ drop (96 * kept + 24) room
-        → left (trimmed.Kept (record { kept = kept; stop = 96 * kept; dropped = dropped })) after ≡ trim_to bs copies threshold timeout room
+        → left (Ok (record { kept = kept; stop = 96 * kept; dropped = dropped })) after ≡ trim_to bs copies threshold timeout room
     served dropped after h d a =
-        (λ i. left (trimmed.Kept (record { kept = e i; stop = 96 * e i; dropped = d i })) (behind i))
-        ∙ by_number bs room copies threshold timeout 0 (number-served bs room small (subst (λ (k : ℕ). 96 * k + 24 ≤ length room) e h))
+        (λ i. left (Ok (record { kept = e i; stop = 96 * e i; dropped = d i })) (behind i))
+        ∙ by_answer bs room copies threshold timeout (Ok (cut_of bs)) (answer-served bs room small (subst (λ (k : ℕ). 96 * k + 24 ≤ length room) e h))
       where
         behind : after ≡ output_of bs copies threshold timeout ++ drop (length (output_of bs copies threshold timeout)) room
         behind =
@@ -149,7 +132,7 @@ module _ (bs room : List ℕ) (copies threshold timeout : ℕ) where
             (ap (λ (k : ℕ). 96 * k + 24) e ∙ sym (output_length bs copies threshold timeout))
 
     pub trim-whole : (after : List ℕ) → whole bs ≡ true → 96 * kept + 24 ≤ length room → after ≡ take (length bs) bs ++ drop (length bs) room
-        → left (trimmed.Kept (record { kept = kept; stop = 96 * kept; dropped = 0 })) after ≡ trim_to bs copies threshold timeout room
+        → left (Ok (record { kept = kept; stop = 96 * kept; dropped = 0 })) after ≡ trim_to bs copies threshold timeout room
     trim-whole after w h a =
         served 0 after h (sym (dropped_whole bs w))
         (a ∙ (λ i. (take_all (length bs) bs (omega arith) ∙ sym (output_whole bs copies threshold timeout w)) i ++ drop (size i) room))
@@ -159,7 +142,7 @@ module _ (bs room : List ℕ) (copies threshold timeout : ℕ) where
 
     pub trim_cut : (after : List ℕ) → whole bs ≡ false → 96 * kept + 24 ≤ length room
         → after ≡ (take (96 * kept) bs ++ trailer_of kept copies threshold timeout) ++ drop (96 * kept + 24) room
-        → left (trimmed.Kept (record { kept = kept; stop = 96 * kept; dropped = length bs - 96 * kept })) after ≡ trim_to bs copies threshold timeout room
+        → left (Ok (record { kept = kept; stop = 96 * kept; dropped = length bs - 96 * kept })) after ≡ trim_to bs copies threshold timeout room
     trim_cut after w h a =
         served (length bs - 96 * kept) after h (ap (λ (k : ℕ). length bs - 96 * k) e ∙ sym (dropped_cut bs w))
         (a ∙ ap (λ (x : List ℕ). x ++ drop (96 * kept + 24) room)

@@ -1,5 +1,6 @@
 -- What each answer to a log means. Assumes nothing.
-use mathlib.Core.Path.{◌≡◌, refl, sym, ap, ◌∙◌, subst}
+use Rattle.std.specs.Prelude.{Some, Ok}
+use mathlib.Core.Path.{◌≡◌, refl, sym, ap, ap₂, ◌∙◌, subst}
 use mathlib.Core.Bool.{Bool, true, false, cond}
 use mathlib.Core.List.{List}
 use Prim.Native.Nat.{ℕ, ◌+◌, ◌*◌, ◌≤◌, ◌<◌}
@@ -9,13 +10,10 @@ use lib.ListN.{length, take, drop, length-take, length-drop}
 use borrow.Author.Tests.{ltb-true, ltb-false, eqb-true, eqb-false, eq-eqb}
 use Rattle.record_parts.specs.declared.Entry.{Entry}
 use Rattle.record_parts.specs.Parts.{call_of}
-use Rattle.log_record.specs.declared.Record.TheVariants as record'
 use Rattle.log_record.specs.Records.{record_of, entry_of, good, read_of}
 use Rattle.log_record.specs.Records as records
 use Rattle.log_record.proofs.Good.{good_is_written}
 use Rattle.log_whole.specs.declared.Settings.{Settings}
-use Rattle.log_whole.specs.declared.Log.TheVariants as log
-use Rattle.log_whole.specs.declared.PlayedCall.TheVariants as played
 use Rattle.log_whole.specs.Logs.{most_bytes, count_of, settings_of, trailer_good, record_at, answer, records_number, number_by, first_of, log_of, played_by, call_at}
 use Rattle.log_whole.specs.Meaning.{Means}
 use Rattle.log_whole.proofs.Laws.{count_is, one_within, call_there}
@@ -61,15 +59,15 @@ answer_means bs = by-long (ltb most_bytes (length bs)) refl
     by-long true e = ltb-true 65536 (length bs) e
     by-long false e = by_trailer (ltb-false 65536 (length bs) e) (trailer_good bs) refl
 
-good-read : (r : List ℕ) → length r ≡ 96 → good r ≡ true → read_of r ≡ record'.Good (entry_of r)
+good-read : (r : List ℕ) → length r ≡ 96 → good r ≡ true → read_of r ≡ Ok (entry_of r)
 unfolding read_of
-good-read r l g = ap (λ (n : ℕ). records.answer n (entry_of r)) (λ i. cond (eq-eqb (length r) 96 l i) (cond (g i) 0 8) 5)
+good-read r l g = ap₂ (λ (x y : Bool). records.answer x y (entry_of r)) (eq-eqb (length r) 96 l) g
 
 -- Every record of an accepted log is the record of an entry, and makes the call of it.
-pub accepted_decodes : (bs : List ℕ) (s : Settings) (i : ℕ) → log_of bs ≡ log.Good s → i < s.count
-    → (e : Entry) × (call_at bs i ≡ played.Call (call_of e)) × (record_at bs s.start i ≡ record_of e)
+pub accepted_decodes : (bs : List ℕ) (s : Settings) (i : ℕ) → log_of bs ≡ Ok s → i < s.count
+    → (e : Entry) × (call_at bs i ≡ Some (call_of e)) × (record_at bs s.start i ≡ record_of e)
 accepted_decodes bs s i e l =
-    let m : Means bs (log.Good s) = subst (Means bs) e (answer_means bs) in
+    let m : Means bs (Ok s) = subst (Means bs) e (answer_means bs) in
     let r : List ℕ = record_at bs s.start i in
     let g : good (record_at bs s.start i) ≡ true = m.3 i l in
     let room : s.start + 96 * i + 96 ≤ length bs = one_within bs s i m.1 m.2 l in (

@@ -1,4 +1,5 @@
 -- A log that a writer makes is accepted, and makes the calls and says the settings that were written. Assumes nothing.
+use Rattle.std.specs.Prelude.{Option, Some, ℤ, Ok}
 use mathlib.Core.Path.{◌≡◌, refl, sym, ap, ap₂, ◌∙◌, subst}
 use mathlib.Core.Bool.{Bool, true, false, ◌&&◌, cond}
 use mathlib.Core.List.{List, [], ◌∷◌, ◌++◌, append_assoc}
@@ -13,7 +14,6 @@ use Rattle.big_endian.specs.Numbers.{base, number_at}
 use Rattle.big_endian.specs.Fields.{Field}
 use Rattle.big_endian.proofs.Laws.{In, first, later, field_back, written-length}
 use Rattle.call_types.specs.declared.ReplyObservation.{ReplyObservation}
-use Rattle.call_types.specs.declared.Time.{Time}
 use Rattle.record_parts.specs.declared.Entry.{Entry}
 use Rattle.record_parts.specs.declared.Entry.TheVariants as entry
 use Rattle.record_parts.specs.Parts.{call_of}
@@ -21,8 +21,6 @@ use Rattle.record_parts.specs.Fits.{U16, U64, EntryFits}
 use Rattle.log_record.specs.Records.{record_of, good, read_of}
 use Rattle.log_record.proofs.Back.{record-length}
 use Rattle.log_record.proofs.Good.{written_is_good, read_back}
-use Rattle.log_whole.specs.declared.Log.TheVariants as log
-use Rattle.log_whole.specs.declared.PlayedCall.TheVariants as played
 use Rattle.log_whole.specs.Logs.{mark, trailer_at, distance_of, count_of, mark_of, settings_of, trailer_fits, trailer_good, record_at, log_of, played_by, call_at, trailer_table, trailer_over}
 use Rattle.log_whole.specs.Written.{records, AllFit, log_bytes, settings_by}
 use Rattle.log_whole.proofs.Laws.{by-good, log_by_records, call_there}
@@ -195,19 +193,19 @@ module _ (before : List ℕ) (es : List Entry) (room : List ℕ) (copies thresho
   good_there i l = ap good (record_is i l) ∙ written_is_good (get_or es i entry.Idle) (fits-at es fits i)
 
   -- The log is accepted with the settings that were written.
-  pub log_back : log_of bytes ≡ log.Good (settings_by before es copies threshold timeout)
+  pub log_back : log_of bytes ≡ Ok (settings_by before es copies threshold timeout)
   log_back =
       let s = settings_by before es copies threshold timeout in
       sym (by-good (length es) s refl ∙ log_by_records bytes (length es) s small kept (sym settings_is) (sym (none-bad bytes (length before) (length es) good_there)))
 
   -- Record i makes the call of the entry that was written there.
-  pub calls_back : (i : ℕ) → i < length es → call_at bytes i ≡ played.Call (call_of (get_or es i entry.Idle))
+  pub calls_back : (i : ℕ) → i < length es → call_at bytes i ≡ Some (call_of (get_or es i entry.Idle))
   calls_back i l =
       sym (call_there bytes i (settings_by before es copies threshold timeout) small kept (sym settings_is) l)
       ∙ ap (λ (r : List ℕ). played_by (read_of r)) (record_is i l) ∙ ap played_by (read_back (get_or es i entry.Idle) (fits-at es fits i))
 
 -- THE FIELD OF FLAG 16 DOES NOT MATTER: the records of two observes that differ in it alone make the same call.
 pub converted-unseen :
-    (o : ReplyObservation) (t u : Time) → EntryFits (entry.Observe o t) → EntryFits (entry.Observe o u)
+    (o : ReplyObservation) (t u : Option ℤ) → EntryFits (entry.Observe o t) → EntryFits (entry.Observe o u)
     → played_by (read_of (record_of (entry.Observe o t))) ≡ played_by (read_of (record_of (entry.Observe o u)))
 converted-unseen o t u f g = ap played_by (read_back (entry.Observe o t) f) ∙ sym (ap played_by (read_back (entry.Observe o u) g))

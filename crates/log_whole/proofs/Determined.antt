@@ -1,12 +1,15 @@
 -- The contracts determine every answer and every lent byte: two exits that meet them are equal. Assumes nothing.
 use mathlib.Core.Path.{◌≡◌, refl, sym, ap, ◌∙◌}
 use mathlib.Core.List.{List}
-use Prim.Native.Nat.{ℕ, zero, suc}
+use Prim.Native.Nat.{ℕ}
 use contract.Lifetimes.{Lfts}
 use borrow.Fn.World as World
 use borrow.Fn.Kinds as Kinds'
 use denote.Triple.Clauses as Clauses
-use Rattle.log_whole.specs.Logs.{Wrote, trailer_number, trailer_after, trailer_over, trailer_to}
+use Rattle.std.specs.Prelude.{Result, Ok, Err}
+use Rattle.limits.specs.declared.Refusal.{Refusal}
+use Rattle.log_record.specs.Records.{Wrote, number_in, told_of}
+use Rattle.log_whole.specs.Logs.{trailer_answer, trailer_after, trailer_over, trailer_to}
 use Rattle.log_whole.specs.contracts.check as check
 use Rattle.log_whole.proofs.check.Kinds as check-kinds
 use Rattle.log_whole.proofs.check.Reads as check-reads
@@ -33,14 +36,14 @@ pub write-unique :
     (κs : Lfts 1) (a : World.ArgsD write.signature κs) (r₁ r₂ : World.ResD write.signature κs)
     (s₁ s₂ : Clauses.AtExit (Kinds'.ended_of 1 write-kinds.ps write-kinds.r) κs)
     → write-reads.Post κs a r₁ s₁ → write-reads.Post κs a r₂ s₂ → (r₁ ≡ r₂) × (s₁.0.now ≡ s₂.0.now)
-write-unique κs a r₁ r₂ s₁ s₂ p q = let e = p ∙ sym q in (ap (λ (w : Wrote). w.number) e, ap (λ (w : Wrote). w.bytes) e)
+write-unique κs a r₁ r₂ s₁ s₂ p q = let e = p ∙ sym q in (ap (λ (w : Wrote). w.answer) e, ap (λ (w : Wrote). w.bytes) e)
 
 -- a refusal changes nothing
-pub refusal_changes_nothing : (bs : List ℕ) (count copies threshold timeout : ℕ) → ((trailer_to bs count copies threshold timeout).number ≡ 0 → ⊥)
+pub refusal_changes_nothing : (bs : List ℕ) (count copies threshold timeout : ℕ) → ((told_of (trailer_to bs count copies threshold timeout)).number ≡ 0 → ⊥)
     → (trailer_to bs count copies threshold timeout).bytes ≡ bs
 unfolding trailer_to
-refusal_changes_nothing bs count copies threshold timeout n = by (trailer_number bs count) n
+refusal_changes_nothing bs count copies threshold timeout n = by (trailer_answer bs count) n
   where
-    by : (m : ℕ) → (m ≡ 0 → ⊥) → trailer_after m (trailer_over bs count copies threshold timeout) bs ≡ bs
-    by zero h = absurd (h refl)
-    by (suc m) h = refl
+    by : (a : Result Unit Refusal) → (number_in a ≡ 0 → ⊥) → trailer_after a (trailer_over bs count copies threshold timeout) bs ≡ bs
+    by (Ok u) h = absurd (h refl)
+    by (Err r) h = refl

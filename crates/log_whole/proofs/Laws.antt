@@ -1,4 +1,6 @@
 -- What the proofs of this crate's functions need of the definitions. Assumes nothing.
+use Rattle.std.specs.Prelude.{Option, None, Result, Ok, Err, is_ok}
+use Rattle.call_types.specs.declared.Call.{Call}
 use mathlib.Core.Path.{◌≡◌, refl, sym, ap, ap₂, ◌∙◌, subst}
 use mathlib.Core.Bool.{Bool, true, false, ◌&&◌, cond}
 use mathlib.Core.List.{List}
@@ -7,18 +9,17 @@ use native.Mathlib.Omega.{arith}
 use lib.Dec.{eqb, leb, ltb}
 use lib.ListN.{length, take, drop}
 use borrow.Author.Tests.{eq-eqb, ne_eqb, eqb-true, leb-true, lt-ltb, le-ltb, ltb-false}
-use Rattle.log_record.specs.declared.Record.{Record}
-use Rattle.log_record.specs.declared.Record.TheVariants as record'
-use Rattle.log_record.specs.Records.{entry_of, good, read_of}
+use Rattle.limits.specs.declared.Refusal.{Refusal}
+use Rattle.limits.specs.declared.Refusal.TheVariants as refusal
+use Rattle.record_parts.specs.declared.Entry.{Entry}
+use Rattle.log_record.specs.Records.{entry_of, good, read_of, wrote}
 use Rattle.log_record.specs.Records as records
 use Rattle.log_whole.specs.declared.Settings.{Settings}
-use Rattle.log_whole.specs.declared.Log.{Log}
-use Rattle.log_whole.specs.declared.Log.TheVariants as log
-use Rattle.log_whole.specs.declared.PlayedCall.{PlayedCall}
-use Rattle.log_whole.specs.declared.PlayedCall.TheVariants as played
+use Rattle.log_whole.specs.declared.Fault.{Fault}
+use Rattle.log_whole.specs.declared.Fault.TheVariants as fault
 use Rattle.log_whole.specs.Logs.{mark, distance_of, count_of, mark_of, settings_of, trailer_fits, trailer_good, record_at, first_bad, answer, records_number, by_records, number_by, first_of, log_of, played_by, call_at}
 use Rattle.big_endian.specs.Fields.{written}
-use Rattle.log_whole.specs.Logs.{trailer_table, trailer_over, wrote, trailer_number, trailer_after, trailer_to}
+use Rattle.log_whole.specs.Logs.{trailer_table, trailer_over, trailer_answer, trailer_after, trailer_to}
 
 -- ---- the trailer
 
@@ -100,20 +101,14 @@ same-part bs at = ap (λ (n : ℕ). take n (drop at bs)) (size at)
     size : (n : ℕ) → n + 96 - n ≡ 96
     size n = omega arith
 
-abbrev pub is_good : Record → Bool
-is_good (record'.Good c) = true
-is_good (record'.Refused n) = false
-
-pub good_of_read : (r : List ℕ) (a : Record) (b : Bool) → length r ≡ 96 → a ≡ read_of r → is_good a ≡ b → b ≡ good r
+pub good_of_read : (r : List ℕ) (a : Result Entry Refusal) (b : Bool) → length r ≡ 96 → a ≡ read_of r → b ≡ is_ok a → b ≡ good r
 unfolding read_of
-good_of_read r a b l e h = sym h ∙ ap is_good e ∙ by (good r) ∙ refl
+good_of_read r a b l e h =
+    h ∙ ap is_ok e ∙ ap (λ (s : Bool). is_ok (records.answer s (good r) (entry_of r))) (eq-eqb (length r) 96 l) ∙ by (good r)
   where
-    at-number : (g : Bool) → is_good (records.answer (cond g 0 8) (entry_of r)) ≡ g
-    at-number true = refl
-    at-number false = refl
-
-    by : (g : Bool) → is_good (records.answer (cond (eqb (length r) 96) (cond g 0 8) 5) (entry_of r)) ≡ g
-    by g = ap (λ (s : Bool). is_good (records.answer (cond s (cond g 0 8) 5) (entry_of r))) (eq-eqb (length r) 96 l) ∙ at-number g
+    by : (g : Bool) → is_ok (records.answer true g (entry_of r)) ≡ g
+    by true = refl
+    by false = refl
 
 -- ---- the first bad record
 
@@ -145,20 +140,20 @@ bad_end bs start i n e = ap (first_bad bs start i) (none i n e) ∙ e
 
 -- ---- the answers
 
-pub by-good : (first : ℕ) (s : Settings) → first ≡ s.count → log.Good s ≡ by_records first s
+pub by-good : (first : ℕ) (s : Settings) → first ≡ s.count → Ok s ≡ by_records first s
 by-good first s e = sym (ap (λ (b : Bool). answer (cond b 0 8) first s) (eq-eqb first s.count e))
 
-pub by-bad : (first : ℕ) (s : Settings) → (first ≡ s.count → ⊥) → log.BadRecord first ≡ by_records first s
+pub by-bad : (first : ℕ) (s : Settings) → (first ≡ s.count → ⊥) → Err (fault.BadRecord first) ≡ by_records first s
 by-bad first s e = sym (ap (λ (b : Bool). answer (cond b 0 8) first s) (ne_eqb first s.count e))
 
-abbrev log_by : List ℕ → Bool → Bool → Log
+abbrev log_by : List ℕ → Bool → Bool → Result Settings Fault
 log_by bs long kept = answer (number_by long kept (records_number (first_of bs) (settings_of bs).count)) (first_of bs) (settings_of bs)
 
-pub log_too_long : (bs : List ℕ) → 65536 < length bs → log.TooLong ≡ log_of bs
+pub log_too_long : (bs : List ℕ) → 65536 < length bs → Err fault.TooLong ≡ log_of bs
 unfolding log_of
 log_too_long bs h = sym (ap (λ (b : Bool). log_by bs b (trailer_good bs)) (lt-ltb 65536 (length bs) h))
 
-pub log_bad_trailer : (bs : List ℕ) → length bs ≤ 65536 → trailer_good bs ≡ false → log.BadTrailer ≡ log_of bs
+pub log_bad_trailer : (bs : List ℕ) → length bs ≤ 65536 → trailer_good bs ≡ false → Err fault.BadTrailer ≡ log_of bs
 unfolding log_of
 log_bad_trailer bs h g = sym (ap₂ (log_by bs) (le-ltb 65536 (length bs) h) g)
 
@@ -170,19 +165,19 @@ log_by_records bs first s h g e f =
     ∙ ap (λ (n : ℕ). by_records (first_bad bs (settings_of bs).start 0 n) (settings_of bs)) (count_is bs)
     ∙ sym (ap₂ (log_by bs) (le-ltb 65536 (length bs) h) g)
 
-abbrev call_by : List ℕ → ℕ → Bool → Bool → Bool → PlayedCall
+abbrev call_by : List ℕ → ℕ → Bool → Bool → Bool → Option Call
 call_by bs i long kept there =
-    cond long played.Nothing (cond kept (cond there (played_by (read_of (record_at bs (settings_of bs).start i))) played.Nothing) played.Nothing)
+    cond long None (cond kept (cond there (played_by (read_of (record_at bs (settings_of bs).start i))) None) None)
 
-pub call_too_long : (bs : List ℕ) (i : ℕ) → 65536 < length bs → played.Nothing ≡ call_at bs i
+pub call_too_long : (bs : List ℕ) (i : ℕ) → 65536 < length bs → None ≡ call_at bs i
 unfolding call_at
 call_too_long bs i h = sym (ap (λ (b : Bool). call_by bs i b (trailer_good bs) (ltb i (count_of bs))) (lt-ltb 65536 (length bs) h))
 
-pub call_bad_trailer : (bs : List ℕ) (i : ℕ) → length bs ≤ 65536 → trailer_good bs ≡ false → played.Nothing ≡ call_at bs i
+pub call_bad_trailer : (bs : List ℕ) (i : ℕ) → length bs ≤ 65536 → trailer_good bs ≡ false → None ≡ call_at bs i
 unfolding call_at
 call_bad_trailer bs i h g = sym (ap₂ (λ (a b : Bool). call_by bs i a b (ltb i (count_of bs))) (le-ltb 65536 (length bs) h) g)
 
-pub call_none : (bs : List ℕ) (i : ℕ) (s : Settings) → length bs ≤ 65536 → trailer_good bs ≡ true → s ≡ settings_of bs → s.count ≤ i → played.Nothing ≡ call_at bs i
+pub call_none : (bs : List ℕ) (i : ℕ) (s : Settings) → length bs ≤ 65536 → trailer_good bs ≡ true → s ≡ settings_of bs → s.count ≤ i → None ≡ call_at bs i
 unfolding call_at
 call_none bs i s h g e l =
     let none : count_of bs ≤ i = subst (λ (n : ℕ). n ≤ i) (ap (λ (x : Settings). x.count) e ∙ count_is bs) l in
@@ -198,25 +193,26 @@ call_there bs i s h g e l =
 
 -- ---- the writer
 
-abbrev refusal_by : Bool → Bool → ℕ
-refusal_by sized many = cond sized (cond many 9 0) 5
+abbrev refusal_by : (sized many : Bool) → Result Unit Refusal
+refusal_by sized many = cond sized (cond many (Err refusal.TooLong) (Ok tt)) (Err refusal.WrongRoom)
 
-by_number : (bs : List ℕ) (count copies threshold timeout n : ℕ) → trailer_number bs count ≡ n
-    → wrote n (trailer_after n (trailer_over bs count copies threshold timeout) bs) ≡ trailer_to bs count copies threshold timeout
+by_answer : (bs : List ℕ) (count copies threshold timeout : ℕ) (a : Result Unit Refusal) → trailer_answer bs count ≡ a
+    → wrote a (trailer_after a (trailer_over bs count copies threshold timeout) bs) ≡ trailer_to bs count copies threshold timeout
 unfolding trailer_to
-by_number bs count copies threshold timeout n e = sym (ap (λ (m : ℕ). wrote m (trailer_after m (trailer_over bs count copies threshold timeout) bs)) e)
+by_answer bs count copies threshold timeout a e =
+    sym (ap (λ (b : Result Unit Refusal). wrote b (trailer_after b (trailer_over bs count copies threshold timeout) bs)) e)
 
 module _ (bs : List ℕ) (count copies threshold timeout : ℕ) where
-  pub write_room : (length bs ≡ 24 → ⊥) → wrote 5 bs ≡ trailer_to bs count copies threshold timeout
-  write_room h = by_number bs count copies threshold timeout 5 (ap (λ (b : Bool). refusal_by b (ltb 682 count)) (ne_eqb (length bs) 24 h))
+  pub write_room : (length bs ≡ 24 → ⊥) → wrote (Err refusal.WrongRoom) bs ≡ trailer_to bs count copies threshold timeout
+  write_room h = by_answer bs count copies threshold timeout (Err refusal.WrongRoom) (ap (λ (b : Bool). refusal_by b (ltb 682 count)) (ne_eqb (length bs) 24 h))
 
-  pub write_many : length bs ≡ 24 → 682 < count → wrote 9 bs ≡ trailer_to bs count copies threshold timeout
-  write_many l h = by_number bs count copies threshold timeout 9 (ap₂ refusal_by (eq-eqb (length bs) 24 l) (lt-ltb 682 count h))
+  pub write_many : length bs ≡ 24 → 682 < count → wrote (Err refusal.TooLong) bs ≡ trailer_to bs count copies threshold timeout
+  write_many l h = by_answer bs count copies threshold timeout (Err refusal.TooLong) (ap₂ refusal_by (eq-eqb (length bs) 24 l) (lt-ltb 682 count h))
 
   pub write_done : (after : List ℕ) → length bs ≡ 24 → count ≤ 682 → after ≡ trailer_over bs count copies threshold timeout
-      → wrote 0 after ≡ trailer_to bs count copies threshold timeout
+      → wrote (Ok tt) after ≡ trailer_to bs count copies threshold timeout
   write_done after l h e =
-      ap (wrote 0) e ∙ by_number bs count copies threshold timeout 0 (ap₂ refusal_by (eq-eqb (length bs) 24 l) (le-ltb 682 count h))
+      ap (wrote (Ok tt)) e ∙ by_answer bs count copies threshold timeout (Ok tt) (ap₂ refusal_by (eq-eqb (length bs) 24 l) (le-ltb 682 count h))
 
   pub over : written (trailer_table count copies threshold timeout) bs ≡ trailer_over bs count copies threshold timeout
   unfolding trailer_over

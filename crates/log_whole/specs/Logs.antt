@@ -1,19 +1,18 @@
 -- A log (document 01, 'Log and program'): "96-byte records, ..; then a 24-byte trailer: distance from the end to the first record (u32), record
 -- count (u32), copies (u16), threshold (u16; 0 means no monitor), timeout (u64), bytes `STLG`. Anything may stand before the first record."
 -- Assumes nothing.
-use Rattle.std.specs.Prelude.{Bool, false, ◌&&◌, cond, List, [], ◌∷◌, ℕ, zero, suc, ◌+◌, ◌-◌, ◌*◌, eqb, leb, ltb, length, take, drop}
-use Rattle.limits.specs.Refusals.{wrong_room}
+use Rattle.call_types.specs.declared.Call.{Call}
+use Rattle.std.specs.Prelude.{Bool, false, ◌&&◌, cond, List, [], ◌∷◌, ℕ, zero, suc, ◌+◌, ◌-◌, ◌*◌, eqb, leb, ltb, length, take, drop, Option, Some, None, Err, Ok, Result}
+use Rattle.limits.specs.declared.Refusal.{Refusal}
+use Rattle.limits.specs.declared.Refusal.TheVariants as refusal
 use Rattle.big_endian.specs.Numbers.{number_at}
 use Rattle.big_endian.specs.Fields.{Field, bytes2, bytes4, bytes8, written}
 use Rattle.record_parts.specs.Parts.{call_of}
-use Rattle.log_record.specs.declared.Record.{Record}
-use Rattle.log_record.specs.declared.Record.TheVariants as record'
-use Rattle.log_record.specs.Records.{bad_record, good, read_of}
+use Rattle.record_parts.specs.declared.Entry.{Entry}
+use Rattle.log_record.specs.Records.{Wrote, wrote, bad_record, good, read_of}
 use Rattle.log_whole.specs.declared.Settings.{Settings}
-use Rattle.log_whole.specs.declared.Log.{Log}
-use Rattle.log_whole.specs.declared.Log.TheVariants as log
-use Rattle.log_whole.specs.declared.PlayedCall.{PlayedCall}
-use Rattle.log_whole.specs.declared.PlayedCall.TheVariants as played
+use Rattle.log_whole.specs.declared.Fault.{Fault}
+use Rattle.log_whole.specs.declared.Fault.TheVariants as fault
 
 -- ---- the trailer
 
@@ -72,6 +71,12 @@ first_bad bs start i (suc n) = cond (good (record_at bs start i)) (first_bad bs 
 
 -- ---- the answer
 
+-- the refusal of each fault
+abbrev pub refusal_of : Fault → Refusal
+refusal_of fault.TooLong = refusal.TooLong
+refusal_of fault.BadTrailer = refusal.BadTrailer
+refusal_of (fault.BadRecord n) = refusal.BadRecord
+
 -- document 01's numbers: "9 above 65,536 bytes, 7 bad trailer, 8 bad record (first, from 0)"
 abbrev pub too_long : ℕ
 too_long = 9
@@ -81,16 +86,16 @@ abbrev pub bad_trailer : ℕ
 bad_trailer = 7
 
 -- the answer by its number: 0 with the settings, 8 with the first bad record, and otherwise the number alone
-abbrev pub answer : ℕ → (first : ℕ) → Settings → Log
+abbrev pub answer : ℕ → (first : ℕ) → Settings → Result Settings Fault
 answer number first s =
-    cond (eqb number 0) (log.Good s) (cond (eqb number bad_record) (log.BadRecord first) (cond (eqb number bad_trailer) log.BadTrailer log.TooLong))
+    cond (eqb number 0) (Ok s) (cond (eqb number bad_record) (Err (fault.BadRecord first)) (cond (eqb number bad_trailer) (Err fault.BadTrailer) (Err fault.TooLong)))
 
 -- the number that the first bad record gives: none is bad where it is the count
 abbrev pub records_number : (first count : ℕ) → ℕ
 records_number first count = cond (eqb first count) 0 bad_record
 
 -- the answer where the trailer is good: the first bad record, or the settings where it is the count
-abbrev pub by_records : ℕ → Settings → Log
+abbrev pub by_records : ℕ → Settings → Result Settings Fault
 by_records first s = answer (records_number first s.count) first s
 
 -- "tested in that order"
@@ -102,23 +107,23 @@ abbrev pub first_of : List ℕ → ℕ
 first_of bs = first_bad bs (settings_of bs).start 0 (count_of bs)
 
 -- the answer for any bytes: 9, 7, 8 with the first bad record, or the settings
-unfoldable pub log_of : List ℕ → Log
+unfoldable pub log_of : List ℕ → Result Settings Fault
 log_of bs = answer (number_by (ltb most_bytes (length bs)) (trailer_good bs) (records_number (first_of bs) (settings_of bs).count)) (first_of bs) (settings_of bs)
 
 -- ---- the call of record i
 
 -- of a good record the call that it makes, and of a bad one none
-abbrev pub played_by : Record → PlayedCall
-played_by (record'.Good e) = played.Call (call_of e)
-played_by (record'.Refused n) = played.Nothing
+abbrev pub played_by : Result Entry Refusal → Option Call
+played_by (Ok e) = Some (call_of e)
+played_by (Err r) = None
 
 -- no call where the log is too long or its trailer bad, where it has no record i, and where that record is bad
-unfoldable pub call_at : List ℕ → ℕ → PlayedCall
+unfoldable pub call_at : List ℕ → ℕ → Option Call
 call_at bs i =
-    cond (ltb most_bytes (length bs)) played.Nothing
+    cond (ltb most_bytes (length bs)) None
     (cond (trailer_good bs)
-    (cond (ltb i (count_of bs)) (played_by (read_of (record_at bs (settings_of bs).start i))) played.Nothing)
-    played.Nothing)
+    (cond (ltb i (count_of bs)) (played_by (read_of (record_at bs (settings_of bs).start i))) None)
+    None)
 
 -- ---- writing a trailer
 
@@ -137,25 +142,16 @@ trailer_table count copies threshold timeout =
 unfoldable pub trailer_over : List ℕ → ℕ → ℕ → ℕ → ℕ → List ℕ
 trailer_over bs count copies threshold timeout = written (trailer_table count copies threshold timeout) bs
 
--- what a call of the writer leaves: its number, and the lent bytes
-pub record Wrote : Type 0 where
-  pub number : ℕ
-  pub bytes : List ℕ
+-- refused are another number of bytes than 24 (5), and more records than 65,536 bytes hold (9)
+abbrev pub trailer_answer : List ℕ → ℕ → Result Unit Refusal
+trailer_answer bs count = cond (eqb (length bs) 24) (cond (ltb 682 count) (Err refusal.TooLong) (Ok tt)) (Err refusal.WrongRoom)
 
--- what such a call leaves, made of its number and the bytes
-abbrev pub wrote : ℕ → List ℕ → Wrote
-wrote n bs = record { number = n; bytes = bs }
-
--- 5 for another number of bytes than 24; 9 for more records than 65,536 bytes hold
-abbrev pub trailer_number : List ℕ → ℕ → ℕ
-trailer_number bs count = cond (eqb (length bs) 24) (cond (ltb 682 count) too_long 0) wrong_room
-
--- at 0 the trailer; a refusal changes nothing
-abbrev pub trailer_after : ℕ → List ℕ → List ℕ → List ℕ
-trailer_after zero t bs = t
-trailer_after (suc n) t bs = bs
+-- where nothing is refused the trailer; a refusal changes nothing
+abbrev pub trailer_after : Result Unit Refusal → List ℕ → List ℕ → List ℕ
+trailer_after (Ok u) t bs = t
+trailer_after (Err r) t bs = bs
 
 -- the call: a trailer for `count` records, written over the lent bytes
 unfoldable pub trailer_to : List ℕ → ℕ → ℕ → ℕ → ℕ → Wrote
 trailer_to bs count copies threshold timeout =
-    wrote (trailer_number bs count) (trailer_after (trailer_number bs count) (trailer_over bs count copies threshold timeout) bs)
+    wrote (trailer_answer bs count) (trailer_after (trailer_answer bs count) (trailer_over bs count copies threshold timeout) bs)

@@ -1,13 +1,14 @@
 // A log of calls, 96-byte records and a 24-byte trailer (document 01, 'Log and program'): checked as a whole, and read record by record.
 ghost use Rattle.std.specs.Prelude.{◌≡◌, true, ◌+◌, ◌*◌, ◌≤◌, length, take, drop};
 ghost use Rattle.log_record.specs.Records.{good, read_of};
-ghost use Rattle.log_whole.specs.Logs.{trailer_fits, trailer_good, settings_of, distance_of, first_bad, by_records, log_of, played_by, call_at};
+ghost use Rattle.log_whole.specs.Logs.{refusal_of, trailer_fits, trailer_good, settings_of, distance_of, first_bad, by_records, log_of, played_by, call_at};
 
 pub mod trailer;
 
 use big_endian::{u16_at, u32_at, u64_at};
 use call_types::Call;
-use log_record::Record;
+use limits::Refusal;
+use record_parts::Entry;
 
 // A log has no more bytes.
 pub const MOST_BYTES: usize = 65536;
@@ -22,20 +23,25 @@ pub struct Settings {
     pub start: usize,
 }
 
-// What checking a log answers: 9, 7 and 8 of document 01, or the settings. A bad record is counted from 0.
-#[derive(Clone, Copy)]
-pub enum Log {
-    Good(Settings),
+// Why bytes are no log. A bad record is counted from 0.
+#[derive(Clone, Copy, Debug, Drop, PartialEq, Eq)]
+pub enum Fault {
     TooLong,
     BadTrailer,
     BadRecord(u32),
 }
 
-// What record i of a log makes: a call, or nothing.
-#[derive(Clone, Copy)]
-pub enum PlayedCall {
-    Call(Call),
-    Nothing,
+// The refusal that a host is told.
+impl From<Fault> for Refusal {
+    ghost from_gives = { λ fault refusal. refusal ≡ refusal_of fault };
+
+    fn from(fault: Fault) -> Refusal {
+        match fault {
+            Fault::TooLong => Refusal::TooLong,
+            Fault::BadTrailer => Refusal::BadTrailer,
+            Fault::BadRecord(_) => Refusal::BadRecord,
+        }
+    }
 }
 
 fn trailer_fits(log: &[u8]) -> bool
@@ -75,7 +81,7 @@ fn settings_of(log: &[u8]) -> Settings
     }
 }
 
-fn read_at(log: &[u8], at: usize) -> Record
+fn read_at(log: &[u8], at: usize) -> Result<Entry, Refusal>
     requires { at + 96 ≤ length log.now }
     ensures { result ≡ read_of (take 96 (drop at log.now)) }
 {
@@ -87,67 +93,59 @@ fn good_at(log: &[u8], at: usize) -> bool
     requires { at + 96 ≤ length log.now }
     ensures { result ≡ good (take 96 (drop at log.now)) }
 {
-    match read_at(log, at) {
-        Record::Good(_) => true,
-        Record::Refused(_) => false,
-    }
+    read_at(log, at).is_ok()
 }
 
-fn first_bad(log: &[u8], start: usize, count: u32) -> u32
+// How many of the `count` records from byte `start` on stand before the first bad one: all, where none is bad.
+pub fn first_bad(log: &[u8], start: usize, count: u32) -> u32
     requires { start + 96 * count ≤ length log.now }
     ensures { result ≡ first_bad log.now start 0 count }
 {
-    let mut i: u32 = 0;
-    let mut at = start;
-    while i < count {
+    for i in 0..count {
+        let at = start + 96 * (i as usize);
         if !good_at(log, at) {
             return i;
         }
-        at += 96;
-        i += 1;
     }
     count
 }
 
-fn by_records(first: u32, settings: Settings) -> Log
+fn by_records(first: u32, settings: Settings) -> Result<Settings, Fault>
     ensures { result ≡ by_records first settings }
 {
     if first == settings.count {
-        return Log::Good(settings);
+        return Ok(settings);
     }
-    Log::BadRecord(first)
+    Err(Fault::BadRecord(first))
 }
 
 // Whether the bytes are a log, tested in document 01's order before any record is played.
-pub fn check(log: &[u8]) -> Log
+pub fn check(log: &[u8]) -> Result<Settings, Fault>
     ensures { result ≡ log_of log.now }
 {
     if MOST_BYTES < log.len() {
-        return Log::TooLong;
+        return Err(Fault::TooLong);
     }
     if trailer_good(log) {
         let s = settings_of(log);
         let first = first_bad(log, s.start, s.count);
         return by_records(first, s);
     }
-    Log::BadTrailer
+    Err(Fault::BadTrailer)
 }
 
-fn play(answer: Record) -> PlayedCall
+fn play(answer: Result<Entry, Refusal>) -> Option<Call>
     ensures { result ≡ played_by answer }
 {
-    match answer {
-        Record::Good(said) => PlayedCall::Call(record_parts::call_of(said)),
-        Record::Refused(_) => PlayedCall::Nothing,
-    }
+    answer.ok().map(|said| record_parts::call_of(said))
 }
 
 // The call of record i of a log; nothing where there is none to play.
-pub fn call_at(log: &[u8], i: u32) -> PlayedCall
+pub fn call_at(log: &[u8], i: u32) -> Option<Call>
     ensures { result ≡ call_at log.now i }
 {
     if MOST_BYTES < log.len() {
-        return PlayedCall::Nothing;
+        return None;
     }
     if trailer_good(log) {
         let s = settings_of(log);
@@ -156,5 +154,5 @@ pub fn call_at(log: &[u8], i: u32) -> PlayedCall
             return play(read_at(log, at));
         }
     }
-    PlayedCall::Nothing
+    None
 }

@@ -1,12 +1,11 @@
 // The trailer of a log, written over 24 lent bytes.
 ghost use Rattle.std.specs.Prelude.{◌≡◌, ◌≤◌, length};
 ghost use Rattle.big_endian.specs.Fields.{written};
-ghost use Rattle.log_whole.specs.Logs.{trailer_table, wrote, trailer_to};
+ghost use Rattle.log_record.specs.Records.{wrote};
+ghost use Rattle.log_whole.specs.Logs.{trailer_table, trailer_to};
 
 use big_endian::{put_u16, put_u32, put_u64};
-
-// Document 01's answer for a log above 65,536 bytes.
-pub const TOO_LONG: u8 = 9;
+use limits::Refusal;
 
 fn put_trailer(bytes: &mut [u8], count: u32, copies: u16, threshold: u16, timeout: u64)
     requires { (length bytes.old ≡ 24) × (count ≤ 682) }
@@ -20,16 +19,23 @@ fn put_trailer(bytes: &mut [u8], count: u32, copies: u16, threshold: u16, timeou
     put_u32(bytes, 20, 0x53544c47);
 }
 
-// Writes the trailer of a log of `count` records and answers 0; 5 where not 24 bytes are lent, and 9 where so many records pass 65,536 bytes.
-pub fn write(bytes: &mut [u8], count: u32, copies: u16, threshold: u16, timeout: u64) -> u8
+// Writes the trailer of a log of `count` records. Refused: another number of bytes than 24, as a room of the wrong size, and more records than 65,536 bytes
+// hold, as too long.
+pub fn write(
+    bytes: &mut [u8],
+    count: u32,
+    copies: u16,
+    threshold: u16,
+    timeout: u64,
+) -> Result<(), Refusal>
     ensures { wrote result bytes.new ≡ trailer_to bytes.old count copies threshold timeout }
 {
     if bytes.len() != 24 {
-        return limits::WRONG_ROOM;
+        return Err(Refusal::WrongRoom);
     }
     if 682 < count {
-        return TOO_LONG;
+        return Err(Refusal::TooLong);
     }
     put_trailer(bytes, count, copies, threshold, timeout);
-    0
+    Ok(())
 }

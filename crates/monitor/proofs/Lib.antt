@@ -3,4 +3,3 @@ pub mod Served
 pub mod Storing
 pub mod Popping
 pub mod Replying
-pub mod Answering

@@ -1,14 +1,12 @@
 -- What the steps between two uses of the queue hand on: each is one part of an operation of Operations.antt.
 -- Where a call is not served, the ring that is looked at is empty, so that nothing is popped, and the place of a new probe is past the end of the room, so that nothing is stored.
-use Rattle.std.specs.Prelude.{Bool, true, ◌&&◌, ℕ, ◌+◌, ltb, eqb}
+use Rattle.std.specs.Prelude.{Bool, true, ◌&&◌, ℕ, ◌+◌, ltb, eqb, Result, Ok, Err, Option, Some, None}
 use Rattle.probe_queue.specs.declared.QueuedProbe.{QueuedProbe}
 use Rattle.probe_queue.specs.declared.QueueRing.{QueueRing}
 use Rattle.probe_queue.specs.Queue.{choose, place}
 use Rattle.limits.specs.Refusals.{wrong_room}
 use Rattle.monitor.specs.declared.Monitor.{Monitor}
 use Rattle.monitor.specs.declared.Summary.{Summary}
-use Rattle.monitor.specs.declared.Deadline.{Deadline}
-use Rattle.monitor.specs.declared.Deadline.TheVariants.{Absent, At, Refused}
 use Rattle.monitor.specs.Refusals.{refusal_of, refusal_of_sent, served, misplaced, passing}
 use Rattle.monitor.specs.Operations.{ascending, least, runs, standing, starts}
 
@@ -58,5 +56,5 @@ abbrev pub settled : Bool → Monitor → Summary → QueueRing → Monitor
 settled serves m s rest = choose serves (standing m s rest) m
 
 -- the deadline, from the front record
-unfoldable pub deadline_at : Monitor → ℕ → QueuedProbe → Deadline
-deadline_at m room probe = choose (misplaced m room) (Refused wrong_room) (choose (eqb m.ring.len 0) Absent (At probe.deadline))
+unfoldable pub deadline_at : Monitor → ℕ → QueuedProbe → Result (Option ℕ) ℕ
+deadline_at m room probe = choose (misplaced m room) (Err wrong_room) (choose (eqb m.ring.len 0) (Ok None) (Ok (Some probe.deadline)))

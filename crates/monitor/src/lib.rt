@@ -1,9 +1,10 @@
 // Sender session state: src/sender/session_state.rs, over a lent queue of probe records (document 01, "Monitor").
 // An operation takes the monitor by value and hands back the next one, with its notification counts, or a refusal's number alone.
 // Each operation that is lent the queue is a straight line of calls; what depends on a test is in the steps below them.
-#![tactic(auto)]
+#![tactic(auto, unfolding(crate::specs::Refusals::refusal_of, crate::specs::Refusals::refusal_of_sent, crate::specs::Answers::answered, crate::specs::Answers::idle_to, crate::specs::Answers::deadline_of, crate::specs::Operations::idle_on, crate::specs::Parts::near_if, crate::specs::Parts::search_in, crate::specs::Parts::hearing, crate::specs::Parts::back_of, crate::specs::Parts::queued_probe_of, crate::specs::Parts::deadline_at, crate::specs::States::same, crate::specs::States::enters, crate::specs::States::loses, crate::specs::Parts::ring_if, crate::specs::Parts::taken_of, crate::specs::Parts::queued_by, crate::specs::Answers::sent_to, crate::specs::Answers::reply_to, crate::specs::Answers::advance_to, crate::specs::Operations::sent_if, crate::specs::Operations::reply_if, crate::specs::Operations::advance_if))]
 
 ghost use Rattle.std.specs.Prelude.{◌≡◌};
+ghost use Rattle.limits.specs.Numbers.{number, numbered};
 ghost use Rattle.monitor.specs.Refusals.{refusal_of, refusal_of_sent};
 ghost use Rattle.monitor.specs.Operations.{Leaves, fresh, sent_if, reply_if, advance_if};
 ghost use Rattle.monitor.specs.Answers.{Ends, sent_to, reply_to, advance_to, idle_to, deadline_of};
@@ -11,9 +12,10 @@ ghost use Rattle.monitor.specs.Answers.{Ends, sent_to, reply_to, advance_to, idl
 mod notifying;
 mod steps;
 
+use limits::Refusal;
 use probe_queue::{QueueRing, QueuedProbe, Rule};
 
-#[derive(Clone, Copy)]
+#[derive(Clone, Copy, Debug, Drop, PartialEq, Eq)]
 pub enum State {
     Idle,
     Active,
@@ -42,21 +44,6 @@ pub struct Monitor {
     pub latest: u32,
 }
 
-// The next monitor, or document 01's number of the refusal.
-#[derive(Clone, Copy)]
-pub enum MonitorAnswer {
-    Served(Monitor),
-    Refused(u8),
-}
-
-// `Option<Instant>`, or a refusal's number.
-#[derive(Clone, Copy)]
-pub enum Deadline {
-    Absent,
-    At(u64),
-    Refused(u8),
-}
-
 // `new`: threshold 0 counts as 1.
 impl Monitor {
     pub fn new(threshold: u16, timeout: u64) -> Self
@@ -66,13 +53,13 @@ impl Monitor {
         Monitor {
             summary: Summary {
                 state: State::Idle,
-                loss_threshold: loss_threshold,
+                loss_threshold,
                 consecutive_losses: 0,
                 active_notifications: 0,
                 failed_notifications: 0,
                 idle_notifications: 0,
             },
-            timeout: timeout,
+            timeout,
             transmitting: false,
             ring: QueueRing { head: 0, len: 0 },
             run: 0,
@@ -87,104 +74,95 @@ impl Monitor {
         self.summary
     }
 
-    // Why `reply`, `advance` and `idle` are refused with a room of this size, or 0.
-    pub fn refusal(self, room: usize) -> u8
-        ensures { result ≡ refusal_of self room }
+    // Why `reply`, `advance` and `idle` are refused with a room of this size.
+    pub fn refusal(self, room: usize) -> Option<Refusal>
+        ensures { number result ≡ refusal_of self room }
     {
-        let summary = self.summary;
         if self.out_of_place(room) {
-            return limits::WRONG_ROOM;
+            Some(Refusal::WrongRoom)
+        } else if self.summary.full() {
+            Some(Refusal::CountsFull)
+        } else {
+            None
         }
-        if summary.full() {
-            return limits::COUNTS_FULL;
-        }
-        0
     }
 
-    // Why `sent` is refused with a room of this size at this send time, or 0.
-    pub fn refusal_of_sent(self, room: usize, time: u64) -> u8
-        ensures { result ≡ refusal_of_sent self room time }
+    // Why `sent` is refused with a room of this size at this send time.
+    pub fn refusal_of_sent(self, room: usize, time: u64) -> Option<Refusal>
+        ensures { number result ≡ refusal_of_sent self room time }
     {
-        let summary = self.summary;
-        let ring = self.ring;
         if self.out_of_place(room) {
-            return limits::WRONG_ROOM;
+            Some(Refusal::WrongRoom)
+        } else if time > u64::MAX - self.timeout {
+            Some(Refusal::DeadlinePasses)
+        } else if self.summary.full() {
+            Some(Refusal::CountsFull)
+        } else if self.timeout > 0 && self.ring.len >= limits::CAPACITY {
+            Some(Refusal::QueueFull)
+        } else {
+            None
         }
-        if time > 18446744073709551615 - self.timeout {
-            return limits::DEADLINE_PASSES;
-        }
-        if summary.full() {
-            return limits::COUNTS_FULL;
-        }
-        if self.timeout > 0 {
-            if ring.len >= limits::CAPACITY {
-                return limits::QUEUE_FULL;
-            }
-        }
-        0
     }
 }
 
 // The public operations.
 impl Monitor {
-    pub fn sent(self, queue: &mut [QueuedProbe], sequence: u32, time: u64) -> MonitorAnswer
-        ensures { Ends (sent_to self queue.old sequence time) result queue.new }
+    pub fn sent(
+        self,
+        queue: &mut [QueuedProbe],
+        sequence: u32,
+        time: u64,
+    ) -> Result<Monitor, Refusal>
+        ensures { Ends (sent_to self queue.old sequence time) (numbered result) queue.new }
     {
-        let room = queue.len();
-        let refused = self.refusal_of_sent(room, time);
-        let next = self.sent_if(true, queue, sequence, time);
-        steps::answer(refused, next)
+        if let Some(refusal) = self.refusal_of_sent(queue.len(), time) {
+            return Err(refusal);
+        }
+        Ok(self.sent_if(true, queue, sequence, time))
     }
 
-    pub fn reply(self, queue: &mut [QueuedProbe], sequence: u32) -> MonitorAnswer
-        ensures { Ends (reply_to self queue.old sequence) result queue.new }
+    pub fn reply(self, queue: &mut [QueuedProbe], sequence: u32) -> Result<Monitor, Refusal>
+        ensures { Ends (reply_to self queue.old sequence) (numbered result) queue.new }
     {
-        let room = queue.len();
-        let refused = self.refusal(room);
-        let next = self.reply_if(true, queue, sequence);
-        steps::answer(refused, next)
+        if let Some(refusal) = self.refusal(queue.len()) {
+            return Err(refusal);
+        }
+        Ok(self.reply_if(true, queue, sequence))
     }
 
-    pub fn advance(self, queue: &mut [QueuedProbe], time: u64) -> MonitorAnswer
-        ensures { Ends (advance_to self queue.old time) result queue.new }
+    pub fn advance(self, queue: &mut [QueuedProbe], time: u64) -> Result<Monitor, Refusal>
+        ensures { Ends (advance_to self queue.old time) (numbered result) queue.new }
     {
-        let room = queue.len();
-        let refused = self.refusal(room);
-        let next = self.advance_if(true, queue, time);
-        steps::answer(refused, next)
+        if let Some(refusal) = self.refusal(queue.len()) {
+            return Err(refusal);
+        }
+        Ok(self.advance_if(true, queue, time))
     }
 
     // Nothing of the room changes: none of its records is queued any more.
-    pub fn idle(self) -> MonitorAnswer
-        ensures { result ≡ idle_to self }
+    pub fn idle(self) -> Result<Monitor, Refusal>
+        ensures { numbered result ≡ idle_to self }
     {
-        let refused = self.refusal(limits::CAPACITY);
-        if refused != 0 {
-            return MonitorAnswer::Refused(refused);
+        if let Some(refusal) = self.refusal(limits::CAPACITY) {
+            return Err(refusal);
         }
-        let ring = self.ring;
-        let before = self.summary;
-        let summary = before.stopped(self.transmitting);
-        MonitorAnswer::Served(Monitor {
-            summary: summary,
-            timeout: self.timeout,
+        Ok(Monitor {
+            summary: self.summary.stopped(self.transmitting),
             transmitting: false,
             ring: QueueRing {
-                head: ring.head,
                 len: 0,
+                ..self.ring
             },
-            run: self.run,
-            latest: self.latest,
+            ..self
         })
     }
 
     // The front probe's deadline.
-    pub fn deadline(self, queue: &[QueuedProbe]) -> Deadline
-        ensures { result ≡ deadline_of self queue.now }
+    pub fn deadline(self, queue: &[QueuedProbe]) -> Result<Option<u64>, Refusal>
+        ensures { numbered result ≡ deadline_of self queue.now }
     {
         let room = queue.len();
-        let at = self.head();
-        let probe = probe_queue::front(queue, at);
+        let probe = probe_queue::front(queue, self.ring.head);
         self.deadline_of(room, probe)
     }
 }

@@ -6,38 +6,15 @@ ghost use Rattle.monitor.specs.States.{same, losing, enters, transition, saturat
 
 use crate::{State, Summary};
 
-// `==` of two states.
-fn same_state(a: State, b: State) -> bool
-    ensures { result ≡ same a b }
-{
-    match a {
-        State::Idle => match b {
-            State::Idle => true,
-            State::Active => false,
-            State::Failed => false,
-        },
-        State::Active => match b {
-            State::Idle => false,
-            State::Active => true,
-            State::Failed => false,
-        },
-        State::Failed => match b {
-            State::Idle => false,
-            State::Active => false,
-            State::Failed => true,
-        },
-    }
-}
-
 // `saturating_add`, for many at once.
 fn saturating(losses: u32, count: usize) -> u32
     ensures { result ≡ saturated losses count }
 {
-    let left = (4294967295 - losses) as usize;
+    let left = (u32::MAX - losses) as usize;
     if count <= left {
         losses + count as u32
     } else {
-        4294967295
+        u32::MAX
     }
 }
 
@@ -46,13 +23,9 @@ impl Summary {
     pub fn full(self) -> bool
         ensures { result ≡ counted self }
     {
-        if self.active_notifications >= limits::COUNT_BOUND {
-            return true;
-        }
-        if self.failed_notifications >= limits::COUNT_BOUND {
-            return true;
-        }
-        self.idle_notifications >= limits::COUNT_BOUND
+        self.active_notifications >= limits::COUNT_BOUND
+            || self.failed_notifications >= limits::COUNT_BOUND
+            || self.idle_notifications >= limits::COUNT_BOUND
     }
 
     // A state is entered, which notifies.
@@ -63,27 +36,20 @@ impl Summary {
         match to {
             State::Idle => Summary {
                 state: State::Idle,
-                loss_threshold: self.loss_threshold,
                 consecutive_losses: 0,
-                active_notifications: self.active_notifications,
-                failed_notifications: self.failed_notifications,
                 idle_notifications: self.idle_notifications + 1,
+                ..self
             },
             State::Active => Summary {
                 state: State::Active,
-                loss_threshold: self.loss_threshold,
                 consecutive_losses: 0,
                 active_notifications: self.active_notifications + 1,
-                failed_notifications: self.failed_notifications,
-                idle_notifications: self.idle_notifications,
+                ..self
             },
             State::Failed => Summary {
                 state: State::Failed,
-                loss_threshold: self.loss_threshold,
-                consecutive_losses: self.consecutive_losses,
-                active_notifications: self.active_notifications,
                 failed_notifications: self.failed_notifications + 1,
-                idle_notifications: self.idle_notifications,
+                ..self
             },
         }
     }
@@ -93,8 +59,7 @@ impl Summary {
         requires { counted self ≡ false }
         ensures { result ≡ transition to self }
     {
-        let state = self.state;
-        if same_state(to, state) {
+        if to == self.state {
             return self;
         }
         self.entered(to)
@@ -104,14 +69,9 @@ impl Summary {
     pub fn losing(self, losses: u32) -> Summary
         ensures { result ≡ losing losses self }
     {
-        let state = self.state;
         Summary {
-            state: state,
-            loss_threshold: self.loss_threshold,
             consecutive_losses: losses,
-            active_notifications: self.active_notifications,
-            failed_notifications: self.failed_notifications,
-            idle_notifications: self.idle_notifications,
+            ..self
         }
     }
 
@@ -144,20 +104,15 @@ impl Summary {
         requires { counted self ≡ false }
         ensures { result ≡ stops transmitting self }
     {
-        let state = self.state;
-        if !same_state(State::Idle, state) {
+        if self.state != State::Idle {
             return self.entered(State::Idle);
         }
         if !transmitting {
             return self;
         }
         Summary {
-            state: state,
-            loss_threshold: self.loss_threshold,
-            consecutive_losses: self.consecutive_losses,
-            active_notifications: self.active_notifications,
-            failed_notifications: self.failed_notifications,
             idle_notifications: self.idle_notifications + 1,
+            ..self
         }
     }
 }

@@ -4,24 +4,14 @@ ghost use Rattle.std.specs.Prelude.{◌≡◌, ◌<◌, ◌≤◌};
 ghost use Rattle.monitor.specs.Refusals.{misplaced, refusal_of, refusal_of_sent, served};
 ghost use Rattle.monitor.specs.States.{loses, hears};
 ghost use Rattle.monitor.specs.Operations.{ascending, repeated, runs, standing};
-ghost use Rattle.monitor.specs.Answers.{answered};
 ghost use Rattle.monitor.specs.Parts.{ring_if, near_if, search_in, taken_of, hearing, back_of, queued_probe_of, queued_by, settled, deadline_at};
 ghost use Rattle.probe_queue.specs.Queue.{choose};
 ghost use Rattle.limits.specs.Limits.{capacity};
+ghost use Rattle.limits.specs.Numbers.{numbered};
 
-use crate::{Deadline, Monitor, MonitorAnswer, Summary};
+use crate::{Monitor, Summary};
+use limits::Refusal;
 use probe_queue::{QueueRing, QueuedProbe};
-
-// The answer to the host.
-pub fn answer(refused: u8, next: Monitor) -> MonitorAnswer
-    ensures { result ≡ answered refused next }
-{
-    if refused == 0 {
-        MonitorAnswer::Served(next)
-    } else {
-        MonitorAnswer::Refused(refused)
-    }
-}
 
 // How many probes a search pops, from where the first of the sequence and a marked one were found.
 pub fn taken(search: QueueRing, first: usize, marked: usize) -> usize
@@ -36,40 +26,27 @@ impl Monitor {
     pub fn out_of_place(self, room: usize) -> bool
         ensures { result ≡ misplaced self room }
     {
-        let ring = self.ring;
-        if room != limits::CAPACITY {
-            return true;
-        }
-        if ring.head >= limits::CAPACITY {
-            return true;
-        }
-        ring.len > limits::CAPACITY
+        room != limits::CAPACITY
+            || self.ring.head >= limits::CAPACITY
+            || self.ring.len > limits::CAPACITY
     }
 
     pub fn serves(self, go: bool, room: usize) -> bool
         ensures { result ≡ served go (refusal_of self room) }
     {
-        if go { self.refusal(room) == 0 } else { false }
+        go && self.refusal(room).is_none()
     }
 
     pub fn serves_sent(self, go: bool, room: usize, time: u64) -> bool
         ensures { result ≡ served go (refusal_of_sent self room time) }
     {
-        if go {
-            self.refusal_of_sent(room, time) == 0
-        } else {
-            false
-        }
+        go && self.refusal_of_sent(room, time).is_none()
     }
 
     pub fn hears(self, go: bool, room: usize) -> bool
         ensures { result ≡ hearing go self room }
     {
-        if self.serves(go, room) {
-            self.transmitting
-        } else {
-            false
-        }
+        self.serves(go, room) && self.transmitting
     }
 
     pub fn ring_if(self, serves: bool) -> QueueRing
@@ -85,16 +62,14 @@ impl Monitor {
     pub fn ascends(self) -> bool
         ensures { result ≡ ascending self }
     {
-        let ring = self.ring;
-        sequence_run::covers(ring.len, self.run)
+        sequence_run::covers(self.ring.len, self.run)
     }
 
     // Of so many pops, how many unmark what stays queued.
     pub fn repeats(self, count: usize) -> usize
         ensures { result ≡ repeated self count }
     {
-        let ring = self.ring;
-        sequence_run::repeats(ring.len, self.run, count)
+        sequence_run::repeats(self.ring.len, self.run, count)
     }
 
     pub fn near(self, ring: QueueRing) -> QueueRing
@@ -103,10 +78,7 @@ impl Monitor {
         if self.ascends() {
             ring
         } else {
-            QueueRing {
-                head: ring.head,
-                len: 0,
-            }
+            QueueRing { len: 0, ..ring }
         }
     }
 
@@ -114,43 +86,33 @@ impl Monitor {
         requires { below ≤ capacity }
         ensures { result ≡ search_in self ring below }
     {
-        if self.ascends() {
-            if below < ring.len {
-                return QueueRing {
-                    head: ring.head,
-                    len: below + 1,
-                };
+        if self.ascends() && below < ring.len {
+            QueueRing {
+                len: below + 1,
+                ..ring
             }
+        } else {
+            ring
         }
-        ring
     }
 
     // Where `sent` stores its probe: past the end of the room where it stores none.
     pub fn back(self, go: bool, room: usize, time: u64) -> usize
         ensures { result ≡ back_of go self room time }
     {
-        let ring = self.ring;
-        if self.serves_sent(go, room, time) {
-            if self.timeout > 0 {
-                return probe_queue::place_of(ring, ring.len);
-            }
+        if self.serves_sent(go, room, time) && self.timeout > 0 {
+            probe_queue::place_of(self.ring, self.ring.len)
+        } else {
+            room
         }
-        room
     }
 
     pub fn probe(self, sequence: u32, time: u64) -> QueuedProbe
         ensures { result ≡ queued_probe_of self sequence time }
     {
-        if time > 18446744073709551615 - self.timeout {
-            return QueuedProbe {
-                sequence: sequence,
-                deadline: 0,
-                mark: 1,
-            };
-        }
         QueuedProbe {
-            sequence: sequence,
-            deadline: time + self.timeout,
+            sequence,
+            deadline: time.checked_add(self.timeout).unwrap_or(0),
             mark: 1,
         }
     }
@@ -160,8 +122,7 @@ impl Monitor {
         requires { self.ring.len < capacity }
         ensures { result ≡ runs self sequence }
     {
-        let ring = self.ring;
-        sequence_run::longer(ring.len, self.run, self.latest, sequence)
+        sequence_run::longer(self.ring.len, self.run, self.latest, sequence)
     }
 
     // The monitor after `sent`.
@@ -171,29 +132,21 @@ impl Monitor {
         if !self.serves_sent(go, room, time) {
             return self;
         }
-        let summary = self.summary;
-        let ring = self.ring;
         if self.timeout == 0 {
             return Monitor {
-                summary: summary,
-                timeout: self.timeout,
                 transmitting: true,
-                ring: ring,
-                run: self.run,
-                latest: self.latest,
+                ..self
             };
         }
-        let run = self.run_with(sequence);
         Monitor {
-            summary: summary,
-            timeout: self.timeout,
             transmitting: true,
             ring: QueueRing {
-                head: ring.head,
-                len: ring.len + 1,
+                len: self.ring.len + 1,
+                ..self.ring
             },
-            run: run,
+            run: self.run_with(sequence),
             latest: sequence,
+            ..self
         }
     }
 
@@ -202,12 +155,9 @@ impl Monitor {
         ensures { result ≡ standing self summary ring }
     {
         Monitor {
-            summary: summary,
-            timeout: self.timeout,
-            transmitting: self.transmitting,
-            ring: ring,
-            run: self.run,
-            latest: self.latest,
+            summary,
+            ring,
+            ..self
         }
     }
 
@@ -218,8 +168,7 @@ impl Monitor {
         if !self.hears(go, room) {
             return self;
         }
-        let summary = self.summary;
-        self.stand(summary.heard(), rest)
+        self.stand(self.summary.heard(), rest)
     }
 
     // The monitor after `advance`. Without transmitting, what is due is popped and not counted.
@@ -229,30 +178,22 @@ impl Monitor {
         if !self.serves(go, room) {
             return self;
         }
-        let summary = self.summary;
-        if !self.transmitting {
-            return self.stand(summary, rest);
+        if self.transmitting {
+            self.stand(self.summary.lost(count), rest)
+        } else {
+            self.stand(self.summary, rest)
         }
-        self.stand(summary.lost(count), rest)
     }
 
-    pub fn head(self) -> usize
-        ensures { result ≡ self.ring.head }
+    pub fn deadline_of(self, room: usize, probe: QueuedProbe) -> Result<Option<u64>, Refusal>
+        ensures { numbered result ≡ deadline_at self room probe }
     {
-        let ring = self.ring;
-        ring.head
-    }
-
-    pub fn deadline_of(self, room: usize, probe: QueuedProbe) -> Deadline
-        ensures { result ≡ deadline_at self room probe }
-    {
-        let ring = self.ring;
         if self.out_of_place(room) {
-            return Deadline::Refused(limits::WRONG_ROOM);
+            Err(Refusal::WrongRoom)
+        } else if self.ring.len == 0 {
+            Ok(None)
+        } else {
+            Ok(Some(probe.deadline))
         }
-        if ring.len == 0 {
-            return Deadline::Absent;
-        }
-        Deadline::At(probe.deadline)
     }
 }

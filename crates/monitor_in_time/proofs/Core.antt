@@ -1,9 +1,9 @@
 -- Q-10 of the core's calls: from a fresh monitor with any room of the right size, whatever it holds, by any calls, refused ones included.
 -- Assumes nothing.
+use Rattle.std.specs.Prelude.{Some}
 use mathlib.Core.Path.{◌≡◌, refl, sym, ap, subst}
 use mathlib.Core.Bool.{Bool, true, false}
 use mathlib.Core.List.{List, [], ◌∷◌}
-use mathlib.Core.Option.{some}
 use Prim.Native.Nat.{ℕ, zero, suc, ◌≤◌, ◌<◌, ◌^◌}
 use native.Mathlib.Omega.{arith}
 use lib.Dec.{eqb}
@@ -36,11 +36,11 @@ counting_few threshold h = go (eqb threshold 0)
 
 -- ---- the plain model
 
-served-by : (n : ℕ) (p next : Plain) (c : Call) → next ≡ does c p → Steps (some c) n p (serve n p next).plain
+served-by : (n : ℕ) (p next : Plain) (c : Call) → next ≡ does c p → Steps (Some c) n p (serve n p next).plain
 served-by zero p next c e = e
 served-by (suc n) p next c e = ap (λ (b : Bool). choose b next p) (ne_eqb (suc n) 0 (λ h. omega (arith, h)))
 
-pub plain-steps : (c : Call) (p : Plain) → Steps (some c) (play_plain c p).number p (play_plain c p).plain
+pub plain-steps : (c : Call) (p : Plain) → Steps (Some c) (play_plain c p).number p (play_plain c p).plain
 unfolding play_plain does
 plain-steps (sending s t) p = served-by (sent_refusal p t) p (sent p s t) (sending s t) refl
 plain-steps (replying s) p = served-by (refusal p) p (reply p s) (replying s) refl
@@ -50,7 +50,7 @@ plain-steps idling p = served-by (refusal p) p (idle p) idling refl
 plain_models : Models plain AnyCall (λ (x p : Plain). x ≡ p)
 plain_models = record {
   shows = λ x p e. ap seen_plain e;
-  steps = λ x p e c w. ((play_plain c p).plain, ap (λ (r : Plain). (play_plain c r).plain) e, subst (λ (r : Plain). Steps (some c) (play_plain c r).number p (play_plain c p).plain) (sym e) (plain-steps c p));
+  steps = λ x p e c w. ((play_plain c p).plain, ap (λ (r : Plain). (play_plain c r).plain) e, subst (λ (r : Plain). Steps (Some c) (play_plain c r).number p (play_plain c p).plain) (sym e) (plain-steps c p));
 }
 
 pub plain_in-time : (threshold timeout : ℕ) → threshold < 2 ^ 16 → InTime plain AnyCall (counting threshold) (new threshold timeout)
@@ -70,7 +70,7 @@ core_models = record {
       let q = (play_plain c p).plain in
       let a : ((play_ring c x).number ≡ (play_plain c p).number) × Next (play_ring c x).stand q =
       subst (λ (r : Plain). ((play_ring c x).number ≡ (play_plain c r).number) × Next (play_ring c x).stand (play_plain c r).plain) (sym n.1.0) (agrees x n.0 n.1.1 c) in
-      (q, a.1, subst (λ (k : ℕ). Steps (some c) k p q) (sym a.0) (plain-steps c p));
+      (q, a.1, subst (λ (k : ℕ). Steps (Some c) k p q) (sym a.0) (plain-steps c p));
 }
 
 -- THE THEOREM

@@ -1,10 +1,10 @@
 -- What the statement says of one call: Failed comes with a call exactly if it is the advance that pops the threshold-th probe.
 -- Assumes nothing.
+use Rattle.std.specs.Prelude.{Option, None, Some}
 use mathlib.Core.Path.{◌≡◌, refl}
 use mathlib.Core.Bool.{Bool, true, false}
 use mathlib.Core.List.{List, ◌∷◌}
 use mathlib.Core.Logic.{◌↔◌}
-use mathlib.Core.Option.{Option, none, some}
 use Prim.Native.Nat.{ℕ, ◌+◌, ◌≤◌, ◌<◌}
 use native.Mathlib.Omega.{arith}
 use lib.Dec.{leb}
@@ -14,12 +14,12 @@ use Rattle.monitor_in_time.specs.Calls.{Seen, Monitored, played, All}
 use Rattle.monitor_in_time.specs.InTime.{Fails, pops, popped, AllQuiet, PopsTheThreshold, ComesWith, InTime}
 
 -- only an advance pops
-advance-pops : (d : Option Call) (before after : Seen) → 0 < pops d before after → (now : ℕ) × (d ≡ some (advancing now))
-advance-pops none before after h = absurd (omega (arith, h))
-advance-pops (some (sending s t)) before after h = absurd (omega (arith, h))
-advance-pops (some (replying s)) before after h = absurd (omega (arith, h))
-advance-pops (some (advancing now)) before after h = (now, refl)
-advance-pops (some idling) before after h = absurd (omega (arith, h))
+advance-pops : (d : Option Call) (before after : Seen) → 0 < pops d before after → (now : ℕ) × (d ≡ Some (advancing now))
+advance-pops None before after h = absurd (omega (arith, h))
+advance-pops (Some (sending s t)) before after h = absurd (omega (arith, h))
+advance-pops (Some (replying s)) before after h = absurd (omega (arith, h))
+advance-pops (Some (advancing now)) before after h = (now, refl)
+advance-pops (Some idling) before after h = absurd (omega (arith, h))
 
 module _ {C X : Type 0} (on : Monitored C X) (Fits : C → Type 0) (threshold : ℕ) (fresh : X) (t : InTime on Fits threshold fresh) where
   module _ (past : List C) (w : All Fits past) where

@@ -1,9 +1,9 @@
 -- The statement of Q-10, of any calls whose monitor is the plain model's: once for the core's calls, a host's words and links.
 -- Assumes nothing.
+use Rattle.std.specs.Prelude.{Option, None, Some}
 use mathlib.Core.Path.{◌≡◌, refl, sym, ap, subst, ◌∙◌}
 use mathlib.Core.Bool.{Bool, true, false, true≢false}
 use mathlib.Core.List.{List, [], ◌∷◌}
-use mathlib.Core.Option.{Option, none, some}
 use Prim.Native.Nat.{ℕ, zero, suc, ◌+◌, ◌-◌, ◌≤◌, ◌<◌}
 use native.Mathlib.Omega.{arith}
 use lib.Dec.{leb, ltb}
@@ -23,9 +23,9 @@ use Rattle.monitor_in_time.proofs.Sound.{Keeps, does, advances, does_keeps}
 
 -- what a call with this number makes of the plain monitor, by the call of the monitor that it makes
 abbrev pub Steps : Option Call → ℕ → Plain → Plain → Type 0
-Steps none n p q = q ≡ p
-Steps (some c) zero p q = q ≡ does c p
-Steps (some c) (suc n) p q = q ≡ p
+Steps None n p q = q ≡ p
+Steps (Some c) zero p q = q ≡ does c p
+Steps (Some c) (suc n) p q = q ≡ p
 
 -- Stands x p: x shows the plain monitor p. It does after each call too.
 pub record Models {C X : Type 0} (on : Monitored C X) (Fits : C → Type 0) (Stands : X → Plain → Type 0) : Type 0 where
@@ -75,9 +75,9 @@ module _ (threshold : ℕ) (p : Plain) (k : Keeps threshold p) where
 
 module _ (threshold : ℕ) (positive : 0 < threshold) (p : Plain) (k : Keeps threshold p) (q : Plain) where
   step_keeps : (d : Option Call) (n : ℕ) → Steps d n p q → Keeps threshold q
-  step_keeps none n e = subst (λ (r : Plain). Keeps threshold r) (sym e) k
-  step_keeps (some c) zero e = subst (λ (r : Plain). Keeps threshold r) (sym e) (does_keeps threshold positive p k c)
-  step_keeps (some c) (suc n) e = subst (λ (r : Plain). Keeps threshold r) (sym e) k
+  step_keeps None n e = subst (λ (r : Plain). Keeps threshold r) (sym e) k
+  step_keeps (Some c) zero e = subst (λ (r : Plain). Keeps threshold r) (sym e) (does_keeps threshold positive p k c)
+  step_keeps (Some c) (suc n) e = subst (λ (r : Plain). Keeps threshold r) (sym e) k
 
   abbrev Lost : ℕ → Type 0
   Lost n = q.summary.consecutive_losses ≡ saturated p.summary.consecutive_losses n
@@ -98,21 +98,21 @@ module _ (threshold : ℕ) (positive : 0 < threshold) (p : Plain) (k : Keeps thr
   -- LOSSES ARE POPS, where no reply and no idle is served
   step_losses : (d : Option Call) (n : ℕ) → Quiet d n → Steps d n p q → Lost (pops d (seen_plain p) (seen_plain q))
   unfolding does
-  step_losses none n h e = none-lost (same_losses e)
-  step_losses (some (sending s t)) zero h e = none-lost (ap (λ (r : Plain). r.summary.consecutive_losses) e ∙ sent_losses s t (ltb 0 p.timeout))
-  step_losses (some (sending s t)) (suc n) h e = none-lost (same_losses e)
-  step_losses (some (replying s)) zero h e = absurd (h refl)
-  step_losses (some (replying s)) (suc n) h e = none-lost (same_losses e)
-  step_losses (some (advancing now)) zero h e =
+  step_losses None n h e = none-lost (same_losses e)
+  step_losses (Some (sending s t)) zero h e = none-lost (ap (λ (r : Plain). r.summary.consecutive_losses) e ∙ sent_losses s t (ltb 0 p.timeout))
+  step_losses (Some (sending s t)) (suc n) h e = none-lost (same_losses e)
+  step_losses (Some (replying s)) zero h e = absurd (h refl)
+  step_losses (Some (replying s)) (suc n) h e = none-lost (same_losses e)
+  step_losses (Some (advancing now)) zero h e =
       ap (λ (r : Plain). r.summary.consecutive_losses) e ∙ (advances threshold positive p k now).losses
       ∙ ap (saturated p.summary.consecutive_losses) (sym (advance-pops now) ∙ ap (λ (r : Plain). length p.probes - length r.probes) (sym e))
-  step_losses (some (advancing now)) (suc n) h e =
+  step_losses (Some (advancing now)) (suc n) h e =
       none-lost (same_losses e) ∙ ap (saturated p.summary.consecutive_losses) (nothing (length p.probes) ∙ ap (λ (r : Plain). length p.probes - length r.probes) (sym e))
     where
       nothing : (l : ℕ) → 0 ≡ l - l
       nothing l = omega arith
-  step_losses (some idling) zero h e = absurd (h refl)
-  step_losses (some idling) (suc n) h e = none-lost (same_losses e)
+  step_losses (Some idling) zero h e = absurd (h refl)
+  step_losses (Some idling) (suc n) h e = none-lost (same_losses e)
 
 -- ---- all calls
 
@@ -142,11 +142,11 @@ module _ {C X : Type 0} (on : Monitored C X) (Fits : C → Type 0) (Stands : X �
         ap (λ (r : Plain). r.summary.state) e
         ∙ fails_from threshold (advance p now) a.keeps (omega (arith, a.losses, reaches p.summary.consecutive_losses (due now p.probes) threshold fits-u32 enough))
 
-    stepped : (d : Option Call) (n : ℕ) (p q : Plain) → Steps d n p q → (now : ℕ) → d ≡ some (advancing now) → n ≡ 0 → q ≡ advance p now
+    stepped : (d : Option Call) (n : ℕ) (p q : Plain) → Steps d n p q → (now : ℕ) → d ≡ Some (advancing now) → n ≡ 0 → q ≡ advance p now
     unfolding does
     stepped d n p q s now ed en = subst (λ (x : Option Call). Steps x 0 p q) ed (subst (λ (x : ℕ). Steps d x p q) en s)
 
-    fails_at-once : (x : X) → Reached x → (c : C) → Fits c → (now : ℕ) → on.drives x c ≡ some (advancing now) → on.number x c ≡ 0
+    fails_at-once : (x : X) → Reached x → (c : C) → Fits c → (now : ℕ) → on.drives x c ≡ Some (advancing now) → on.number x c ≡ 0
         → threshold ≤ length (on.seen x).queued → AllDue now (on.seen x).queued → Fails (on.seen (on.after x c))
     fails_at-once x r c w now ed en many d =
         let s = m.steps x r.0 r.1 c w in
@@ -219,7 +219,7 @@ module _ {C X : Type 0} (on : Monitored C X) (Fits : C → Type 0) (Stands : X �
     holds fresh p s k = record {
       sound = λ past w. reached_sound (played on fresh past) (reach fresh (p, s, k) past w);
       at_once = λ past w. fails_at-once (played on fresh past) (reach fresh (p, s, k) past w);
-      in_time = λ past w none. comes_with (played on fresh past) (reach fresh (p, s, k) past w) (losses_seen (played on fresh past) (reach fresh (p, s, k) past w) none);
+      in_time = λ past w None. comes_with (played on fresh past) (reach fresh (p, s, k) past w) (losses_seen (played on fresh past) (reach fresh (p, s, k) past w) None);
       stays = λ past w. stays_failed (played on fresh past) (reach fresh (p, s, k) past w);
     }
       where

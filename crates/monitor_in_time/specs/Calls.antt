@@ -1,7 +1,6 @@
 -- Calls one after another on anything that has a monitor in it: the core's monitor with its room, a host's words, a link.
 -- Assumes nothing.
-use Rattle.std.specs.Prelude.{Bool, List, [], ◌∷◌, ℕ}
-use Rattle.std.proofs.Math.Option.{Option}
+use Rattle.std.specs.Prelude.{Bool, List, [], ◌∷◌, ℕ, Option}
 use Rattle.monitor.specs.declared.Summary.{Summary}
 use Rattle.monitor_model.specs.Plain.{Sent}
 use Rattle.monitor_model.specs.Playing.{Call}

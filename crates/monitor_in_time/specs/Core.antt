@@ -1,7 +1,6 @@
 -- The calls of the core's monitor, each given the monitor and the room that the last one left; and the same of the plain model.
 -- Assumes nothing.
-use Rattle.std.specs.Prelude.{List, map, ℕ}
-use Rattle.std.proofs.Math.Option.{some}
+use Rattle.std.specs.Prelude.{List, map, ℕ, Some}
 use Rattle.probe_queue.specs.declared.QueuedProbe.{QueuedProbe}
 use Rattle.probe_queue.specs.Queue.{queued}
 use Rattle.monitor.specs.Operations.{MonitorStand, fresh}
@@ -15,7 +14,7 @@ seen_plain p = record { summary = p.summary; transmitting = p.transmitting; queu
 
 -- the plain model's calls
 abbrev pub plain : Monitored Call Plain
-plain = record { number = λ p c. (play_plain c p).number; after = λ p c. (play_plain c p).plain; drives = λ p c. some c; seen = seen_plain }
+plain = record { number = λ p c. (play_plain c p).number; after = λ p c. (play_plain c p).plain; drives = λ p c. Some c; seen = seen_plain }
 
 -- what is seen of the core's monitor with its room
 abbrev pub seen_stand : MonitorStand → Seen
@@ -23,7 +22,7 @@ seen_stand x = record { summary = x.monitor.summary; transmitting = x.monitor.tr
 
 -- the core's calls
 abbrev pub core : Monitored Call MonitorStand
-core = record { number = λ x c. (play_ring c x).number; after = λ x c. (play_ring c x).stand; drives = λ x c. some c; seen = seen_stand }
+core = record { number = λ x c. (play_ring c x).number; after = λ x c. (play_ring c x).stand; drives = λ x c. Some c; seen = seen_stand }
 
 -- a fresh monitor, with any room
 abbrev pub fresh_stand : (threshold timeout : ℕ) → List QueuedProbe → MonitorStand

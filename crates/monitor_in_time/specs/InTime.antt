@@ -1,7 +1,6 @@
 -- Document 02, Q-10, "Prove that Failed comes in time": of every monitor that is reached from fresh.
 -- Assumes nothing.
-use Rattle.std.specs.Prelude.{◌≡◌, true, List, [], ◌∷◌, ℕ, ◌+◌, ◌-◌, ◌≤◌, ◌<◌, eqb, length}
-use Rattle.std.proofs.Math.Option.{Option, none, some}
+use Rattle.std.specs.Prelude.{◌≡◌, true, List, [], ◌∷◌, ℕ, ◌+◌, ◌-◌, ◌≤◌, ◌<◌, eqb, length, Option, None, Some}
 use Rattle.probe_queue.specs.Queue.{choose}
 use Rattle.monitor.specs.declared.State.TheVariants.{Failed}
 use Rattle.monitor_model.specs.Plain.{Sent}
@@ -23,19 +22,19 @@ AllDue now (probe ∷ probes) = (probe.deadline ≤ now) × AllDue now probes
 
 -- the probes that one call pops: an `advance`, as many as are queued no more after it
 abbrev pub pops : Option Call → (before after : Seen) → ℕ
-pops none before after = 0
-pops (some (sending s t)) before after = 0
-pops (some (replying s)) before after = 0
-pops (some (advancing now)) before after = length before.queued - length after.queued
-pops (some idling) before after = 0
+pops None before after = 0
+pops (Some (sending s t)) before after = 0
+pops (Some (replying s)) before after = 0
+pops (Some (advancing now)) before after = length before.queued - length after.queued
+pops (Some idling) before after = 0
 
 -- a call with this number is no reply and no `idle`, or it is refused
 abbrev pub Quiet : Option Call → ℕ → Type 0
-Quiet none n = Unit {0}
-Quiet (some (sending s t)) n = Unit {0}
-Quiet (some (replying s)) n = n ≡ 0 → ⊥
-Quiet (some (advancing now)) n = Unit {0}
-Quiet (some idling) n = n ≡ 0 → ⊥
+Quiet None n = Unit {0}
+Quiet (Some (sending s t)) n = Unit {0}
+Quiet (Some (replying s)) n = n ≡ 0 → ⊥
+Quiet (Some (advancing now)) n = Unit {0}
+Quiet (Some idling) n = n ≡ 0 → ⊥
 
 -- what both lean on; the last two say that with loss count 0 a monitor isn't Failed
 pub record Sound (threshold : ℕ) (s : Seen) : Type 0 where
@@ -58,7 +57,7 @@ module _ {C X : Type 0} (on : Monitored C X) where
 
   -- "if at least threshold probes are queued, and every queued deadline is at or before now, one served advance ends in Failed"
   abbrev pub FailsAtOnce : (C → Type 0) → (threshold : ℕ) → X → Type 0
-  FailsAtOnce Fits threshold x = (c : C) → Fits c → (now : ℕ) → on.drives x c ≡ some (advancing now) → on.number x c ≡ 0
+  FailsAtOnce Fits threshold x = (c : C) → Fits c → (now : ℕ) → on.drives x c ≡ Some (advancing now) → on.number x c ≡ 0
       → threshold ≤ length (on.seen x).queued → AllDue now (on.seen x).queued → Fails (on.seen (on.after x c))
 
   -- "Failed comes with the advance that pops the threshold-th probe and with no earlier one": while fewer are popped it has not come, and from then on it has
@@ -68,7 +67,7 @@ module _ {C X : Type 0} (on : Monitored C X) where
 
   -- the call c, made after these, is the advance that pops the threshold-th probe
   abbrev pub PopsTheThreshold : (threshold : ℕ) → X → List C → C → Type 0
-  PopsTheThreshold threshold x since c = ((now : ℕ) × (on.drives (played on x since) c ≡ some (advancing now))) × (popped x since < threshold) × (threshold ≤ popped x (c ∷ since))
+  PopsTheThreshold threshold x since c = ((now : ℕ) × (on.drives (played on x since) c ≡ Some (advancing now))) × (popped x since < threshold) × (threshold ≤ popped x (c ∷ since))
 
   -- THE STATEMENT, of all that is reached from fresh by calls that fit their types, refused ones included
   pub record InTime (Fits : C → Type 0) (threshold : ℕ) (fresh : X) : Type 0 where

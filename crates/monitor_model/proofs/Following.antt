@@ -1,5 +1,6 @@
 -- Each call of the monitor with its room does as the plain model, where what `Kept` says holds.
 -- Assumes nothing.
+use Rattle.std.specs.Prelude.{Ok, Err, Some, None}
 use mathlib.Core.Path.{◌≡◌, refl, sym, ap, subst, ◌∙◌}
 use mathlib.Core.Bool.{Bool, true, false, not, ◌&&◌, ◌||◌}
 use mathlib.Core.List.{List, [], ◌∷◌, map}
@@ -17,8 +18,6 @@ use Rattle.probe_queue.specs.Queue.{choose, nil, at, tabulate, queued, leading, 
 use Rattle.monitor.specs.declared.State.TheVariants.{Idle, Active}
 use Rattle.monitor.specs.declared.Monitor.{Monitor}
 use Rattle.monitor.specs.declared.Summary.{Summary}
-use Rattle.monitor.specs.declared.Deadline.TheVariants.{Absent, At, Refused as Denied}
-use Rattle.monitor.specs.declared.MonitorAnswer.TheVariants.{Served, Refused}
 use Rattle.monitor.specs.Refusals.{misplaced, counted, passing, refusal_of, refusal_of_sent, served}
 use Rattle.monitor.specs.States.{most_losses, same, losing, enters, loses, hears, stops}
 use Rattle.monitor.specs.Operations.{MonitorStand, pops, due, queues, starts, sent_on, reply_on, advance_on, idle_on, unchanged, sent_if, reply_if, advance_if}
@@ -35,7 +34,7 @@ use Rattle.monitor_model.proofs.Searching.{takes, within, first_there}
 
 -- ---- what a call hands back, by its refusal's number
 take_by : (x : MonitorStand) (n : ℕ) (on : MonitorStand) (b : Bool) → eqb n 0 ≡ b
-    → take x (record { answer = choose b (Served (choose b on (unchanged x.monitor x.room)).monitor) (Refused n); room = (choose b on (unchanged x.monitor x.room)).room }) ≡ record { number = n; stand = choose b on x }
+    → take x (record { answer = choose b (Ok (choose b on (unchanged x.monitor x.room)).monitor) (Err n); room = (choose b on (unchanged x.monitor x.room)).room }) ≡ record { number = n; stand = choose b on x }
 take_by x n on true e = ap (λ (k : ℕ). record { number = k; stand = on }) (sym (eqb-true n 0 e))
 take_by x n on false e = refl
 
@@ -43,7 +42,7 @@ takes_on : (x : MonitorStand) (n : ℕ) (on : MonitorStand) → take x (outcome 
 unfolding answered
 takes_on x n on = take_by x n on (eqb n 0) refl
 
-idle-by : (x : MonitorStand) (n : ℕ) (m : Monitor) (b : Bool) → eqb n 0 ≡ b → take x (record { answer = choose b (Served m) (Refused n); room = x.room }) ≡ record { number = n; stand = choose b (record { monitor = m; room = x.room }) x }
+idle-by : (x : MonitorStand) (n : ℕ) (m : Monitor) (b : Bool) → eqb n 0 ≡ b → take x (record { answer = choose b (Ok m) (Err n); room = x.room }) ≡ record { number = n; stand = choose b (record { monitor = m; room = x.room }) x }
 idle-by x n m true e = ap (λ (k : ℕ). record { number = k; stand = record { monitor = m; room = x.room } }) (sym (eqb-true n 0 e))
 idle-by x n m false e = refl
 
@@ -84,13 +83,13 @@ module _ (x : MonitorStand) (marks : Marks) (kept : Kept x marks) where
       (sym (probes-length xs ∙ tabulate-length m.ring.len (at x.room m.ring)))
 
   -- ---- `deadline`
-  front_by : (len : ℕ) → choose (eqb len 0) Absent (At (get_or x.room m.ring.head nil).deadline) ≡ deadline (map plain_probe_of (tabulate len (at x.room m.ring)))
+  front_by : (len : ℕ) → choose (eqb len 0) (Ok None) (Ok (Some (get_or x.room m.ring.head nil).deadline)) ≡ deadline (map plain_probe_of (tabulate len (at x.room m.ring)))
   front_by zero = refl
-  front_by (suc n) = ap (λ (t : Bool). choose t Absent (At (get_or x.room m.ring.head nil).deadline)) (ne_eqb (suc n) 0 (λ e. omega (arith, e))) ∙ ap (λ (k : ℕ). At (get_or x.room k nil).deadline) (sym (ap (λ (k : ℕ). k % capacity) (add-zero m.ring.head) ∙ mod-eq_of_lt kept.held.0))
+  front_by (suc n) = ap (λ (t : Bool). choose t (Ok None) (Ok (Some (get_or x.room m.ring.head nil).deadline))) (ne_eqb (suc n) 0 (λ e. omega (arith, e))) ∙ ap (λ (k : ℕ). Ok (Some (get_or x.room k nil).deadline)) (sym (ap (λ (k : ℕ). k % capacity) (add-zero m.ring.head) ∙ mod-eq_of_lt kept.held.0))
 
   pub same-deadline : deadline_of m x.room ≡ deadline p.probes
   unfolding deadline_of
-  same-deadline = ap (λ (t : Bool). choose t (Denied wrong_room) (choose (eqb m.ring.len 0) Absent (At (get_or x.room m.ring.head nil).deadline))) in_place ∙ front_by m.ring.len
+  same-deadline = ap (λ (t : Bool). choose t (Err wrong_room) (choose (eqb m.ring.len 0) (Ok None) (Ok (Some (get_or x.room m.ring.head nil).deadline)))) in_place ∙ front_by m.ring.len
 
   -- ---- nothing changes
   pub stays : Next x p

@@ -1,6 +1,7 @@
 -- Of each call of the monitor: its outcome is unique, its number is the refusal's, and a refusal hands back its number only and changes nothing.
 -- These hold of every monitor and every room, reached from fresh or not.
 -- Assumes nothing.
+use Rattle.std.specs.Prelude.{Result, Ok, Err}
 use mathlib.Core.Path.{◌≡◌, refl, sym, ap, ◌∙◌}
 use mathlib.Core.Bool.{Bool, true, false, ◌&&◌}
 use mathlib.Core.List.{List}
@@ -20,12 +21,13 @@ use Rattle.determined.proofs.Facts.{both_say}
 use lib.ListN.{length}
 use lib.Dec.{eqb}
 use borrow.Author.Tests.{eqb-true, ne_eqb}
+use Rattle.limits.specs.declared.Refusal.{Refusal}
 use Rattle.limits.specs.Limits.{capacity}
+use Rattle.limits.specs.Numbers.{numbered}
+use Rattle.limits.proofs.Numbers.{numbered_unique}
 use Rattle.probe_queue.specs.declared.QueuedProbe.{QueuedProbe}
 use Rattle.probe_queue.specs.Queue.{choose}
 use Rattle.monitor.specs.declared.Monitor.{Monitor}
-use Rattle.monitor.specs.declared.MonitorAnswer.{MonitorAnswer}
-use Rattle.monitor.specs.declared.MonitorAnswer.TheVariants.{Served, Refused}
 use Rattle.monitor.specs.Refusals.{refusal_of, refusal_of_sent, served}
 use Rattle.monitor.specs.Operations.{MonitorStand, sent_on, reply_on, advance_on, idle_on, unchanged, sent_if, reply_if, advance_if}
 use Rattle.monitor.specs.Answers.{Outcome, Ends, outcome, number, answered, sent_to, reply_to, advance_to, idle_to}
@@ -40,8 +42,8 @@ use Rattle.monitor.specs.contracts.Monitor.deadline as deadline
 -- ---- one outcome. Of a call that is lent the queue, over its clauses; of the others, over their plain reading
 
 -- what a contract says of an exit, said of two, makes them equal
-same_ends : (o : Outcome) (r₁ r₂ : MonitorAnswer) (room₁ room₂ : List QueuedProbe) → Ends o r₁ room₁ → Ends o r₂ room₂ → (r₁ ≡ r₂) × (room₁ ≡ room₂)
-same_ends o r₁ r₂ room₁ room₂ a b = (a.0 ∙ sym b.0, a.1 ∙ sym b.1)
+same_ends : (o : Outcome) (r₁ r₂ : Result Monitor Refusal) (room₁ room₂ : List QueuedProbe) → Ends o (numbered r₁) room₁ → Ends o (numbered r₂) room₂ → (r₁ ≡ r₂) × (room₁ ≡ room₂)
+same_ends o r₁ r₂ room₁ room₂ a b = (numbered_unique r₁ r₂ (a.0 ∙ sym b.0), a.1 ∙ sym b.1)
 
 pub sent-unique :
     {M : Type 1} {𝓤 : Ura M} (𝓛 : Logic 𝓤) (mem : Memory → SProp 𝓤) (run : Routine → Fun 𝓤)
@@ -63,15 +65,15 @@ advance-unique {𝓤 = 𝓤} 𝓛 mem run κs a g r₁ r₂ s₁ s₂ =
 
 pub idle-unique : (κs : Lfts 0) (a : World.ArgsD idle.signature κs) (r₁ r₂ : World.ResD idle.signature κs) (s₁ s₂ : Clauses.AtExit (Kinds'.ended_of 0 idle-kinds.ps idle-kinds.r) κs)
     → idle-reads.Post κs a r₁ s₁ → idle-reads.Post κs a r₂ s₂ → r₁ ≡ r₂
-idle-unique κs a r₁ r₂ s₁ s₂ p q = p ∙ sym q
+idle-unique κs a r₁ r₂ s₁ s₂ p q = numbered_unique r₁ r₂ (p ∙ sym q)
 
 pub deadline-unique :
     {M : Type 1} {𝓤 : Ura M} (𝓛 : Logic 𝓤) (mem : Memory → SProp 𝓤) (run : Routine → Fun 𝓤)
     → Determines 𝓤 deadline.ended (deadline.clauses 𝓛 mem run) (λ κs r₁ r₂ s₁ s₂. r₁ ≡ r₂)
-deadline-unique {𝓤 = 𝓤} 𝓛 mem run κs a g r₁ r₂ s₁ s₂ = both_say 𝓤 _ _ _ (λ p q. p ∙ sym q)
+deadline-unique {𝓤 = 𝓤} 𝓛 mem run κs a g r₁ r₂ s₁ s₂ = both_say 𝓤 _ _ _ (λ p q. numbered_unique r₁ r₂ (p ∙ sym q))
 
 -- ---- the number of an answer
-number_by : (n : ℕ) (m : Monitor) (b : Bool) → eqb n 0 ≡ b → number (choose b (Served m) (Refused n)) ≡ n
+number_by : (n : ℕ) (m : Monitor) (b : Bool) → eqb n 0 ≡ b → number (choose b (Ok m) (Err n)) ≡ n
 number_by n m true e = sym (eqb-true n 0 e)
 number_by n m false e = refl
 
@@ -97,11 +99,11 @@ idle-number m = number_by (refusal_of m capacity) (idle_on m) (eqb (refusal_of m
 
 -- ---- a refusal hands back its number only, and the room as it was
 abbrev Untouched : ℕ → List QueuedProbe → Outcome → Type 0
-Untouched n room o = (o.answer ≡ Refused n) × (o.room ≡ room)
+Untouched n room o = (o.answer ≡ Err n) × (o.room ≡ room)
 
-answered-by : (n : ℕ) (m : Monitor) → eqb n 0 ≡ false → answered n m ≡ Refused n
+answered-by : (n : ℕ) (m : Monitor) → eqb n 0 ≡ false → answered n m ≡ Err n
 unfolding answered
-answered-by n m e = ap (λ (b : Bool). choose b (Served m) (Refused n)) e
+answered-by n m e = ap (λ (b : Bool). choose b (Ok m) (Err n)) e
 
 refuses : (n : ℕ) (on off : MonitorStand) → eqb n 0 ≡ false → Untouched n off.room (outcome n (choose (served true n) on off))
 refuses n on off e = (answered-by n (choose (served true n) on off).monitor e, ap (λ (b : Bool). (choose b on off).room) e)
@@ -125,9 +127,9 @@ pub advance-refused : (m : Monitor) (room : List QueuedProbe) (t : ℕ) → (ref
 unfolding advance_to advance_if
 advance-refused m room t no_zero = refuses (refusal_of m (length room)) (advance_on m room t) (unchanged m room) (ne_eqb _ _ no_zero)
 
-pub idle-refused : (m : Monitor) → (refusal_of m capacity ≡ 0 → ⊥) → idle_to m ≡ Refused (refusal_of m capacity)
+pub idle-refused : (m : Monitor) → (refusal_of m capacity ≡ 0 → ⊥) → idle_to m ≡ Err (refusal_of m capacity)
 unfolding idle_to
-idle-refused m no_zero = ap (λ (b : Bool). choose b (Served (idle_on m)) (Refused (refusal_of m capacity))) (ne_eqb (refusal_of m capacity) 0 no_zero)
+idle-refused m no_zero = ap (λ (b : Bool). choose b (Ok (idle_on m)) (Err (refusal_of m capacity))) (ne_eqb (refusal_of m capacity) 0 no_zero)
 
 -- a call that whoever makes it does not want to go on changes nothing
 pub sent-held : (m : Monitor) (room : List QueuedProbe) (s t : ℕ) → sent_if false m room s t ≡ unchanged m room

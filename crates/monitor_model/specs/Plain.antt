@@ -1,11 +1,9 @@
 -- Document 01, "Monitor", over a plain list of queued probes and a set of marked sequences: src/sender/session_state.rs, line for line.
-use Rattle.std.specs.Prelude.{Bool, true, false, ◌&&◌, List, [], ◌∷◌, ◌++◌, ℕ, ◌+◌, ◌^◌, length, eqb, leb, ltb}
+use Rattle.std.specs.Prelude.{Bool, true, false, ◌&&◌, List, [], ◌∷◌, ◌++◌, ℕ, ◌+◌, ◌^◌, length, eqb, leb, ltb, Result, Ok, Option, Some, None}
 use Rattle.limits.specs.Limits.{capacity}
 use Rattle.limits.specs.Refusals.{deadline_passes, counts_full, queue_full}
 use Rattle.probe_queue.specs.Queue.{choose}
 use Rattle.monitor.specs.declared.State.TheVariants.{Idle, Active}
-use Rattle.monitor.specs.declared.Deadline.{Deadline}
-use Rattle.monitor.specs.declared.Deadline.TheVariants.{Absent, At}
 use Rattle.monitor.specs.declared.Summary.{Summary}
 use Rattle.monitor.specs.Refusals.{counted}
 use Rattle.monitor.specs.States.{most_losses, losing, transition, failing, stops}
@@ -105,9 +103,9 @@ abbrev pub idle : Plain → Plain
 idle p = record { summary = stops p.transmitting p.summary; timeout = p.timeout; transmitting = false; probes = []; received = λ s. false }
 
 -- `deadline`: the front probe's, or none
-abbrev pub deadline : List Sent → Deadline
-deadline [] = Absent
-deadline (x ∷ xs) = At x.deadline
+abbrev pub deadline : List Sent → Result (Option ℕ) ℕ
+deadline [] = Ok None
+deadline (x ∷ xs) = Ok (Some x.deadline)
 
 -- document 01's refusals, 0 where the call is served: of `reply`, `advance` and `idle` only 4
 abbrev pub refusal : Plain → ℕ

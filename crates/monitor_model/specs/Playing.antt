@@ -1,9 +1,8 @@
 -- Calls one after another, each given what the last one left: on the plain model, and on the monitor with its room.
-use Rattle.std.specs.Prelude.{◌≡◌, Bool, true, false, List, [], ◌∷◌, map, ℕ, eqb}
+use Rattle.monitor.specs.declared.Monitor.{Monitor}
+use Rattle.std.specs.Prelude.{◌≡◌, Bool, true, false, List, [], ◌∷◌, map, ℕ, eqb, Result, Ok, Err}
 use Rattle.probe_queue.specs.declared.QueuedProbe.{QueuedProbe}
 use Rattle.probe_queue.specs.Queue.{choose, queued, is_marked}
-use Rattle.monitor.specs.declared.MonitorAnswer.{MonitorAnswer}
-use Rattle.monitor.specs.declared.MonitorAnswer.TheVariants.{Served, Refused}
 use Rattle.monitor.specs.Operations.{MonitorStand}
 use Rattle.monitor.specs.Answers.{Outcome, number, sent_to, reply_to, advance_to, idle_to}
 use Rattle.monitor_model.specs.Plain.{Sent, Plain, sent, reply, advance, idle, refusal, sent_refusal}
@@ -37,9 +36,9 @@ pub record RingStep : Type 0 where
   pub stand : MonitorStand
 
 -- what the host then holds: the monitor that is handed back, or its own where refused; the room as it was left
-abbrev pub keep : MonitorStand → MonitorAnswer → List QueuedProbe → MonitorStand
-keep x (Served m) room = record { monitor = m; room = room }
-keep x (Refused n) room = record { monitor = x.monitor; room = room }
+abbrev pub keep : MonitorStand → Result Monitor ℕ → List QueuedProbe → MonitorStand
+keep x (Ok m) room = record { monitor = m; room = room }
+keep x (Err n) room = record { monitor = x.monitor; room = room }
 
 -- a call's number, and what the host then holds
 abbrev pub take : MonitorStand → Outcome → RingStep

@@ -1,14 +1,12 @@
 -- The delays that the state keeps, sample by sample, are those of the figures of the plain list. Assumes nothing.
+use Rattle.std.specs.Prelude.{Some, Option, None}
 use mathlib.Core.Path.{◌≡◌, refl, ap, ap₂, ◌∙◌}
 use mathlib.Core.Bool.{Bool, true, false, cond}
 use mathlib.Core.List.{List, [], ◌∷◌, map}
-use mathlib.Core.Option.{Option, none, some}
 use native.Mathlib.Numerals.{add-one}
 use lib.IntN.{ℤ, ◌+ℤ◌}
 use lib.ListN.{length}
 use lib.Signed.{lt_z}
-use Rattle.delays.specs.declared.Extreme.TheVariants as extreme
-use Rattle.delays.specs.declared.Milliseconds.TheVariants as milliseconds
 use Rattle.delays.specs.declared.Delays.{Delays}
 use Rattle.delays.specs.Sums.{nanoseconds_of, sum_of}
 use Rattle.delays.specs.Delays as state
@@ -21,17 +19,17 @@ use Rattle.observe_history.specs.RoundTrips.{extreme_of, delays_from, shown_ms, 
 
 -- ---- one sample more
 
-choose : (b b' : Bool) (z m : ℤ) → b ≡ b' → extreme.At (cond b (nanoseconds_of z) (nanoseconds_of m)) ≡ extreme.At (nanoseconds_of (cond b' z m))
+choose : (b b' : Bool) (z m : ℤ) → b ≡ b' → Some (cond b (nanoseconds_of z) (nanoseconds_of m)) ≡ Some (nanoseconds_of (cond b' z m))
 choose b true z m e = rw e
 choose b false z m e = rw e
 
 less_more : (e : Option ℤ) (z : ℤ) → state.lesser (extreme_of e) (nanoseconds_of z) ≡ extreme_of (with lesser e z)
-less_more none z = refl
-less_more (some m) z = choose _ (lt_z z m) z m (ap₂ lt_z (value-back z) (value-back m))
+less_more None z = refl
+less_more (Some m) z = choose _ (lt_z z m) z m (ap₂ lt_z (value-back z) (value-back m))
 
 greater_more : (e : Option ℤ) (z : ℤ) → state.greater (extreme_of e) (nanoseconds_of z) ≡ extreme_of (with greater e z)
-greater_more none z = refl
-greater_more (some m) z = choose _ (lt_z m z) z m (ap₂ lt_z (value-back m) (value-back z))
+greater_more None z = refl
+greater_more (Some m) z = choose _ (lt_z m z) z m (ap₂ lt_z (value-back m) (value-back z))
 
 pub fresh-delays : fresh ≡ delays_from (figures_of [])
 unfolding total least greatest
@@ -58,8 +56,8 @@ delays-show zs = rw (← delays-played zs) (played-shows (map nanoseconds_of zs)
 -- ---- what is shown
 
 ms_is : (e : Option ℤ) → extreme_ms (extreme_of e) ≡ shown_ms e
-ms_is none = refl
-ms_is (some z) = ap (λ (x : ℤ). milliseconds.Known (in_ms x)) (value-back z)
+ms_is None = refl
+ms_is (Some z) = ap (λ (x : ℤ). Some (in_ms x)) (value-back z)
 
 pub delays-shown : (f : Figures) → summary_of (delays_from f) ≡ shown_from f
 delays-shown f = λ i. record {

@@ -1,8 +1,8 @@
 -- Direct loss, continued: a fresh ledger, and the calls that are no observe. Assumes nothing.
+use Rattle.std.specs.Prelude.{Some, Option, None}
 use mathlib.Core.Path.{◌≡◌, refl, sym, ap, ◌∙◌, subst}
 use mathlib.Core.Bool.{Bool, true, false, cond}
 use mathlib.Core.List.{List, [], ◌∷◌}
-use mathlib.Core.Option.{Option, none}
 use Prim.Native.Nat.{ℕ, ◌<◌}
 use native.Mathlib.Omega.{arith}
 use lib.Dec.{ltb}
@@ -12,7 +12,6 @@ use Rattle.call_types.specs.declared.ReplyKey.{ReplyKey}
 use Rattle.call_types.specs.declared.SentProbe.{SentProbe}
 use Rattle.call_types.specs.declared.Reply.{Reply}
 use Rattle.call_types.specs.declared.ReplyObservation.{ReplyObservation}
-use Rattle.call_types.specs.declared.Ordinal.TheVariants as ordinal
 use Rattle.call_types.specs.declared.Call.{Call}
 use Rattle.call_types.specs.declared.Call.TheVariants.{Sent, Accept, Observe, Advance, Idle}
 use Rattle.chains.specs.Links.{Rows}
@@ -74,7 +73,7 @@ module _ (N : ℕ) (by_number : ℕ → ℕ) where
   unfolding ready window
   ready-window es k p = go (has (held N es) k.sender)
     where
-      go : (b : Bool) → window N (cond b es (remembered k.sender none 0 (or_else p no_packet) ∷ es)) ≡ window N es
+      go : (b : Bool) → window N (cond b es (remembered k.sender None 0 (or_else p no_packet) ∷ es)) ≡ window N es
       go true = refl
       go false = refl
 
@@ -98,7 +97,7 @@ module _ (N : ℕ) (by_number : ℕ → ℕ) where
     direct-sent s =
         kept h (Sent s ∷ h) l.counts.direct offsets links (sent_in N by_number l probes links s).links refl refl
         (remembered_elsewhere 6 (λ e. omega (arith, e)) (λ e. omega (arith, e)) (λ e. omega (arith, e)) N by_number (probe_ring.rooms probes links l.tables.probes)
-        (unanswered s.sequence s.packet (ordinal.Number s.ordinal) s.train)) f
+        (unanswered s.sequence s.packet (Some s.ordinal) s.train)) f
 
     accept_links : (x : ReplyClass) (at : ℕ) (a : Reply) → Untouched 6 links (accept_by N by_key by_number x l keys slots probes links at a).links
     unfolding unique_in

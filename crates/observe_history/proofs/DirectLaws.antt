@@ -1,17 +1,14 @@
 -- Direct loss follows from the served calls: a fresh ledger has it so, each observe keeps it, and no other call touches it. Assumes nothing.
+use Rattle.std.specs.Prelude.{Some, None, Option}
 use mathlib.Core.Path.{◌≡◌, refl, sym, ap, ap₂, ◌∙◌, subst}
 use mathlib.Core.Bool.{Bool, true, false, cond}
 use mathlib.Core.List.{List, ◌∷◌}
-use mathlib.Core.Option.{Option, none, some}
 use Prim.Native.Nat.{ℕ, suc, ◌≤◌}
 use native.Mathlib.Omega.{arith}
 use native.Mathlib.Numerals.{add-one}
 use lib.Dec.{ltb}
 use lib.ListN.{length}
 use Rattle.call_types.specs.declared.CounterPoint.{CounterPoint}
-use Rattle.call_types.specs.declared.Counters.{Counters}
-use Rattle.call_types.specs.declared.Counters.TheVariants as counters
-use Rattle.call_types.specs.declared.Ordinal.{Ordinal}
 use Rattle.call_types.specs.declared.ReplyObservation.{ReplyObservation}
 use Rattle.call_types.specs.declared.Call.{Call}
 use Rattle.call_types.specs.declared.Call.TheVariants.{Observe}
@@ -36,8 +33,8 @@ use Rattle.observe_history.proofs.SeenOffsets.{Seen, seen-length, after_class}
 
 -- the counts after an observation, with counters or none
 abbrev counts_with : ℕ → Option ℕ → Option CounterPoint → List CounterPoint → StateCounts → StateCounts
-counts_with N o none w n = n
-counts_with N o (some c) w n = counts_after (direct_class N o c w) n
+counts_with N o None w n = n
+counts_with N o (Some c) w n = counts_after (direct_class N o c w) n
 
 module _ (N : ℕ) (by_number : ℕ → ℕ) where
   -- what is left of the measurement and its room
@@ -46,7 +43,7 @@ module _ (N : ℕ) (by_number : ℕ → ℕ) where
     window : out.direct.window ≡ window_of w
     offsets : Seen N by_number (offsets_of out.direct out.offsets out.links) (seen_since w)
 
-  module _ (n : StateCounts) (w : List CounterPoint) (s : OffsetSet) (size : s.count ≡ length w) (h : Seen N by_number s (seen_since w)) (o : Ordinal) where
+  module _ (n : StateCounts) (w : List CounterPoint) (s : OffsetSet) (size : s.count ≡ length w) (h : Seen N by_number s (seen_since w)) (o : Option ℕ) where
     abbrev standing : Direct
     standing = record { counts = n; window = window_of w }
 
@@ -59,9 +56,9 @@ module _ (N : ℕ) (by_number : ℕ → ℕ) where
         ∙ ap₂ (λ (xs : List ℕ) (k : ℕ). offset_set.has xs k) h.offsets (sought-same w c)
         ∙ has_same (seen_since w) (sought w c)
 
-    by-counters : (k : Counters) → Left (direct_by N by_number k standing s o) (counts_with N (ordinal_of o) (counters_of k) w n) (with_counters N (ordinal_of o) (counters_of k) w)
-    by-counters counters.Absent = record { counts = refl; window = refl; offsets = rw (seen-length w, ← size) h }
-    by-counters (counters.Point c) =
+    by-counters : (k : Option CounterPoint) → Left (direct_by N by_number k standing s o) (counts_with N (ordinal_of o) (counters_of k) w n) (with_counters N (ordinal_of o) (counters_of k) w)
+    by-counters None = record { counts = refl; window = refl; offsets = rw (seen-length w, ← size) h }
+    by-counters (Some c) =
         rw (step_is N c n w o (offset_set.contains N by_number s (sought_in (window_of w) c)) (found c)) (record {
           counts = refl;
           window = refl;
@@ -89,8 +86,8 @@ module _ (N : ℕ) (by_number : ℕ → ℕ) where
     where
       go : (k : Option CounterPoint) → counts_with N (ordinal_of o.ordinal) k (since N h) (as_direct_counts (direct_counts N h))
           ≡ record { observations = now o h is_observation k; unavailable = now o h is_unavailable k; discontinuities = now o h is_discontinuity k; reordered = now o h is_below k; exceeded = ltb 0 (now o h is_exceeded k) }
-      go none = refl
-      go (some c) = let x = direct_class N (ordinal_of o.ordinal) c (since N h) in λ i. record {
+      go None = refl
+      go (Some c) = let x = direct_class N (ordinal_of o.ordinal) c (since N h) in λ i. record {
         observations = more_is (is_observation x) (count N (is_direct N is_observation) h) i;
         unavailable = more_is (is_unavailable x) (count N (is_direct N is_unavailable) h) i;
         discontinuities = more_is (is_discontinuity x) (count N (is_direct N is_discontinuity) h) i;

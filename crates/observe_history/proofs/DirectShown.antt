@@ -1,9 +1,9 @@
 -- What the summary shows of direct loss is what the history says: every figure of `summary_from`, and reverse missing above all.
 -- Assumes nothing.
+use Rattle.std.specs.Prelude.{Some, Option, None}
 use mathlib.Core.Path.{◌≡◌, refl, sym, ap, ◌∙◌}
 use mathlib.Core.Bool.{Bool, true, false, cond}
 use mathlib.Core.List.{List, [], ◌∷◌, map}
-use mathlib.Core.Option.{Option, none, some}
 use Prim.Native.Nat.{ℕ, zero, suc, ◌+◌, ◌-◌, ◌≤◌}
 use native.Mathlib.Omega.{arith}
 use lib.Dec.{eqb, leb, eqb-zero-suc}
@@ -13,7 +13,6 @@ use Rattle.call_types.specs.declared.CounterPoint.{CounterPoint}
 use Rattle.call_types.specs.declared.Call.{Call}
 use Rattle.chains.proofs.Tests.{lt_true, lt_false, eq_true, true_not_false}
 use Rattle.direct.specs.declared.Direct.{Direct}
-use Rattle.direct.specs.declared.summary.Packets.TheVariants.{Number}
 use Rattle.direct.specs.declared.summary.DirectSummary.{DirectSummary}
 use Rattle.direct.specs.Outcomes as outcomes
 use Rattle.direct.specs.Shown as shown
@@ -70,18 +69,18 @@ module _ (c : CounterPoint) (w : List CounterPoint) (g : Clean (c ∷ w)) where
       (sym (present-distinct (highest at (c ∷ w)) (seen at (c ∷ w)) g (largest_bounds (seen at (c ∷ w))) ∙ above-count))
       ∙ missing-present (highest at (c ∷ w)) (seen at (c ∷ w))
 
-  reverse_is : shown.less (highest at (c ∷ w)) (length (c ∷ w) - 1) ≡ Number (missing (highest at (c ∷ w)) (seen at (c ∷ w)))
+  reverse_is : shown.less (highest at (c ∷ w)) (length (c ∷ w) - 1) ≡ Some (missing (highest at (c ∷ w)) (seen at (c ∷ w)))
   reverse_is =
       let last : length (c ∷ w) - 1 ≡ length w = omega arith in
       let least : length w ≤ highest at (c ∷ w) = omega (arith, missing_sum) in
       let rest : highest at (c ∷ w) - length w ≡ missing (highest at (c ∷ w)) (seen at (c ∷ w)) = omega (arith, missing_sum) in
-      rw (last, lt_false (highest at (c ∷ w)) (length w) least) (ap Number rest)
+      rw (last, lt_false (highest at (c ∷ w)) (length w) least) (ap Some rest)
 
 -- forward missing is absent if negative
 forward_is : (sent received : ℕ) → shown.less sent received ≡ packets_of (forward_missing sent received)
 forward_is sent received = go (leb received sent) refl
   where
-    go : (b : Bool) → leb received sent ≡ b → shown.less sent received ≡ packets_of (cond b (some (sent - received)) none)
+    go : (b : Bool) → leb received sent ≡ b → shown.less sent received ≡ packets_of (cond b (Some (sent - received)) None)
     go true e = rw (lt_false sent received (leb-true received sent e))
     go false e = rw (lt_true sent received (leb-false received sent e))
 
@@ -94,11 +93,11 @@ spans_are (c ∷ d ∷ w) g =
     let v = c ∷ d ∷ w in
     rw (lt_true 1 (length v) (omega arith))
     (λ i. record {
-      sent = Number (sender_maximum a v);
-      received = Number (received_maximum a v);
+      sent = Some (sender_maximum a v);
+      received = Some (received_maximum a v);
       forward = forward_is (sender_maximum a v) (received_maximum a v) i;
-      transmitted = Number (high a v i);
-      replies = Number (length v - 1);
+      transmitted = Some (high a v i);
+      replies = Some (length v - 1);
       reverse = (ap (λ (n : ℕ). shown.less n (length v - 1)) (high a v) ∙ reverse_is c (d ∷ w) g) i;
     })
   where
@@ -127,8 +126,8 @@ direct-shows N by_number h d offsets links f = λ i. record {
 
 -- what the figures of a window show as reverse missing
 reverse_of : (x : Option Spans) → (spans_shown x).reverse ≡ packets_of (shown_reverse x)
-reverse_of none = refl
-reverse_of (some s) = refl
+reverse_of None = refl
+reverse_of (Some s) = refl
 
 -- REVERSE MISSING, where it is shown, is the highest transmit offset less the offsets above 0 that were seen since the anchor, of the served calls:
 -- and that is how many of the offsets from 1 to the highest were not (`reverse-missing_is` of crate history).

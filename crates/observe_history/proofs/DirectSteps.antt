@@ -1,20 +1,17 @@
 -- One reply's counters: the outcome of crate direct is the one that the history's class calls for, in counts, window and seen offsets.
 -- Assumes nothing.
+use Rattle.std.specs.Prelude.{Some, None, Option}
 use mathlib.Core.Path.{◌≡◌, refl, ap, ap₂}
 use mathlib.Core.Bool.{Bool, true, false, ◌&&◌, cond}
 use mathlib.Core.List.{List, [], ◌∷◌}
-use mathlib.Core.Option.{Option, none, some}
 use Prim.Native.Nat.{ℕ, ◌+◌, ◌≤◌, ◌<◌}
 use native.Mathlib.Omega.{arith}
 use lib.Dec.{eqb, ltb}
 use lib.ListN.{length}
 use Rattle.call_types.specs.declared.CounterPoint.{CounterPoint}
-use Rattle.call_types.specs.declared.Ordinal.{Ordinal}
-use Rattle.call_types.specs.declared.Ordinal.TheVariants as ordinal
 use Rattle.chains.proofs.Tests.{Test, holds, fails, lt_test, eq_test, true_not_false}
 use Rattle.direct.specs.declared.Counts.{Counts}
 use Rattle.direct.specs.declared.Epoch.{Epoch}
-use Rattle.direct.specs.declared.Window.TheVariants.{Open}
 use Rattle.direct.specs.declared.Offsets.{Offsets}
 use Rattle.direct.specs.declared.Offsets.TheVariants.{Kept, Begun, Added, Cleared}
 use Rattle.direct.specs.declared.Step.{Step}
@@ -72,7 +69,7 @@ module _ (N : ℕ) (c : CounterPoint) where
     without-anchor : (b : Bool) → outcomes.without_anchor b n c ≡ step_by (cond b zeros anchors) [] n
     unfolding anchor_of
     without-anchor true = refl
-    without-anchor false = ap (λ (e : Epoch). outcomes.step (outcomes.one_observed n) (Open e) Begun) (anchor_alone c)
+    without-anchor false = ap (λ (e : Epoch). outcomes.step (outcomes.one_observed n) (Some e) Begun) (anchor_alone c)
 
     module _ (d : CounterPoint) (w : List CounterPoint) where
       abbrev a : CounterPoint
@@ -85,12 +82,12 @@ module _ (N : ℕ) (c : CounterPoint) where
       with-anchor false true f r e t = refl
       with-anchor false false true r e t = refl
       with-anchor false false false true e (holds p q) =
-          ap₂ (λ (x : Epoch) (k : ℕ). outcomes.step (outcomes.one_reordered (outcomes.one_observed n)) (Open x) (Added k)) (below_more a c (d ∷ w) p)
+          ap₂ (λ (x : Epoch) (k : ℕ). outcomes.step (outcomes.one_reordered (outcomes.one_observed n)) (Some x) (Added k)) (below_more a c (d ∷ w) p)
           (offset-same a.transmitted.0 c.transmitted.0)
       with-anchor false false false true e (fails p q) = absurd (true_not_false refl q)
       with-anchor false false false false e (holds p q) = absurd (true_not_false q refl)
       with-anchor false false false false e (fails p q) =
-          ap₂ (λ (x : Epoch) (k : ℕ). outcomes.step (outcomes.one_observed n) (Open x) (Added k)) (above_more a c (d ∷ w) (not_below a c d w p e))
+          ap₂ (λ (x : Epoch) (k : ℕ). outcomes.step (outcomes.one_observed n) (Some x) (Added k)) (above_more a c (d ∷ w) (not_below a c d w p e))
           (offset-same a.transmitted.0 c.transmitted.0)
 
     in_window : (w : List CounterPoint) (seen? : Bool) → seen? ≡ has (seen_since w) (sought w c) → outcomes.in_window N n (window_of w) c seen? ≡ step_by (on_window N c w) w n
@@ -107,11 +104,11 @@ module _ (N : ℕ) (c : CounterPoint) where
         (ltb (transmit_offset (anchor_of d w) c) (highest (anchor_of d w) (d ∷ w))) refl (lt_test (transmit_offset (anchor_of d w) c) (highest (anchor_of d w) (d ∷ w))))
 
     -- THE STEP: what crate direct makes of the counters is what their class in the history calls for.
-    pub step_is : (w : List CounterPoint) (o : Ordinal) (seen? : Bool) → seen? ≡ has (seen_since w) (sought w c)
+    pub step_is : (w : List CounterPoint) (o : Option ℕ) (seen? : Bool) → seen? ≡ has (seen_since w) (sought w c)
         → outcomes.recorded N (record { counts = n; window = window_of w }) c o seen? ≡ step_by (direct_class N (ordinal_of o) c w) w n
     unfolding outcomes.recorded direct_class
-    step_is w ordinal.Absent seen? e = refl
-    step_is w (ordinal.Number m) seen? e = go (eqb c.sender.0 m)
+    step_is w None seen? e = refl
+    step_is w (Some m) seen? e = go (eqb c.sender.0 m)
       where
         go : (b : Bool) → outcomes.by_ordinal N b n (window_of w) c seen? ≡ step_by (cond b (on_window N c w) mismatch) w n
         go true = in_window w seen? e
@@ -150,8 +147,8 @@ module _ (N : ℕ) (c : CounterPoint) where
 
   pub class_room : (o : Option ℕ) (w : List CounterPoint) → length w ≤ N → RoomFor N (direct_class N o c w) w
   unfolding direct_class
-  class_room none w l = tt
-  class_room (some m) w l = go (eqb c.sender.0 m)
+  class_room None w l = tt
+  class_room (Some m) w l = go (eqb c.sender.0 m)
     where
       go : (b : Bool) → RoomFor N (cond b (on_window N c w) mismatch) w
       go true = room_on w l

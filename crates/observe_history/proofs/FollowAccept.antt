@@ -1,12 +1,12 @@
 -- Follow-ups follow from the served calls, continued: an accept, which may evict, keeps it so. Assumes nothing.
+use Rattle.std.specs.Prelude.{Option, None, Some, slice_get}
 use mathlib.Core.Path.{◌≡◌, refl, sym, ap, ap₂, ◌∙◌, subst}
 use mathlib.Core.Bool.{Bool, true, false, cond}
 use mathlib.Core.List.{List, [], ◌∷◌}
-use mathlib.Core.Option.{Option, none, some}
 use Prim.Native.Nat.{ℕ, zero, suc, ◌-◌, ◌<◌}
 use native.Mathlib.Omega.{arith}
 use lib.Dec.{eqb, ltb}
-use lib.ListN.{take, get_or, get_elem?}
+use lib.ListN.{take, get_or}
 use Rattle.call_types.specs.declared.PendingPacket.{PendingPacket}
 use Rattle.call_types.specs.declared.ReplyKey.{ReplyKey}
 use Rattle.correlation.specs.declared.Slot.{Slot}
@@ -32,7 +32,7 @@ module _ (N copies : ℕ) where
   unfolding ready slot_at
   ready_slots es k p r = go (has (held N es) k.sender)
     where
-      go : (b : Bool) → slot_at N copies (cond b es (remembered k.sender none 0 (or_else p no_packet) ∷ es)) r ≡ slot_at N copies es r
+      go : (b : Bool) → slot_at N copies (cond b es (remembered k.sender None 0 (or_else p no_packet) ∷ es)) r ≡ slot_at N copies es r
       go true = refl
       go false = refl
 
@@ -40,7 +40,7 @@ module _ (N copies : ℕ) where
   unfolding ready accepted
   ready-accepted es k p = go (has (held N es) k.sender)
     where
-      go : (b : Bool) → accepted (cond b es (remembered k.sender none 0 (or_else p no_packet) ∷ es)) ≡ accepted es
+      go : (b : Bool) → accepted (cond b es (remembered k.sender None 0 (or_else p no_packet) ∷ es)) ≡ accepted es
       go true = refl
       go false = refl
 
@@ -51,10 +51,10 @@ module _ (N copies : ℕ) where
       ap₂ (λ (ks : List ReplyKey) (s : HistorySlot). evicting (evicted N copies ks) r s) (ready-accepted es k p) (ready_slots es k p r)
 
   -- the oldest of the last N is the one before N
-  oldest-taken : (xs : List ReplyKey) → 0 < N → get_elem? (take N xs) (N - 1) ≡ get_elem? xs (N - 1)
+  oldest-taken : (xs : List ReplyKey) → 0 < N → slice_get (take N xs) (N - 1) ≡ slice_get xs (N - 1)
   oldest-taken xs l = go N (N - 1) xs (omega arith)
     where
-      go : (n i : ℕ) (ys : List ReplyKey) → i < n → get_elem? (take n ys) i ≡ get_elem? ys i
+      go : (n i : ℕ) (ys : List ReplyKey) → i < n → slice_get (take n ys) i ≡ slice_get ys i
       go zero i ys m = absurd (omega arith)
       go (suc n) i [] m = refl
       go (suc n) zero (y ∷ ys) m = refl
@@ -70,10 +70,10 @@ module _ (N copies : ℕ) (by_key : ReplyKey → ℕ) (by_number : ℕ → ℕ) 
   after = accepted_key N by_key by_number t k
 
   -- the key that goes is the history's
-  gone : cond (ltb t.ring.len N) none (some (key_at t.keys t.ring.head)) ≡ evicted N copies (accepted es)
+  gone : cond (ltb t.ring.len N) None (Some (key_at t.keys t.ring.head)) ≡ evicted N copies (accepted es)
   unfolding last_accepted
   gone =
-      oldest_is N by_key by_number t sound ∙ ap (λ (ks : List ReplyKey). get_elem? ks (N - 1)) keys
+      oldest_is N by_key by_number t sound ∙ ap (λ (ks : List ReplyKey). slice_get ks (N - 1)) keys
       ∙ oldest-taken N copies (accepted es) (omega (arith, sound.ring_fits.head_in))
 
   slot_now : (r : ℕ) → slot_in (rows_of N after) r
@@ -87,7 +87,7 @@ module _ (N copies : ℕ) (by_key : ReplyKey → ℕ) (by_number : ℕ → ℕ) 
     where
       go : (a b : Bool) → eqb r (key_at t.keys t.ring.head).reflector ≡ b
           → slot_from (slot_of (cond a (slot_in (rows_of N t) r) (cond b (rows.taken (rows.lowered (slot_in (rows_of N t) r))) (slot_in (rows_of N t) r))))
-          ≡ evicting (cond a none (some (key_at t.keys t.ring.head))) r (slot_from (slot_held N t r))
+          ≡ evicting (cond a None (Some (key_at t.keys t.ring.head))) r (slot_from (slot_held N t r))
       go true b e = refl
       go false true e = rw e (view_row_lowered (slot_in (rows_of N t) r))
       go false false e = rw e

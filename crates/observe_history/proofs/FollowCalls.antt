@@ -1,8 +1,8 @@
 -- Follow-ups follow from the served calls, of a ledger with its rooms: fresh, and after each call but observe. Assumes nothing.
+use Rattle.std.specs.Prelude.{Option, None}
 use mathlib.Core.Path.{◌≡◌, refl, sym, ap, ◌∙◌}
 use mathlib.Core.Bool.{Bool, true, false, cond}
 use mathlib.Core.List.{List, [], ◌∷◌}
-use mathlib.Core.Option.{Option, none}
 use Prim.Native.Nat.{ℕ, ◌<◌}
 use native.Mathlib.Omega.{arith}
 use Rattle.call_types.specs.declared.PendingPacket.{PendingPacket}
@@ -99,7 +99,7 @@ module _ (N copies : ℕ) where
   unfolding ready measured
   ready-measured es k p = go (has (held N es) k.sender)
     where
-      go : (b : Bool) → measured N copies (cond b es (remembered k.sender none 0 (or_else p no_packet) ∷ es)) ≡ measured N copies es
+      go : (b : Bool) → measured N copies (cond b es (remembered k.sender None 0 (or_else p no_packet) ∷ es)) ≡ measured N copies es
       go true = refl
       go false = refl
 

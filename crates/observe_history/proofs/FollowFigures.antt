@@ -1,8 +1,8 @@
 -- The counts, the delays and the clock quality of follow-ups after one observation more. Assumes nothing.
+use Rattle.std.specs.Prelude.{Some, None, Option, Ok, Err}
 use mathlib.Core.Path.{◌≡◌, refl, sym, ap, ◌∙◌}
 use mathlib.Core.Bool.{cond}
 use mathlib.Core.List.{List, ◌∷◌}
-use mathlib.Core.Option.{Option, none, some}
 use Prim.Native.Nat.{ℕ}
 use lib.IntN.{ℤ}
 use Rattle.call_types.specs.declared.FollowUpTelemetry.{FollowUpTelemetry}
@@ -11,11 +11,8 @@ use Rattle.call_types.specs.declared.Call.{Call}
 use Rattle.call_types.specs.declared.Call.TheVariants.{Observe}
 use Rattle.clock_quality.specs.Quality as quality
 use Rattle.correlation.specs.declared.Slot.{Slot}
-use Rattle.correlation.specs.declared.Wires.{Wires}
-use Rattle.correlation.specs.declared.Wires.TheVariants as wires
-use Rattle.correlation.specs.declared.follow.Class.{Class}
-use Rattle.correlation.specs.declared.follow.Class.TheVariants as class
-use Rattle.correlation.specs.Class.{delay_of}
+use Rattle.correlation.specs.declared.follow.Miss.TheVariants as miss
+use Rattle.correlation.specs.Class.{Class, delay_of}
 use Rattle.follow_ups.specs.declared.FollowUps.{FollowUps}
 use Rattle.follow_ups.specs.Followed.{estimates_of, counted, delay_after, quality_after, followed}
 use Rattle.history.specs.Given.{follow_of}
@@ -29,25 +26,19 @@ use Rattle.observe_history.proofs.Quality.{one_sample_more}
 use Rattle.observe_history.proofs.FollowClasses.{class_from, class_in, measured_more, class_same, measured-same, counts_by, counts_same}
 
 -- the estimates of a record are those that its wires say
-given-wires : (q : Wires) → estimates_of q ≡ given (pair_of q)
-given-wires wires.Absent = refl
-given-wires (wires.Pair s r) = refl
+given-wires : (q : Option (ℕ × ℕ)) → estimates_of q ≡ given (pair_of q)
+given-wires None = refl
+given-wires (Some (s, r)) = refl
 
 delay_more : (k : Class) (offset : ℤ) (ms : List Measured) → delay_after k offset (delays_from (figures_of (delays ms))) ≡ delays_from (figures_of (delays (measured_more k offset ms)))
 unfolding delays
-delay_more class.Unavailable offset ms = refl
-delay_more class.Ambiguous offset ms = refl
-delay_more class.Unmatched offset ms = refl
-delay_more class.Repeated offset ms = refl
-delay_more (class.Matched m) offset ms = one_delay_more (delays ms) (delay_of m.t4 m.t3 offset)
+delay_more (Err why) offset ms = refl
+delay_more (Ok m) offset ms = one_delay_more (delays ms) (delay_of m.t4 m.t3 offset)
 
 quality_more : (k : Class) (offset : ℤ) (ms : List Measured) → quality_after k (quality_of (estimates ms)) ≡ quality_of (estimates (measured_more k offset ms))
 unfolding estimates
-quality_more class.Unavailable offset ms = refl
-quality_more class.Ambiguous offset ms = refl
-quality_more class.Unmatched offset ms = refl
-quality_more class.Repeated offset ms = refl
-quality_more (class.Matched m) offset ms =
+quality_more (Err why) offset ms = refl
+quality_more (Ok m) offset ms =
     ap (quality.recorded_of (quality_of (estimates ms))) (given-wires m.quality) ∙ one_sample_more (estimates ms) (given (pair_of m.quality))
 
 module _ (N copies : ℕ) (h : List Call) (fs : FollowUps) (f : FiguresFollow N copies h fs) (o : ReplyObservation) where
@@ -58,7 +49,7 @@ module _ (N copies : ℕ) (h : List Call) (fs : FollowUps) (f : FiguresFollow N 
   es = events N h
 
   -- an observation without a follow-up
-  pub figures_without : follow_of o.follow ≡ none → FiguresFollow N copies (Observe o ∷ h) fs
+  pub figures_without : follow_of o.follow ≡ None → FiguresFollow N copies (Observe o ∷ h) fs
   unfolding count events measured
   figures_without e = record {
     counts = f.counts ∙ rw e;
@@ -67,7 +58,7 @@ module _ (N copies : ℕ) (h : List Call) (fs : FollowUps) (f : FiguresFollow N 
   }
 
   -- with one, of the slot that the rooms hold for its sequence
-  module _ (t : FollowUpTelemetry) (is : follow_of o.follow ≡ some t) (s : Slot) (same : slot_from s ≡ slot_at N copies es t.sequence) where
+  module _ (t : FollowUpTelemetry) (is : follow_of o.follow ≡ Some t) (s : Slot) (same : slot_from s ≡ slot_at N copies es t.sequence) where
     class_is : class_from (class_in t own o.offset s) ≡ class_at N copies t own o.offset es
     class_is = class_same t own o.offset s ∙ ap (follow_class t own o.offset) same
 

@@ -1,4 +1,6 @@
 -- Follow-ups follow from the served calls: an observe of the awaiting key keeps it so. Assumes nothing.
+use Rattle.std.specs.Prelude.{Option, Some, None}
+use Rattle.call_types.specs.declared.FollowUpTelemetry.{FollowUpTelemetry}
 use mathlib.Core.Path.{◌≡◌, refl, sym, ap}
 use mathlib.Core.Bool.{Bool, true, false, ◌&&◌}
 use mathlib.Core.List.{List, ◌∷◌}
@@ -7,8 +9,6 @@ use native.Mathlib.Omega.{arith}
 use borrow.Author.Tests.{ltb-true}
 use lib.Dec.{ltb}
 use Rattle.call_types.specs.declared.ReplyKey.{ReplyKey}
-use Rattle.call_types.specs.declared.FollowUp.{FollowUp}
-use Rattle.call_types.specs.declared.FollowUp.TheVariants as follow
 use Rattle.call_types.specs.declared.ReplyObservation.{ReplyObservation}
 use Rattle.call_types.specs.declared.Call.{Call}
 use Rattle.call_types.specs.declared.Call.TheVariants.{Observe}
@@ -94,9 +94,9 @@ module _ (N : ℕ) (few : N < 65535) (by_key : ReplyKey → ℕ) (by_number : �
     unobserved = λ e. absurd (true_not_false e refl);
   })
 
-  figures_by : (k : FollowUp) → o.follow ≡ k → FiguresFollow N copies (Observe o ∷ h) (follow_by N by_key by_number k l.counts.follow ring keys slots after o).follow
-  figures_by follow.Absent e = figures_without N copies h l.counts.follow figures o (ap follow_of e)
-  figures_by (follow.Telemetry f) e =
+  figures_by : (k : Option FollowUpTelemetry) → o.follow ≡ k → FiguresFollow N copies (Observe o ∷ h) (follow_by N by_key by_number k l.counts.follow ring keys slots after o).follow
+  figures_by None e = figures_without N copies h l.counts.follow figures o (ap follow_of e)
+  figures_by (Some f) e =
       figures_with N copies h l.counts.follow figures o f (ap follow_of e) (slot_of (words_at N slots (holder_of N by_key by_number ring keys slots after f.sequence)))
       (slot_at_lem N by_key by_number slot t start f.sequence)
 

@@ -1,5 +1,7 @@
 -- Which words of the links a call leaves alone: the probes change lane 4 only, the keys lanes 0 and 2, whatever the rooms hold.
 -- Assumes nothing.
+use Rattle.std.specs.Prelude.{Option, None}
+use Rattle.call_types.specs.declared.PendingPacket.{PendingPacket}
 use mathlib.Core.Path.{◌≡◌, refl, ◌∙◌}
 use mathlib.Core.Bool.{Bool, true, false, cond}
 use mathlib.Core.Logic.{◌≢◌}
@@ -10,8 +12,6 @@ use lib.Dec.{eqb, ltb}
 use lib.ListN.{length, get_or, set, length-set, length-map}
 use lib.Seq.{get_or-set_other}
 use Rattle.call_types.specs.declared.ReplyKey.{ReplyKey}
-use Rattle.call_types.specs.declared.Pending.{Pending}
-use Rattle.call_types.specs.declared.Ordinal.TheVariants as ordinal
 use Rattle.chains.specs.Rings.{wrap, push_slot}
 use Rattle.chains.specs.Links.{word_of, set_word, newest, older, linked, ended, Rows}
 use Rattle.chains.specs.Walk.{place_of}
@@ -151,13 +151,13 @@ module _ (lane : ℕ) where
               (pushed_elsewhere (taken_out N r (probes.slot_of N hash r p.sequence)) p)
           go false = pushed_elsewhere r p
 
-      pub readied_elsewhere : (by_key : ReplyKey → ℕ) (r : Rooms) (slot : ℕ) (k : ReplyKey) (p : Pending) → Untouched lane r.links (readied N by_key hash r slot k p).links
+      pub readied_elsewhere : (by_key : ReplyKey → ℕ) (r : Rooms) (slot : ℕ) (k : ReplyKey) (p : Option PendingPacket) → Untouched lane r.links (readied N by_key hash r slot k p).links
       unfolding readied
       readied_elsewhere by_key r slot k p = go (ltb slot N)
         where
-          go : (t : Bool) → Untouched lane r.links (cond t (probes.outcome r.rows r.links (record { ring = r.ring; slot = slot; evicted = false; lost = false })) (pushed N hash r (unanswered k.sender (packet_after p no_packet) ordinal.Absent 0))).links
+          go : (t : Bool) → Untouched lane r.links (cond t (probes.outcome r.rows r.links (record { ring = r.ring; slot = slot; evicted = false; lost = false })) (pushed N hash r (unanswered k.sender (packet_after p no_packet) None 0))).links
           go true = same r.links
-          go false = pushed_elsewhere r (unanswered k.sender (packet_after p no_packet) ordinal.Absent 0)
+          go false = pushed_elsewhere r (unanswered k.sender (packet_after p no_packet) None 0)
 
   -- ---- the keys
 

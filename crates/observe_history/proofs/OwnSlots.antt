@@ -1,25 +1,23 @@
 -- What the follow-up of an observation and then its own slot leave in the rooms, as in the history. Assumes nothing.
+use Rattle.correlation.specs.Class.{Class}
+use Rattle.std.specs.Prelude.{Some, None, Option, Ok, Err}
+use Rattle.correlation.specs.declared.ReplyRecord.{ReplyRecord}
 use mathlib.Core.Path.{◌≡◌, refl, sym, ap, ap₂, ◌∙◌, subst}
 use mathlib.Core.Bool.{Bool, true, false, ◌&&◌, cond}
 use mathlib.Core.List.{List, [], ◌∷◌}
-use mathlib.Core.Option.{Option, some}
 use Prim.Native.Nat.{ℕ, suc, ◌≤◌, ◌<◌}
 use native.Mathlib.Omega.{arith}
 use lib.Dec.{eqb, ltb}
 use lib.IntN.{ℤ}
 use lib.ListN.{length, get_or, set}
 use Rattle.call_types.specs.declared.ReplyKey.{ReplyKey}
-use Rattle.call_types.specs.declared.FollowUp.{FollowUp}
-use Rattle.call_types.specs.declared.FollowUp.TheVariants as follow
 use Rattle.call_types.specs.declared.FollowUpTelemetry.{FollowUpTelemetry}
 use Rattle.call_types.specs.declared.ReplyObservation.{ReplyObservation}
 use Rattle.chains.proofs.Contents.{length-contents}
 use Rattle.chains.proofs.Tests.{Test, holds, fails, eq_test}
 use Rattle.ranges.specs.Ranges.{in_range}
 use Rattle.correlation.specs.declared.Slot.{Slot}
-use Rattle.correlation.specs.declared.Unique.{Unique}
-use Rattle.correlation.specs.declared.follow.Class.{Class}
-use Rattle.correlation.specs.declared.follow.Class.TheVariants as class
+use Rattle.correlation.specs.declared.follow.Miss.TheVariants as miss
 use Rattle.correlation.specs.Words.{slot_of, words_of as slot_words}
 use Rattle.correlation.specs.Slots.{raise_by, raised, corrected_slot}
 use Rattle.correlation.proofs.Back.{RecordFits, words_back}
@@ -72,21 +70,21 @@ module _ (N : ℕ) (by_key : ReplyKey → ℕ) (by_number : ℕ → ℕ) (slot :
         go false = refl
 
     by_class : (k : Class) → found ≡ k → HeldBy (class_from k) (with (corrected_at k N t.slots (holder f.sequence)))
-    by_class class.Unavailable e = h
-    by_class class.Ambiguous e = h
-    by_class class.Unmatched e = h
-    by_class class.Repeated e = h
-    by_class (class.Matched m) e =
+    by_class (Err miss.Unavailable) e = h
+    by_class (Err miss.Ambiguous) e = h
+    by_class (Err miss.Unmatched) e = h
+    by_class (Err miss.Repeated) e = h
+    by_class (Ok m) e =
         subst (λ (slots : List (List ℕ)). HeldBy matched (with slots)) (sym (corrects (holder f.sequence)))
         (held_corrected N by_key by_number slot t h f.sequence (matched_some f own offset (slot_of (words_at N t.slots (holder f.sequence))) m e))
 
-    followed-held : Held N by_key by_number (following (some f) own offset slot) (with (corrected_at found N t.slots (holder f.sequence)))
+    followed-held : Held N by_key by_number (following (Some f) own offset slot) (with (corrected_at found N t.slots (holder f.sequence)))
     followed-held = subst (λ (x : FollowClass). HeldBy x (with (corrected_at found N t.slots (holder f.sequence)))) class_is (by_class found refl)
 
-  pub held-followed : (k : FollowUp) (fs : FollowUps) (o : ReplyObservation)
+  pub held-followed : (k : Option FollowUpTelemetry) (fs : FollowUps) (o : ReplyObservation)
       → Held N by_key by_number (following (follow_of k) o.key.reflector o.offset slot) (with (follow_by N by_key by_number k fs t.ring t.keys t.slots t.links o).slots)
-  held-followed follow.Absent fs o = h
-  held-followed (follow.Telemetry f) fs o = followed-held f o.key.reflector o.offset
+  held-followed None fs o = h
+  held-followed (Some f) fs o = followed-held f o.key.reflector o.offset
 
   -- ---- the own slot
 
@@ -98,7 +96,7 @@ module _ (N : ℕ) (by_key : ReplyKey → ℕ) (by_number : ℕ → ℕ) (slot :
     abbrev before : Slot
     before = slot_of (words_at N t.slots (holder own))
 
-    abbrev u : Unique
+    abbrev u : Option ReplyRecord
     u = unique_from copies o
 
     abbrev words : List ℕ

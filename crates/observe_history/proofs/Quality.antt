@@ -1,7 +1,8 @@
 -- The clock quality that the state keeps, sample by sample, is that of the plain list. Assumes nothing.
+use Rattle.std.specs.Prelude.{Option}
+use Rattle.estimate.specs.declared.ErrorEstimate.{ErrorEstimate}
 use mathlib.Core.Path.{◌≡◌, refl}
 use mathlib.Core.List.{List, [], ◌∷◌}
-use Rattle.estimate.specs.declared.Estimates.{Estimates}
 use Rattle.clock_quality.specs.declared.ClockQuality.{ClockQuality}
 use Rattle.clock_quality.specs.Quality.{fresh, recorded_of}
 use Rattle.clock_quality.specs.Samples.{played, Shows, AddsUp}
@@ -9,7 +10,7 @@ use Rattle.clock_quality.proofs.Samples.{recorded-shows, fresh-shows, played-sho
 use Rattle.history.specs.Figures.{quality_of}
 
 -- what shows a list is the quality of that list
-pub shows_is : (es : List Estimates) (q : ClockQuality) → Shows es q → q ≡ quality_of es
+pub shows_is : (es : List (Option (ErrorEstimate × ErrorEstimate))) (q : ClockQuality) → Shows es q → q ≡ quality_of es
 shows_is es q s = λ i. record {
   samples = s.samples i;
   both = s.both i;
@@ -24,7 +25,7 @@ shows_is es q s = λ i. record {
   largest = s.largest i;
 }
 
-pub is_shown : (es : List Estimates) → Shows es (quality_of es)
+pub is_shown : (es : List (Option (ErrorEstimate × ErrorEstimate))) → Shows es (quality_of es)
 is_shown es = record {
   samples = refl;
   both = refl;
@@ -42,13 +43,13 @@ is_shown es = record {
 pub fresh-quality : fresh ≡ quality_of []
 fresh-quality = shows_is [] fresh fresh-shows
 
-pub one_sample_more : (es : List Estimates) (e : Estimates) → recorded_of (quality_of es) e ≡ quality_of (e ∷ es)
+pub one_sample_more : (es : List (Option (ErrorEstimate × ErrorEstimate))) (e : Option (ErrorEstimate × ErrorEstimate)) → recorded_of (quality_of es) e ≡ quality_of (e ∷ es)
 one_sample_more es e = shows_is (e ∷ es) (recorded_of (quality_of es) e) (recorded-shows (quality_of es) es e (is_shown es))
 
 -- recording the samples of a list from fresh leaves the quality of that list
-pub quality-played : (es : List Estimates) → played es ≡ quality_of es
+pub quality-played : (es : List (Option (ErrorEstimate × ErrorEstimate))) → played es ≡ quality_of es
 quality-played es = shows_is es (played es) (played-shows es)
 
 -- "the three add up to the invalid count that exists", of every list of samples
-pub quality_adds_up : (es : List Estimates) → AddsUp (quality_of es)
+pub quality_adds_up : (es : List (Option (ErrorEstimate × ErrorEstimate))) → AddsUp (quality_of es)
 quality_adds_up es = invalid_adds_up es

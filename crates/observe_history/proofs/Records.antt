@@ -1,7 +1,7 @@
 -- The record that a served observation leaves: it fits its words, and is the history's. Assumes nothing.
+use Rattle.std.specs.Prelude.{Some, None, Option}
 use mathlib.Core.Path.{◌≡◌, refl, ap, ap₂}
 use mathlib.Core.Bool.{Bool, true, false, ◌&&◌, cond}
-use mathlib.Core.Option.{Option, none, some}
 use Prim.Native.Nat.{ℕ, ◌≤◌, ◌<◌}
 use native.Mathlib.Omega.{arith}
 use lib.Dec.{eqb, ltb}
@@ -10,10 +10,6 @@ use borrow.Author.Tests.{leb-true}
 use mir.Syntax.{w64}
 use mir.Val.{SFits}
 use Rattle.estimate.specs.declared.ErrorEstimate.{ErrorEstimate}
-use Rattle.estimate.specs.declared.Estimates.{Estimates}
-use Rattle.estimate.specs.declared.Estimates.TheVariants as estimates
-use Rattle.call_types.specs.declared.Time.{Time}
-use Rattle.call_types.specs.declared.Time.TheVariants as time
 use Rattle.call_types.specs.declared.ReplyObservation.{ReplyObservation}
 use Rattle.chains.proofs.Tests.{true_not_false}
 use Rattle.ranges.specs.Ranges.{time_fits, reference_within, offset_within, scale_within, estimates_fit, in_range}
@@ -51,25 +47,25 @@ in_range_lem o e =
 scale_below : (e : ErrorEstimate) → scale_within e ≡ true → e.scale < 64
 scale_below e h = let l : e.scale ≤ 63 = leb-true e.scale 63 h in omega arith
 
-time-fits : (t : Time) → time_fits t ≡ true → TimeFits t
-time-fits time.Absent e = tt
-time-fits (time.Nanoseconds z) e = let l : nat_abs z ≤ 4000000000000000000 = leb-true (nat_abs z) 4000000000000000000 e in (under z (omega arith), e)
+time-fits : (t : Option ℤ) → time_fits t ≡ true → TimeFits t
+time-fits None e = tt
+time-fits (Some z) e = let l : nat_abs z ≤ 4000000000000000000 = leb-true (nat_abs z) 4000000000000000000 e in (under z (omega arith), e)
 
 reference-fits : (z : ℤ) → reference_within z ≡ true → SFits w64 z
 reference-fits z e = let l : nat_abs z ≤ 4000000000 = leb-true (nat_abs z) 4000000000 e in under z (omega arith)
 
-wires_fit : (q : Estimates) → estimates_fit q ≡ true → QualityFits q → WiresFit (wires_of q)
-wires_fit estimates.Absent e f = tt
-wires_fit (estimates.Pair s r) e f =
+wires_fit : (q : Option (ErrorEstimate × ErrorEstimate)) → estimates_fit q ≡ true → QualityFits q → WiresFit (wires_of q)
+wires_fit None e f = tt
+wires_fit (Some (s, r)) e f =
     let b = both (scale_within s) (scale_within r) e in
     (wire_below s (scale_below s b.0) f.0, wire_below r (scale_below r b.1) f.1)
 
 -- the estimates survive their wires
-wires-say : (q : Estimates) → estimates_fit q ≡ true → QualityFits q → pair_of (wires_of q) ≡ given.estimates_of q
-wires-say estimates.Absent e f = refl
-wires-say (estimates.Pair s r) e f =
+wires-say : (q : Option (ErrorEstimate × ErrorEstimate)) → estimates_fit q ≡ true → QualityFits q → pair_of (wires_of q) ≡ given.estimates_of q
+wires-say None e f = refl
+wires-say (Some (s, r)) e f =
     let b = both (scale_within s) (scale_within r) e in
-    ap₂ (λ (x y : ErrorEstimate). some (record { sender = x; reflector = y })) (wire_back s (scale_below s b.0) f.0) (wire_back r (scale_below r b.1) f.1)
+    ap₂ (λ (x y : ErrorEstimate). Some (record { sender = x; reflector = y })) (wire_back s (scale_below s b.0) f.0) (wire_back r (scale_below r b.1) f.1)
 
 module _ (copies : ℕ) (o : ReplyObservation) (h : in_range o ≡ true) (f : QualityFits o.quality) where
   ranged : Ranged o
@@ -87,6 +83,6 @@ module _ (copies : ℕ) (o : ReplyObservation) (h : in_range o ≡ true) (f : Qu
   record_is = go (ltb 1 copies && eqb o.key.sender o.key.reflector)
     where
       go : (b : Bool) → kept_of (recorded b (record_from o))
-          ≡ cond b none (some (record { t4 = given.time_of o.t4; format = o.format; reference = o.reference; quality = given.estimates_of o.quality }))
+          ≡ cond b None (Some (record { t4 = given.time_of o.t4; format = o.format; reference = o.reference; quality = given.estimates_of o.quality }))
       go true = refl
-      go false = ap (λ (q : Option EstimatePair). some (record { t4 = given.time_of o.t4; format = o.format; reference = o.reference; quality = q })) (wires-say o.quality ranged.quality f)
+      go false = ap (λ (q : Option EstimatePair). Some (record { t4 = given.time_of o.t4; format = o.format; reference = o.reference; quality = q })) (wires-say o.quality ranged.quality f)

@@ -1,8 +1,8 @@
 -- Round trips follow from the served calls: a fresh ledger has them so, an observe adds its own, and no other call touches them. Assumes nothing.
+use Rattle.std.specs.Prelude.{Option, None}
 use mathlib.Core.Path.{◌≡◌, refl, sym, ap, ◌∙◌}
 use mathlib.Core.Bool.{Bool, true, false, cond}
 use mathlib.Core.List.{List, [], ◌∷◌}
-use mathlib.Core.Option.{Option, none}
 use Prim.Native.Nat.{ℕ}
 use lib.Dec.{ltb}
 use lib.IntN.{ℤ, pos}
@@ -39,7 +39,7 @@ module _ (N : ℕ) where
   unfolding ready round_trips
   ready-trips es k p = go (has (held N es) k.sender)
     where
-      go : (b : Bool) → round_trips (cond b es (remembered k.sender none 0 (or_else p no_packet) ∷ es)) ≡ round_trips es
+      go : (b : Bool) → round_trips (cond b es (remembered k.sender None 0 (or_else p no_packet) ∷ es)) ≡ round_trips es
       go true = refl
       go false = refl
 

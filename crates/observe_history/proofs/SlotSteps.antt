@@ -1,4 +1,5 @@
 -- What a follow-up and then the own slot do to the slot of each reflector number, over the rooms as in the history. Assumes nothing.
+use Rattle.std.specs.Prelude.{Ok}
 use mathlib.Core.Path.{◌≡◌, refl, sym, ap, ◌∙◌, subst}
 use mathlib.Core.Bool.{Bool, true, false, ◌&&◌, cond}
 use mathlib.Core.List.{List, [], ◌∷◌}
@@ -11,12 +12,10 @@ use Rattle.call_types.specs.declared.ReplyKey.{ReplyKey}
 use Rattle.call_types.specs.declared.FollowUpTelemetry.{FollowUpTelemetry}
 use Rattle.chains.proofs.Tests.{Test, holds, fails, eq_test, true_not_false}
 use Rattle.correlation.specs.declared.Slot.{Slot}
-use Rattle.correlation.specs.declared.follow.Found.{Found}
 use Rattle.correlation.specs.declared.follow.Match.{Match}
-use Rattle.correlation.specs.declared.follow.Class.TheVariants as class
 use Rattle.correlation.specs.Words.{slot_of}
 use Rattle.correlation.specs.Slots.{corrected_slot}
-use Rattle.correlation.specs.Class.{by_record, first, found_by, class_of}
+use Rattle.correlation.specs.Class.{Found, by_record, first, found_by, class_of}
 use Rattle.correlation.proofs.Back.{RecordFits}
 use Rattle.key_ring.specs.Rows.{no_slot, count_of, is_observed, Row, words_of, taken, change, Counted}
 use Rattle.key_ring.specs.Table.{Table, table_of, row_at, words_at, newest_slot, rows_of, holder_in, change_at, Sound}
@@ -44,14 +43,14 @@ fits-taken words f = go (eqb (count_of words) 0)
     go false = f
 
 -- what is matched has a count
-matched-counts : (a b d z o : Bool) (k : Found) (w : ℕ) (offset : ℤ) (m : Match) → class_of (first a b d z o k) w offset ≡ class.Matched m → z ≡ false
+matched-counts : (a b d z o : Bool) (k : Found) (w : ℕ) (offset : ℤ) (m : Match) → class_of (first a b d z o k) w offset ≡ Ok m → z ≡ false
 matched-counts true b d z o k w offset m e = cc
 matched-counts false true d z o k w offset m e = cc
 matched-counts false false true z o k w offset m e = cc
 matched-counts false false false true o k w offset m e = cc
 matched-counts false false false false o k w offset m e = refl
 
-pub matched_some : (f : FollowUpTelemetry) (own : ℕ) (offset : ℤ) (s : Slot) (m : Match) → class_in f own offset s ≡ class.Matched m → eqb s.count 0 ≡ false
+pub matched_some : (f : FollowUpTelemetry) (own : ℕ) (offset : ℤ) (s : Slot) (m : Match) → class_in f own offset s ≡ Ok m → eqb s.count 0 ≡ false
 unfolding found_by
 matched_some f own offset s m e =
     matched-counts f.unknown (eqb f.timestamp 0) (eqb f.sequence own) (eqb s.count 0) (eqb s.count 1) (by_record s.corrected s.unique) f.timestamp offset m e

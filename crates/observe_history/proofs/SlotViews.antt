@@ -1,8 +1,9 @@
 -- What a raised, a lowered and a corrected slot are in the history's words. Assumes nothing.
+use Rattle.std.specs.Prelude.{Option}
+use Rattle.correlation.specs.declared.ReplyRecord.{ReplyRecord}
 use mathlib.Core.Path.{◌≡◌, refl, sym, ap, ◌∙◌}
 use mathlib.Core.Bool.{Bool, true, false, cond}
 use mathlib.Core.List.{List}
-use mathlib.Core.Option.{Option}
 use Prim.Native.Nat.{ℕ, zero, suc, ◌+◌, ◌-◌, ◌*◌, ◌/◌, ◌%◌, ◌≤◌, ◌<◌}
 use native.Mathlib.Omega.{arith}
 use native.Mathlib.Numerals.{add-one}
@@ -11,7 +12,6 @@ use Rattle.estimate.specs.declared.ErrorEstimate.{ErrorEstimate}
 use Rattle.estimate.specs.Wire.{bit, estimate_of, wire_of}
 use Rattle.chains.proofs.Tests.{Test, holds, fails, eq_test, eq_true, eq_false, lt_true}
 use Rattle.correlation.specs.declared.Slot.{Slot}
-use Rattle.correlation.specs.declared.Unique.{Unique}
 use Rattle.correlation.specs.Words.{slot_of}
 use Rattle.correlation.specs.Slots.{raise_by, raised, lowered, corrected_slot}
 use Rattle.key_ring.specs.Rows as rows
@@ -61,7 +61,7 @@ view_corrected s = go (eqb s.count 0)
     go false = refl
 
 -- "if there is none, one is made with count 1, not corrected"; "if there is one, its count rises and its record is dropped for good"
-pub view_raised : (s : Slot) (u : Unique) → s.count < 65535 → slot_from (raised s u) ≡ raise (kept_of u) (slot_from s)
+pub view_raised : (s : Slot) (u : Option ReplyRecord) → s.count < 65535 → slot_from (raised s u) ≡ raise (kept_of u) (slot_from s)
 unfolding raised
 view_raised s u l = go (eq_test s.count 0)
   where
@@ -69,7 +69,7 @@ view_raised s u l = go (eq_test s.count 0)
     go (holds p t) = rw t
     go (fails p t) = rw (t, lt_true s.count 65535 l, add-one s.count, eq_false (suc s.count) 0 (λ e. omega (arith, e)))
 
-pub count-raised : (s : Slot) (u : Unique) → s.count < 65535 → ((raised s u).count < 65536) × ((raised s u).count ≤ suc s.count)
+pub count-raised : (s : Slot) (u : Option ReplyRecord) → s.count < 65535 → ((raised s u).count < 65536) × ((raised s u).count ≤ suc s.count)
 unfolding raised
 count-raised s u l = go (eqb s.count 0)
   where
@@ -77,7 +77,7 @@ count-raised s u l = go (eqb s.count 0)
     go true = (omega arith, omega arith)
     go false = rw (lt_true s.count 65535 l) (omega arith, omega arith)
 
-pub observed-raised : (s : Slot) (u : Unique) → (raised s u).observed ≡ true
+pub observed-raised : (s : Slot) (u : Option ReplyRecord) → (raised s u).observed ≡ true
 unfolding raised
 observed-raised s u = go (eqb s.count 0)
   where

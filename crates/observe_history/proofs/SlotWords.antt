@@ -1,5 +1,7 @@
 -- A slot is written back into its row with its correction: the row's flag and count stay, and its words say the corrected slot.
 -- Assumes nothing.
+use Rattle.std.specs.Prelude.{Option, Some, None}
+use Rattle.correlation.specs.declared.ReplyRecord.{ReplyRecord}
 use mathlib.Core.Path.{◌≡◌, refl, ◌∙◌}
 use mathlib.Core.Bool.{Bool, true, false}
 use mathlib.Core.List.{List}
@@ -9,8 +11,6 @@ use lib.Dec.{eqb}
 use lib.ListN.{length, get_or}
 use Rattle.chains.proofs.Tests.{eq_true, eq_false}
 use Rattle.correlation.specs.declared.Slot.{Slot}
-use Rattle.correlation.specs.declared.Unique.{Unique}
-use Rattle.correlation.specs.declared.Unique.TheVariants as unique
 use Rattle.correlation.specs.Words.{bit, slot_flags, record_flags, sender_wire, reflector_wire, joined, words_by, words_of, slot_of}
 use Rattle.correlation.specs.Slots.{corrected_slot}
 use Rattle.correlation.proofs.Back.{RecordFits, words_back}
@@ -43,17 +43,17 @@ count-below words = small (get_or words 0 0)
     small : (w : ℕ) → w % 65536 < 65536
     small w = omega arith
 
-words_count : (n : ℕ) (o d : Bool) (u : Unique) → n < 65536 → count_of (words_by n (bit o + 2 * bit d) u) ≡ n
-words_count n o d unique.Absent l = count_at n (bit o) (bit d) 0 0 0 l (bit_below o)
-words_count n o d (unique.Record r) l = count_at n (bit o) (bit d) (record_flags r) (sender_wire r.quality) (reflector_wire r.quality) l (bit_below o)
+words_count : (n : ℕ) (o d : Bool) (u : Option ReplyRecord) → n < 65536 → count_of (words_by n (bit o + 2 * bit d) u) ≡ n
+words_count n o d None l = count_at n (bit o) (bit d) 0 0 0 l (bit_below o)
+words_count n o d (Some r) l = count_at n (bit o) (bit d) (record_flags r) (sender_wire r.quality) (reflector_wire r.quality) l (bit_below o)
 
-words-observed : (n : ℕ) (o d : Bool) (u : Unique) → n < 65536 → is_observed (words_by n (bit o + 2 * bit d) u) ≡ o
-words-observed n o d unique.Absent l = is_bit o _ (observed-at n (bit o) (bit d) 0 0 0 l (bit_below o))
-words-observed n o d (unique.Record r) l = is_bit o _ (observed-at n (bit o) (bit d) (record_flags r) (sender_wire r.quality) (reflector_wire r.quality) l (bit_below o))
+words-observed : (n : ℕ) (o d : Bool) (u : Option ReplyRecord) → n < 65536 → is_observed (words_by n (bit o + 2 * bit d) u) ≡ o
+words-observed n o d None l = is_bit o _ (observed-at n (bit o) (bit d) 0 0 0 l (bit_below o))
+words-observed n o d (Some r) l = is_bit o _ (observed-at n (bit o) (bit d) (record_flags r) (sender_wire r.quality) (reflector_wire r.quality) l (bit_below o))
 
-words_three : (n k : ℕ) (u : Unique) → length (words_by n k u) ≡ 3
-words_three n k unique.Absent = refl
-words_three n k (unique.Record r) = refl
+words_three : (n k : ℕ) (u : Option ReplyRecord) → length (words_by n k u) ≡ 3
+words_three n k None = refl
+words_three n k (Some r) = refl
 
 pub three : (s : Slot) → length (words_of s) ≡ 3
 unfolding words_of

@@ -1,18 +1,11 @@
 -- What it means that the direct measurement of the state and the room of its seen offsets follow from the plain list of served calls
 -- (crate history, newest first). Assumes nothing.
-use Rattle.std.specs.Prelude.{◌≡◌, List, [], ◌∷◌, ℕ, length}
-use Rattle.std.proofs.Math.Option.{Option, none, some}
+use Rattle.std.specs.Prelude.{◌≡◌, List, [], ◌∷◌, ℕ, length, Some, None, Option}
 use Rattle.call_types.specs.declared.CounterPoint.{CounterPoint}
-use Rattle.call_types.specs.declared.Counters.{Counters}
-use Rattle.call_types.specs.declared.Counters.TheVariants as counters
 use Rattle.call_types.specs.declared.Call.{Call}
 use Rattle.direct.specs.declared.Counts.{Counts}
 use Rattle.direct.specs.declared.Epoch.{Epoch}
-use Rattle.direct.specs.declared.Window.{Window}
-use Rattle.direct.specs.declared.Window.TheVariants.{Closed, Open}
 use Rattle.direct.specs.declared.Direct.{Direct}
-use Rattle.direct.specs.declared.summary.Packets.{Packets}
-use Rattle.direct.specs.declared.summary.Packets.TheVariants.{Absent, Number}
 use Rattle.direct.specs.declared.summary.Spans.{Spans as ShownSpans}
 use Rattle.direct.specs.declared.summary.DirectSummary.{DirectSummary}
 use Rattle.direct.specs.Outcomes.{seen_in}
@@ -30,9 +23,9 @@ abbrev pub epoch_of : CounterPoint → List CounterPoint → Epoch
 epoch_of a w = record { anchor = a; latest = latest a w; sender = sender_maximum a w; received = received_maximum a w; seen = length w }
 
 -- without counters there is no anchor; with them it is the oldest
-abbrev pub window_of : List CounterPoint → Window
-window_of [] = Closed
-window_of (c ∷ w) = Open (epoch_of (anchor_of c w) (c ∷ w))
+abbrev pub window_of : List CounterPoint → Option Epoch
+window_of [] = None
+window_of (c ∷ w) = Some (epoch_of (anchor_of c w) (c ∷ w))
 
 -- the transmit offsets since the anchor
 abbrev pub seen_since : List CounterPoint → List ℕ
@@ -52,25 +45,25 @@ as_direct_counts n = record {
 -- ---- what is shown
 
 -- a number of packets, where it is shown
-abbrev pub packets_of : Option ℕ → Packets
-packets_of none = Absent
-packets_of (some n) = Number n
+abbrev pub packets_of : Option ℕ → Option ℕ
+packets_of None = None
+packets_of (Some n) = Some n
 
 -- the counters, where they are shown
-abbrev pub point_of : Option CounterPoint → Counters
-point_of none = counters.Absent
-point_of (some c) = counters.Point c
+abbrev pub point_of : Option CounterPoint → Option CounterPoint
+point_of None = None
+point_of (Some c) = Some c
 
 -- the figures of the window: all of them or none
 abbrev pub spans_shown : Option Spans → ShownSpans
-spans_shown none = no_spans
-spans_shown (some s) = record {
-  sent = Number s.sender_packets;
-  received = Number s.reflector_received;
+spans_shown None = no_spans
+spans_shown (Some s) = record {
+  sent = Some s.sender_packets;
+  received = Some s.reflector_received;
   forward = packets_of s.forward_missing;
-  transmitted = Number s.reflector_transmitted;
-  replies = Number s.replies_received;
-  reverse = Number s.reverse-missing;
+  transmitted = Some s.reflector_transmitted;
+  replies = Some s.replies_received;
+  reverse = Some s.reverse-missing;
 }
 
 -- N: how many offsets are remembered

@@ -1,16 +1,11 @@
 -- What it means that the follow-ups of the state and the correlation slots in the rooms follow from the plain list of served calls
 -- (crate history, newest first). N is how many keys are held. Assumes nothing.
-use Rattle.std.specs.Prelude.{◌≡◌, Bool, true, false, cond, List, [], ℕ, ◌<◌, eqb, get_or}
-use Rattle.std.proofs.Math.Option.{Option, none, some}
-use Rattle.estimate.specs.declared.Estimates.{Estimates}
-use Rattle.estimate.specs.declared.Estimates.TheVariants as estimates
+use Rattle.correlation.specs.declared.ReplyRecord.{ReplyRecord}
+use Rattle.estimate.specs.declared.ErrorEstimate.{ErrorEstimate}
+use Rattle.std.specs.Prelude.{◌≡◌, Bool, true, false, cond, List, [], ℕ, ◌<◌, eqb, get_or, Some, None, Option}
 use Rattle.estimate.specs.Wire.{estimate_of}
 use Rattle.call_types.specs.declared.Call.{Call}
 use Rattle.correlation.specs.declared.Slot.{Slot}
-use Rattle.correlation.specs.declared.Unique.{Unique}
-use Rattle.correlation.specs.declared.Unique.TheVariants as recorded
-use Rattle.correlation.specs.declared.Wires.{Wires}
-use Rattle.correlation.specs.declared.Wires.TheVariants as wires
 use Rattle.correlation.specs.Words.{slot_of}
 use Rattle.correlation.specs.Fits.{RecordFits}
 use Rattle.key_ring.specs.Rows.{is_observed, slot_in, Counted}
@@ -28,14 +23,14 @@ use Rattle.observe_history.specs.RoundTrips.{delays_from}
 -- ---- a slot of the rooms, in the history's words
 
 -- the estimates of a record
-abbrev pub pair_of : Wires → Option EstimatePair
-pair_of wires.Absent = none
-pair_of (wires.Pair s r) = some (record { sender = estimate_of s; reflector = estimate_of r })
+abbrev pub pair_of : Option (ℕ × ℕ) → Option EstimatePair
+pair_of None = None
+pair_of (Some (s, r)) = Some (record { sender = estimate_of s; reflector = estimate_of r })
 
 -- its record, or none
-abbrev pub kept_of : Unique → Option Kept
-kept_of recorded.Absent = none
-kept_of (recorded.Record r) = some (record { t4 = time_of r.t4; format = r.format; reference = r.reference; quality = pair_of r.quality })
+abbrev pub kept_of : Option ReplyRecord → Option Kept
+kept_of None = None
+kept_of (Some r) = Some (record { t4 = time_of r.t4; format = r.format; reference = r.reference; quality = pair_of r.quality })
 
 -- a slot of count 0 is free
 abbrev pub slot_from : Slot → history.Slot
@@ -78,6 +73,6 @@ pub record FollowsFollow (N copies : ℕ) (h : List Call) (s : LedgerStand) : Ty
   pub slots : SlotsFollow N copies h (table_of s.rooms.keys s.rooms.slots s.rooms.links s.ledger.tables.keys) s.ledger.tables.awaits
 
 -- the types of an observation's estimates: a multiplier has eight bits
-abbrev pub QualityFits : Estimates → Type 0
-QualityFits estimates.Absent = Unit
-QualityFits (estimates.Pair s r) = (s.multiplier < 256) × (r.multiplier < 256)
+abbrev pub QualityFits : Option (ErrorEstimate × ErrorEstimate) → Type 0
+QualityFits None = Unit
+QualityFits (Some (s, r)) = (s.multiplier < 256) × (r.multiplier < 256)

@@ -1,12 +1,9 @@
 -- What it means that the delays of the state, those of the round trips and those of the follow-ups, follow from the plain list of served calls.
 -- Assumes nothing.
-use Rattle.std.specs.Prelude.{◌≡◌, List, ℕ, ℤ}
-use Rattle.std.proofs.Math.Option.{Option, none, some}
+use Rattle.std.specs.Float.Ieee.{Float}
+use Rattle.delays.specs.declared.Nanoseconds.{Nanoseconds}
+use Rattle.std.specs.Prelude.{◌≡◌, List, ℕ, ℤ, Some, None, Option}
 use Rattle.call_types.specs.declared.Call.{Call}
-use Rattle.delays.specs.declared.Extreme.{Extreme}
-use Rattle.delays.specs.declared.Extreme.TheVariants as extreme
-use Rattle.delays.specs.declared.Milliseconds.{Milliseconds}
-use Rattle.delays.specs.declared.Milliseconds.TheVariants as milliseconds
 use Rattle.delays.specs.declared.Delays.{Delays}
 use Rattle.delays.specs.declared.DelaySummary.{DelaySummary}
 use Rattle.delays.specs.Sums.{nanoseconds_of, sum_of}
@@ -17,9 +14,9 @@ use Rattle.ledger_steps.specs.Rooms.{LedgerStand}
 -- ---- the state of these figures: sign and words of each integer
 
 -- the least or the greatest
-abbrev pub extreme_of : Option ℤ → Extreme
-extreme_of none = extreme.Absent
-extreme_of (some z) = extreme.At (nanoseconds_of z)
+abbrev pub extreme_of : Option ℤ → Option Nanoseconds
+extreme_of None = None
+extreme_of (Some z) = Some (nanoseconds_of z)
 
 -- the whole
 abbrev pub delays_from : Figures → Delays
@@ -28,9 +25,9 @@ delays_from f = record { count = f.samples; sum = sum_of f.sum; min = extreme_of
 -- ---- what is shown of these figures
 
 -- the minimum or the maximum, in ms
-abbrev pub shown_ms : Option ℤ → Milliseconds
-shown_ms none = milliseconds.Absent
-shown_ms (some z) = milliseconds.Known (in_ms z)
+abbrev pub shown_ms : Option ℤ → Option Float
+shown_ms None = None
+shown_ms (Some z) = Some (in_ms z)
 
 -- with the average
 abbrev pub shown_from : Figures → DelaySummary

@@ -23,6 +23,7 @@ pub fn contains(
     requires { (length offsets.now ≡ capacity) × (length links.now ≡ capacity) × (count ≤ capacity) }
     ensures { result ≡ contains capacity (number_hash secret) (offset_set offsets.now links.now count) offset }
 {
+    // No index is counted: a chain is walked, by links.
     let hash = number_hash(secret, offset);
     let mut bound = count;
     let mut slot = first(links, LANE, hash);

@@ -5,6 +5,9 @@ use mathlib.Core.Bool.{Bool, true, false}
 use mathlib.Core.List.{List, map}
 use Prim.Native.Nat.{ℕ}
 use native.Mathlib.Omega.{arith}
+use Rattle.limits.specs.declared.Refusal.{Refusal}
+use Rattle.limits.proofs.Numbers.{number_of_unique}
+use Rattle.quantiles.proofs.Numbers.{some_number}
 use contract.Lifetimes.{Lfts}
 use borrow.Fn.World as World
 use borrow.Fn.Kinds as Kinds'
@@ -12,35 +15,26 @@ use denote.Triple.Clauses as Clauses
 use lib.Dec.{eqb}
 use lib.Ieee.{Float}
 use Rattle.quantiles.specs.declared.Quantiles.{Quantiles}
-use Rattle.percentiles.specs.declared.Showing.{Showing}
-use Rattle.percentiles.specs.declared.Showing.TheVariants.{Refused, Empty, Shown}
+use Rattle.std.specs.Prelude.{Result, Ok, Err}
+use Rattle.limits.specs.declared.Refusal.TheVariants as refusal
 use Rattle.percentiles.specs.Percentiles.{Outcome, outcome, refuses, percentile, pick_outcome, percentiles_of}
 use Rattle.percentiles.specs.contracts.percentiles.{signature}
 use Rattle.percentiles.proofs.percentiles.Kinds as K
 use Rattle.percentiles.proofs.percentiles.Reads.{Post}
 
-no : ◌≡◌ {A = ℕ} 5 0 → ⊥
-no e = omega arith
-
 -- an outcome tells the answer
-same_answer : (a b : Showing) (l m : List ℕ) → outcome a l ≡ outcome b m → a ≡ b
+same_answer : (a b : Result Bool Refusal) (l m : List ℕ) → outcome a l ≡ outcome b m → a ≡ b
 unfolding outcome
-same_answer Refused Refused l m e = refl
-same_answer Refused Empty l m e = absurd (no (ap (λ (o : Outcome). o.number) e))
-same_answer Refused Shown l m e = absurd (no (ap (λ (o : Outcome). o.number) e))
-same_answer Empty Refused l m e = absurd (no (sym (ap (λ (o : Outcome). o.number) e)))
-same_answer Empty Empty l m e = refl
-same_answer Empty Shown l m e = cc (ap (λ (o : Outcome). o.values) e)
-same_answer Shown Refused l m e = cc (ap (λ (o : Outcome). o.values) e)
-same_answer Shown Empty l m e = cc (ap (λ (o : Outcome). o.values) e)
-same_answer Shown Shown l m e = refl
+same_answer (Err x) (Err y) l m e = ap Err (number_of_unique x y (ap (λ (o : Outcome). o.number) e))
+same_answer (Err x) (Ok t) l m e = absurd (some_number x (ap (λ (o : Outcome). o.number) e))
+same_answer (Ok t) (Err y) l m e = absurd (some_number y (sym (ap (λ (o : Outcome). o.number) e)))
+same_answer (Ok t) (Ok u) l m e = ap Ok (ap (λ (o : Outcome). o.values) e)
 
 -- and the lent words
-shown_of : (a : Showing) (l : List ℕ) → (outcome a l).shown ≡ l
+shown_of : (a : Result Bool Refusal) (l : List ℕ) → (outcome a l).shown ≡ l
 unfolding outcome
-shown_of Refused l = refl
-shown_of Empty l = refl
-shown_of Shown l = refl
+shown_of (Err x) l = refl
+shown_of (Ok t) l = refl
 
 -- any two exits that meet the contract are equal
 pub percentiles-unique : (κs : Lfts 3) (a : World.ArgsD signature κs) (r₁ r₂ : World.ResD signature κs) (s₁ s₂ : Clauses.AtExit (Kinds'.ended_of 3 K.ps K.r) κs)
@@ -56,8 +50,8 @@ pub no_values_change-nothing : (q : Quantiles) (room : List ℕ) (ps : List Floa
 unfolding percentiles_of outcome
 no_values_change-nothing q room ps shown e = by (refuses q room ps shown) (eqb q.count 0) e
   where
-    by : (r n : Bool) → (pick_outcome r (outcome Refused shown) (pick_outcome n (outcome Empty shown) (outcome Shown (map (percentile q room) ps)))).values ≡ false
-        → (pick_outcome r (outcome Refused shown) (pick_outcome n (outcome Empty shown) (outcome Shown (map (percentile q room) ps)))).shown ≡ shown
+    by : (r n : Bool) → (pick_outcome r (outcome (Err refusal.WrongRoom) shown) (pick_outcome n (outcome (Ok false) shown) (outcome (Ok true) (map (percentile q room) ps)))).values ≡ false
+        → (pick_outcome r (outcome (Err refusal.WrongRoom) shown) (pick_outcome n (outcome (Ok false) shown) (outcome (Ok true) (map (percentile q room) ps)))).shown ≡ shown
     by true n e = refl
     by false true e = refl
     by false false e = absurd (never e)
@@ -66,12 +60,12 @@ no_values_change-nothing q room ps shown e = by (refuses q room ps shown) (eqb q
         never e = let z : ◌≡◌ {A = ℕ} 0 1 = cc in omega arith
 
 -- and a refusal has no values
-pub refusal-has_no_values : (q : Quantiles) (room : List ℕ) (ps : List Float) (shown : List ℕ) → ((percentiles_of q room ps shown).number ≡ 0 → ⊥) → percentiles_of q room ps shown ≡ outcome Refused shown
+pub refusal-has_no_values : (q : Quantiles) (room : List ℕ) (ps : List Float) (shown : List ℕ) → ((percentiles_of q room ps shown).number ≡ 0 → ⊥) → percentiles_of q room ps shown ≡ outcome (Err refusal.WrongRoom) shown
 unfolding percentiles_of outcome
 refusal-has_no_values q room ps shown m = by (refuses q room ps shown) (eqb q.count 0) m
   where
-    by : (r n : Bool) → ((pick_outcome r (outcome Refused shown) (pick_outcome n (outcome Empty shown) (outcome Shown (map (percentile q room) ps)))).number ≡ 0 → ⊥)
-        → pick_outcome r (outcome Refused shown) (pick_outcome n (outcome Empty shown) (outcome Shown (map (percentile q room) ps))) ≡ outcome Refused shown
+    by : (r n : Bool) → ((pick_outcome r (outcome (Err refusal.WrongRoom) shown) (pick_outcome n (outcome (Ok false) shown) (outcome (Ok true) (map (percentile q room) ps)))).number ≡ 0 → ⊥)
+        → pick_outcome r (outcome (Err refusal.WrongRoom) shown) (pick_outcome n (outcome (Ok false) shown) (outcome (Ok true) (map (percentile q room) ps))) ≡ outcome (Err refusal.WrongRoom) shown
     by true n m = refl
     by false true m = absurd (m refl)
     by false false m = absurd (m refl)

@@ -7,7 +7,7 @@ use native.Mathlib.Omega.{arith}
 use lib.Ieee.{Float, nan}
 use lib.ListN.{length, get_or, set, take, drop, length-set}
 use lib.Seq.{set-get_or}
-use Rattle.rank.specs.Rank.{rank_of, rank_below}
+use Rattle.rank.specs.Rank.{rank_below}
 use Rattle.exact_rank.specs.Rank.{at_ranks}
 use Rattle.buckets.specs.Signed.{order}
 use Rattle.buckets.proofs.Facts.{lt_or_ge}

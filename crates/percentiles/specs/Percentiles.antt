@@ -1,7 +1,9 @@
 -- `percentiles`: what a call answers and shows, for every state, room, list of percentiles and lent answer. Assumes nothing.
-use Rattle.std.specs.Prelude.{Bool, true, false, not, ◌&&◌, ◌||◌, List, [], ◌∷◌, map, ℕ, ltb, leb, eqb, Float, length}
+use Rattle.std.specs.Prelude.{Bool, true, false, not, ◌&&◌, ◌||◌, List, [], ◌∷◌, map, ℕ, ltb, leb, eqb, Float, length, Result, Ok, Err}
 use Rattle.limits.specs.Limits.{capacity}
-use Rattle.limits.specs.Refusals.{wrong_room}
+use Rattle.limits.specs.declared.Refusal.{Refusal}
+use Rattle.limits.specs.declared.Refusal.TheVariants as refusal
+use Rattle.limits.specs.Numbers.{number_of}
 use Rattle.rank.specs.Rank.{rank_of}
 use Rattle.exact_rank.specs.Rank.{at_rank}
 use Rattle.buckets.specs.Buckets.{pick}
@@ -11,8 +13,6 @@ use Rattle.quantiles.specs.declared.Quantiles.{Quantiles}
 use Rattle.quantile_room.specs.Room.{totals, sized}
 use Rattle.quantiles.specs.State.{crossed}
 use Rattle.histogram_ranks.specs.Ranks.{block_at, lies, histogram_value}
-use Rattle.percentiles.specs.declared.Showing.{Showing}
-use Rattle.percentiles.specs.declared.Showing.TheVariants.{Refused, Empty, Shown}
 
 -- what a call leaves: the refusal's number, or 0; whether there are values; the lent answer
 pub record Outcome : Type 0 where
@@ -21,10 +21,9 @@ pub record Outcome : Type 0 where
   pub shown : List ℕ
 
 -- document 01's number and values for each case of the answer
-unfoldable pub outcome : Showing → List ℕ → Outcome
-outcome Refused shown = record { number = wrong_room; values = false; shown = shown }
-outcome Empty shown = record { number = 0; values = false; shown = shown }
-outcome Shown shown = record { number = 0; values = true; shown = shown }
+unfoldable pub outcome : Result Bool Refusal → List ℕ → Outcome
+outcome (Err r) shown = record { number = number_of r; values = false; shown = shown }
+outcome (Ok values) shown = record { number = 0; values = values; shown = shown }
 
 -- the block of a percentile's rank is such a one, whatever the rank
 unfoldable pub any_lies : Quantiles → List ℕ → List Float → Bool
@@ -62,4 +61,4 @@ pick_outcome false a b = b
 unfoldable pub percentiles_of : Quantiles → List ℕ → List Float → List ℕ → Outcome
 unfolding refuses percentile outcome
 percentiles_of q room ps shown =
-    pick_outcome (refuses q room ps shown) (outcome Refused shown) (pick_outcome (eqb q.count 0) (outcome Empty shown) (outcome Shown (map (percentile q room) ps)))
+    pick_outcome (refuses q room ps shown) (outcome (Err refusal.WrongRoom) shown) (pick_outcome (eqb q.count 0) (outcome (Ok false) shown) (outcome (Ok true) (map (percentile q room) ps)))

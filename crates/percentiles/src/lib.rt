@@ -1,4 +1,6 @@
 // `percentiles` of `Quantiles` in src/stats/quantiles.rs: as many percentiles as the caller lends words for the answer.
+#![tactic(auto)]
+
 ghost use Rattle.std.specs.Prelude.{◌≡◌, false, map, ◌+◌, ◌<◌, ◌≤◌, eqb, length};
 ghost use Rattle.buckets.specs.Signed.{order};
 ghost use Rattle.exact_rank.specs.Rank.{at_ranks, Ranks};
@@ -8,15 +10,8 @@ ghost use Rattle.quantiles.specs.State.{crossed};
 ghost use Rattle.percentiles.specs.Percentiles.{outcome, any_lies, spoilt, percentile, percentiles_of};
 ghost use Rattle.percentiles.specs.Fours.{or_last, rank_at, four_ranks, put_four};
 
+use limits::Refusal;
 use quantiles::Quantiles;
-
-// The answer of `percentiles`: refusal 5; no samples, so no values; or the values, in the lent answer.
-#[derive(Clone, Copy)]
-pub enum Showing {
-    Refused,
-    Empty,
-    Shown,
-}
 
 // Whether the totals add up to the count.
 fn totals_are(q: Quantiles, room: &[u64]) -> bool
@@ -32,14 +27,10 @@ fn any_lies(q: Quantiles, room: &[u64], ps: &[f64]) -> bool
     requires { (length room.now ≡ room_size q.signed) × (total (totals q.signed room.now) ≡ q.count) × (4096 < q.count) }
     ensures { result ≡ any_lies q room.now ps.now }
 {
-    let mut i = 0;
-    while i < ps.len() {
-        let p = ps[i];
-        let rank = rank::rank(p, q.count);
-        if histogram_ranks::rank_lies(q, room, rank) {
+    for p in ps {
+        if histogram_ranks::rank_lies(q, room, rank::rank(*p, q.count)) {
             return true;
         }
-        i += 1;
     }
     false
 }
@@ -109,10 +100,8 @@ fn show_exact(q: Quantiles, room: &[u64], ps: &[f64], shown: &mut [u64])
     requires { (q.count ≤ length room.now) × (q.count ≤ 4096) × (0 < q.count) × (length shown.old ≡ length ps.now) }
     ensures { shown.new ≡ map (percentile q room.now) ps.now }
 {
-    let mut i = 0;
-    while i < ps.len() {
+    for i in (0..ps.len()).step_by(4) {
         show_four(q, room, ps, shown, i);
-        i += 4;
     }
 }
 
@@ -121,49 +110,56 @@ fn show_buckets(q: Quantiles, room: &[u64], ps: &[f64], shown: &mut [u64])
     requires { (length room.now ≡ room_size q.signed) × (4096 < q.count) × (spoilt q room.now ps.now ≡ false) × (length shown.old ≡ length ps.now) }
     ensures { shown.new ≡ map (percentile q room.now) ps.now }
 {
-    let mut i = 0;
-    while i < ps.len() {
-        let p = ps[i];
-        let rank = rank::rank(p, q.count);
-        shown[i] = histogram_ranks::histogram_value(q, room, rank);
-        i += 1;
+    for (i, p) in ps.iter().enumerate() {
+        shown[i] = histogram_ranks::histogram_value(q, room, rank::rank(*p, q.count));
     }
 }
 
 // The percentiles of a histogram.
-fn show_histogram(q: Quantiles, room: &[u64], ps: &[f64], shown: &mut [u64]) -> Showing
+fn show_histogram(
+    q: Quantiles,
+    room: &[u64],
+    ps: &[f64],
+    shown: &mut [u64],
+) -> Result<bool, Refusal>
     requires { (length room.now ≡ room_size q.signed) × (length shown.old ≡ length ps.now) × (crossed q ≡ false) × (4096 < q.count) }
     ensures { outcome result shown.new ≡ percentiles_of q room.now ps.now shown.old }
 {
     if !totals_are(q, room) {
-        return Showing::Refused;
+        return Err(Refusal::WrongRoom);
     }
     if any_lies(q, room, ps) {
-        return Showing::Refused;
+        return Err(Refusal::WrongRoom);
     }
     show_buckets(q, room, ps, shown);
-    Showing::Shown
+    Ok(true)
 }
 
-// `percentiles`: the value of each of `ps`, in the word of `shown` that has its place.
-pub fn percentiles(q: Quantiles, room: &[u64], ps: &[f64], shown: &mut [u64]) -> Showing
+// `percentiles`: the value of each of `ps`, in the word of `shown` that has its place, and whether there are values: without samples there are none.
+// Refusal 5 leaves `shown` as it is.
+pub fn percentiles(
+    q: Quantiles,
+    room: &[u64],
+    ps: &[f64],
+    shown: &mut [u64],
+) -> Result<bool, Refusal>
     ensures { outcome result shown.new ≡ percentiles_of q room.now ps.now shown.old }
 {
     if room.len() != quantile_room::room_size(q.signed) {
-        return Showing::Refused;
+        return Err(Refusal::WrongRoom);
     }
     if shown.len() != ps.len() {
-        return Showing::Refused;
+        return Err(Refusal::WrongRoom);
     }
     if quantiles::min_above_max(q) {
-        return Showing::Refused;
+        return Err(Refusal::WrongRoom);
     }
     if 4096 < q.count {
         return show_histogram(q, room, ps, shown);
     }
     if q.count == 0 {
-        return Showing::Empty;
+        return Ok(false);
     }
     show_exact(q, room, ps, shown);
-    Showing::Shown
+    Ok(true)
 }

@@ -2,8 +2,8 @@
 // compare/src/parts/delays plays the same script on the original, and says what each word is.
 #![tactic(auto)]
 
-use delays::{Delays, Extreme, Milliseconds, Nanoseconds, Recorded, Sum};
-use play_script::{Call, Next};
+use delays::{Delays, Nanoseconds, Sum};
+use play_script::Call;
 use std::io;
 use std::io::{Read, Write};
 
@@ -14,34 +14,28 @@ struct Outcome {
     state: Delays,
 }
 
-#[derive(Clone, Copy)]
-enum After {
-    Stop,
-    Went(Delays),
-}
-
 fn flag(set: bool) -> u64 {
     if set { 1 } else { 0 }
 }
 
 fn recorded(state: Delays, ns: Nanoseconds) -> Outcome {
     match state.record(ns) {
-        Recorded::Delays(next) => Outcome {
+        Ok(next) => Outcome {
             refusal: 0,
             state: next,
         },
-        Recorded::Refused(number) => Outcome {
-            refusal: number as u64,
+        Err(why) => Outcome {
+            refusal: u8::from(why) as u64,
             state,
         },
     }
 }
 
-fn extreme_of(count: u64, word: u64) -> Extreme {
+fn extreme_of(count: u64, word: u64) -> Option<Nanoseconds> {
     if count == 0 {
-        return Extreme::Absent;
+        return None;
     }
-    Extreme::At(delays::from_i64(signed_words::signed64(word)))
+    Some(delays::from_i64(word.cast_signed()))
 }
 
 fn loaded(call: Call) -> Delays {
@@ -63,7 +57,7 @@ fn play(state: Delays, call: Call) -> Outcome {
     let operation = call.operation;
     match operation {
         1 => recorded(state, delays::from_u64(call.a)),
-        2 => recorded(state, delays::from_i64(signed_words::signed64(call.a))),
+        2 => recorded(state, delays::from_i64(call.a.cast_signed())),
         3 => Outcome {
             refusal: 0,
             state: loaded(call),
@@ -82,13 +76,13 @@ struct Words {
     value: u64,
 }
 
-fn ms_words(ms: Milliseconds) -> Words {
+fn ms_words(ms: Option<f64>) -> Words {
     match ms {
-        Milliseconds::Known(x) => Words {
+        Some(x) => Words {
             known: 1,
             value: play_script::bits_of(x),
         },
-        Milliseconds::Absent => Words { known: 0, value: 0 },
+        None => Words { known: 0, value: 0 },
     }
 }
 
@@ -100,14 +94,14 @@ struct ExtremeWords {
     magnitude: u64,
 }
 
-fn extreme_words(extreme: Extreme) -> ExtremeWords {
+fn extreme_words(extreme: Option<Nanoseconds>) -> ExtremeWords {
     match extreme {
-        Extreme::At(ns) => ExtremeWords {
+        Some(ns) => ExtremeWords {
             known: 1,
             negative: flag(ns.negative),
             magnitude: ns.magnitude,
         },
-        Extreme::Absent => ExtremeWords {
+        None => ExtremeWords {
             known: 0,
             negative: 0,
             magnitude: 0,
@@ -160,15 +154,15 @@ fn write_summary<W: Write>(to: &mut W, state: Delays) -> io::Result<()> {
 }
 
 // One call, if there is one.
-fn turn<R: Read, W: Write>(from: &mut R, to: &mut W, state: Delays) -> io::Result<After> {
+fn turn<R: Read, W: Write>(from: &mut R, to: &mut W, state: Delays) -> io::Result<Option<Delays>> {
     match play_script::read(from)? {
-        Next::End => Ok(After::Stop),
-        Next::Told(call) => {
+        None => Ok(None),
+        Some(call) => {
             let outcome = play(state, call);
             let next = outcome.state;
             write_state(to, outcome.refusal, next)?;
             write_summary(to, next)?;
-            Ok(After::Went(next))
+            Ok(Some(next))
         }
     }
 }
@@ -177,17 +171,11 @@ fn main(rt: HostRuntime) -> io::Result<()> {
     let mut from = rt.stdin();
     let mut to = rt.stdout();
     let mut state = Delays::new();
-    let mut turns = u64::MAX;
-    while turns > 0 {
+    for _ in 0..u64::MAX {
         match turn(&mut from, &mut to, state)? {
-            After::Stop => {
-                return Ok(());
-            }
-            After::Went(next) => {
-                state = next;
-            }
+            None => return Ok(()),
+            Some(next) => state = next,
         }
-        turns -= 1;
     }
     Ok(())
 }

@@ -7,20 +7,13 @@ ghost use Rattle.std.specs.Prelude.{◌≤◌, ◌≡◌, length};
 use std::io;
 use std::io::{Read, Write};
 
-// A length, or the end of the logs.
-#[derive(Clone, Copy)]
-enum Next {
-    End,
-    Length(u64),
-}
-
-fn read_length<R: Read>(from: &mut R) -> io::Result<Next> {
+fn read_length<R: Read>(from: &mut R) -> io::Result<Option<u64>> {
     let mut bytes = [0u8; 8];
     let got = room_input::fill(from, &mut bytes)?;
     if got < 8 {
-        return Ok(Next::End);
+        return Ok(None);
     }
-    Ok(Next::Length(play_script::word(&bytes, 0)))
+    Ok(Some(play_script::word(&bytes, 0)))
 }
 
 fn least(length: u64, most: usize) -> usize
@@ -96,10 +89,10 @@ fn main(rt: HostRuntime) -> io::Result<()> {
     let mut turns = u64::MAX;
     while turns > 0 {
         match read_length(&mut from)? {
-            Next::End => {
+            None => {
                 return Ok(());
             }
-            Next::Length(length) => {
+            Some(length) => {
                 turn(
                     &mut from,
                     &mut to,

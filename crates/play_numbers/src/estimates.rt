@@ -1,6 +1,7 @@
 // Calls 1 to 4: an estimate from its 16 bits and by its constructors.
 use crate::Answer;
-use estimate::{ClockFormat, ErrorEstimate, Made, Reading};
+use estimate::{ClockFormat, ErrorEstimate, Reading};
+use limits::Refusal;
 use play_script::Call;
 
 pub fn flag(set: bool) -> u64 {
@@ -28,15 +29,15 @@ fn unsynchronized(which: u64) -> ErrorEstimate {
     ErrorEstimate::unsynchronized_with_format(format_of(which - 1))
 }
 
-fn made(call: Call) -> Made {
+fn made(call: Call) -> Result<ErrorEstimate, Refusal> {
     let operation = call.operation;
     let scale = (call.c % 256) as u8;
     let multiplier = (call.d % 256) as u8;
     match operation {
-        1 => Made::Estimate(ErrorEstimate::from_wire((call.a % 65536) as u16)),
+        1 => Ok(ErrorEstimate::from_wire((call.a % 65536) as u16)),
         2 => ErrorEstimate::new(call.a != 0, call.b != 0, scale, multiplier),
         3 => ErrorEstimate::with_clock_format(call.a != 0, format_of(call.b), scale, multiplier),
-        _ => Made::Estimate(unsynchronized(call.a)),
+        _ => Ok(unsynchronized(call.a)),
     }
 }
 
@@ -92,7 +93,7 @@ fn shown(e: ErrorEstimate) -> Answer {
 
 pub fn play(call: Call) -> Answer {
     match made(call) {
-        Made::Estimate(e) => shown(e),
-        Made::Refused(number) => refused(number),
+        Ok(e) => shown(e),
+        Err(why) => refused(u8::from(why)),
     }
 }

@@ -6,7 +6,7 @@ mod estimates;
 mod quality;
 
 use clock_quality::ClockQuality;
-use play_script::{Call, Next};
+use play_script::Call;
 use std::io;
 use std::io::{Read, Write};
 
@@ -28,12 +28,6 @@ pub struct State {
 pub struct Outcome {
     pub answer: Answer,
     pub state: State,
-}
-
-#[derive(Clone, Copy)]
-enum After {
-    Stop,
-    Went(State),
 }
 
 fn fresh() -> Outcome {
@@ -60,10 +54,10 @@ fn play(state: State, call: Call) -> Outcome {
 }
 
 // One call, if there is one.
-fn turn<R: Read, W: Write>(from: &mut R, to: &mut W, state: State) -> io::Result<After> {
+fn turn<R: Read, W: Write>(from: &mut R, to: &mut W, state: State) -> io::Result<Option<State>> {
     match play_script::read(from)? {
-        Next::End => Ok(After::Stop),
-        Next::Told(call) => {
+        None => Ok(None),
+        Some(call) => {
             let outcome = play(state, call);
             let answer = outcome.answer;
             let first = answer.first;
@@ -71,7 +65,7 @@ fn turn<R: Read, W: Write>(from: &mut R, to: &mut W, state: State) -> io::Result
             play_script::write(to, first)?;
             play_script::write(to, second)?;
             let next = outcome.state;
-            Ok(After::Went(next))
+            Ok(Some(next))
         }
     }
 }
@@ -84,10 +78,10 @@ fn main(rt: HostRuntime) -> io::Result<()> {
     let mut turns = u64::MAX;
     while turns > 0 {
         match turn(&mut from, &mut to, state)? {
-            After::Stop => {
+            None => {
                 return Ok(());
             }
-            After::Went(next) => {
+            Some(next) => {
                 state = next;
             }
         }

@@ -1,7 +1,7 @@
 // Calls 5 to 7: clock quality.
 use crate::{Answer, Outcome, State, estimates};
-use clock_quality::{ClockQuality, LargestError, LastEstimate, Recorded};
-use estimate::{ErrorEstimate, Estimates};
+use clock_quality::{ClockEstimate, ClockQuality};
+use estimate::ErrorEstimate;
 use play_script::Call;
 
 fn estimate_of(word: u64) -> ErrorEstimate {
@@ -13,18 +13,18 @@ fn estimate_of(word: u64) -> ErrorEstimate {
     }
 }
 
-fn estimates_of(call: Call) -> Estimates {
+fn estimates_of(call: Call) -> Option<(ErrorEstimate, ErrorEstimate)> {
     if call.a == 0 {
-        return Estimates::Absent;
+        return None;
     }
-    Estimates::Pair(estimate_of(call.b), estimate_of(call.c))
+    Some((estimate_of(call.b), estimate_of(call.c)))
 }
 
-fn largest_of(present: u64, bits: u64) -> LargestError {
+fn largest_of(present: u64, bits: u64) -> Option<f64> {
     if present == 0 {
-        return LargestError::Absent;
+        return None;
     }
-    LargestError::Ms(play_script::float_of(bits))
+    Some(play_script::float_of(bits))
 }
 
 fn loaded(call: Call) -> ClockQuality {
@@ -38,8 +38,8 @@ fn loaded(call: Call) -> ClockQuality {
         invalid_sender: 0,
         invalid_reflector: 0,
         invalid_both: 0,
-        sender: LastEstimate::Absent,
-        reflector: LastEstimate::Absent,
+        sender: None,
+        reflector: None,
         largest,
     }
 }
@@ -72,14 +72,14 @@ struct LastWords {
     received: u64,
 }
 
-fn last_words(last: LastEstimate) -> LastWords {
+fn last_words(last: Option<ClockEstimate>) -> LastWords {
     match last {
-        LastEstimate::Absent => LastWords {
+        None => LastWords {
             fields: 0,
             bits: 0,
             received: 0,
         },
-        LastEstimate::Seen(e) => {
+        Some(e) => {
             let error = e.error;
             let ms = estimates::error_words(error);
             let format = e.format;
@@ -94,14 +94,14 @@ fn last_words(last: LastEstimate) -> LastWords {
     }
 }
 
-fn largest_words(largest: LargestError) -> LastWords {
+fn largest_words(largest: Option<f64>) -> LastWords {
     match largest {
-        LargestError::Absent => LastWords {
+        None => LastWords {
             fields: 0,
             bits: 0,
             received: 0,
         },
-        LargestError::Ms(ms) => LastWords {
+        Some(ms) => LastWords {
             fields: 1,
             bits: play_script::bits_of(ms),
             received: 0,
@@ -156,7 +156,7 @@ pub fn play(state: State, call: Call) -> Outcome {
         return outcome(0, with_ends(quality, call));
     }
     match quality.record(estimates_of(call)) {
-        Recorded::Quality(next) => outcome(0, next),
-        Recorded::Refused(number) => outcome(number as u64, quality),
+        Ok(next) => outcome(0, next),
+        Err(why) => outcome(u8::from(why) as u64, quality),
     }
 }

@@ -4,26 +4,18 @@ use quantiles::Quantiles;
 
 fn samples(room: &[u64], count: usize) -> Digest {
     let mut digest = Digest::empty();
-    let mut i = 0;
-    while i < count {
-        if i < room.len() {
-            digest = digest.then(room[i]);
-        }
-        i += 1;
+    for word in room.iter().take(count) {
+        digest = digest.then(*word);
     }
     digest
 }
 
 fn filled(room: &[u64], end: usize) -> Digest {
     let mut digest = Digest::empty();
-    let mut i = 4096;
-    while i < end {
-        if i < room.len() {
-            if room[i] > 0 {
-                digest = digest.then((i - 4096) as u64).then(room[i]);
-            }
+    for (place, word) in room.iter().take(end).skip(4096).enumerate() {
+        if *word > 0 {
+            digest = digest.then(place as u64).then(*word);
         }
-        i += 1;
     }
     digest
 }

@@ -6,9 +6,9 @@ ghost use Rattle.std.specs.Prelude.{◌≤◌};
 
 mod digests;
 
-use percentiles::Showing;
-use play_script::{Call, Digest, Next};
-use quantiles::{Quantiles, Recording};
+use limits::Refusal;
+use play_script::{Call, Digest};
+use quantiles::Quantiles;
 use std::io;
 use std::io::{Read, Write};
 
@@ -30,9 +30,9 @@ fn left(state: Quantiles) -> Outcome {
     }
 }
 
-fn refused(state: Quantiles) -> Outcome {
+fn refused(state: Quantiles, refusal: Refusal) -> Outcome {
     Outcome {
-        refusal: limits::WRONG_ROOM as u64,
+        refusal: u8::from(refusal) as u64,
         flag: 0,
         value: 0,
         state,
@@ -52,9 +52,9 @@ fn record(state: Quantiles, room: &mut [u64], value: u64, short: u64) -> Outcome
         return left(state);
     }
     match state.record(&mut room[..end], value) {
-        Recording::Refused => refused(state),
-        Recording::Full => left(state),
-        Recording::Counted(next) => Outcome {
+        Err(refusal) => refused(state, refusal),
+        Ok(None) => left(state),
+        Ok(Some(next)) => Outcome {
             refusal: 0,
             flag: 1,
             value: 0,
@@ -72,9 +72,9 @@ fn percentile(state: Quantiles, room: &[u64], bits: u64, short: u64) -> Outcome 
     let ps = [play_script::float_of(bits)];
     let mut shown = [0u64; 1];
     match percentiles::percentiles(state, &room[..end], &ps, &mut shown) {
-        Showing::Refused => refused(state),
-        Showing::Empty => left(state),
-        Showing::Shown => Outcome {
+        Err(refusal) => refused(state, refusal),
+        Ok(false) => left(state),
+        Ok(true) => Outcome {
             refusal: 0,
             flag: 1,
             value: shown[0],
@@ -186,26 +186,20 @@ fn write<W: Write>(to: &mut W, outcome: Outcome, digest: Digest) -> io::Result<(
     )
 }
 
-#[derive(Clone, Copy)]
-enum After {
-    Stop,
-    Went(Quantiles),
-}
-
 // One call, if there is one.
 fn turn<R: Read, W: Write>(
     from: &mut R,
     to: &mut W,
     state: Quantiles,
     room: &mut [u64],
-) -> io::Result<After> {
+) -> io::Result<Option<Quantiles>> {
     match play_script::read(from)? {
-        Next::End => Ok(After::Stop),
-        Next::Told(call) => {
+        None => Ok(None),
+        Some(call) => {
             let outcome = play(state, room, call);
             let next = outcome.state;
             write(to, outcome, digests::digest(next, room, call.g == 1))?;
-            Ok(After::Went(next))
+            Ok(Some(next))
         }
     }
 }
@@ -215,17 +209,11 @@ fn main(rt: HostRuntime) -> io::Result<()> {
     let mut to = rt.stdout();
     let mut state = quantiles::fresh(false);
     let mut room = [0u64; 18804];
-    let mut turns = u64::MAX;
-    while turns > 0 {
+    for _ in 0..u64::MAX {
         match turn(&mut from, &mut to, state, &mut room)? {
-            After::Stop => {
-                return Ok(());
-            }
-            After::Went(next) => {
-                state = next;
-            }
+            None => return Ok(()),
+            Some(next) => state = next,
         }
-        turns -= 1;
     }
     Ok(())
 }

@@ -5,6 +5,7 @@
 
 ghost use Rattle.std.specs.Prelude.{◌≡◌, length};
 
+pub use host_numbers::{bits_of, float_of};
 use std::io;
 use std::io::{Read, Write};
 
@@ -21,23 +22,12 @@ pub struct Call {
     pub g: u64,
 }
 
-// The next call, or the end of the script.
-#[derive(Clone, Copy)]
-pub enum Next {
-    End,
-    Told(Call),
-}
-
 // The byte at a place, 0 past the end.
 fn byte(bytes: &[u8], at: usize) -> u64 {
     if at < bytes.len() {
-        return wide(bytes[at]);
+        return u64::from(bytes[at]);
     }
     0
-}
-
-fn wide(b: u8) -> u64 {
-    b as u64
 }
 
 // The word whose first byte stands at a place, 0 beyond where any call is.
@@ -57,13 +47,13 @@ pub fn word(bytes: &[u8], at: usize) -> u64 {
 }
 
 // Reads a call of eight words.
-pub fn read<R: Read>(from: &mut R) -> io::Result<Next> {
+pub fn read<R: Read>(from: &mut R) -> io::Result<Option<Call>> {
     let mut bytes = [0u8; 64];
     let got = room_input::fill(from, &mut bytes)?;
     if got < 64 {
-        return Ok(Next::End);
+        return Ok(None);
     }
-    Ok(Next::Told(Call {
+    Ok(Some(Call {
         operation: word(&bytes, 0),
         a: word(&bytes, 8),
         b: word(&bytes, 16),
@@ -141,13 +131,13 @@ fn mixed(product: u64) -> u64 {
 fn first_mixed(x: u64) -> u64 {
     let low = (x % 4294967296) * 2654435761;
     let high = (x >> 32) * 2246822519;
-    mixed(std::num::wrapping_add_u64(low, high))
+    mixed(low.wrapping_add(high))
 }
 
 fn second_mixed(x: u64) -> u64 {
     let low = (x % 4294967296) * 3266489917;
     let high = (x >> 32) * 668265263;
-    mixed(std::num::wrapping_add_u64(low, high))
+    mixed(low.wrapping_add(high))
 }
 
 impl Digest {
@@ -160,35 +150,17 @@ impl Digest {
 
     // One word more: the order counts.
     pub fn then(self, x: u64) -> Self {
-        let first = (self.first << 5) | (self.first >> 59);
-        let second = (self.second << 11) | (self.second >> 53);
         Digest {
-            first: std::num::wrapping_add_u64(first, first_mixed(x)),
-            second: std::num::wrapping_add_u64(second, second_mixed(x)),
+            first: self.first.rotate_left(5).wrapping_add(first_mixed(x)),
+            second: self.second.rotate_left(11).wrapping_add(second_mixed(x)),
         }
     }
 
     // One entry more of a set, by its own digest: the order does not count.
     pub fn with(self, entry: Digest) -> Self {
         Digest {
-            first: std::num::wrapping_add_u64(self.first, entry.first),
-            second: std::num::wrapping_add_u64(self.second, entry.second),
+            first: self.first.wrapping_add(entry.first),
+            second: self.second.wrapping_add(entry.second),
         }
     }
-}
-
-// A float's bits; those of a NaN, which has many patterns, are one.
-pub fn bits_of(x: f64) -> u64 {
-    if x == x {
-        return f64::to_bits(x);
-    }
-    9221120237041090560
-}
-
-// The float of a pattern; each pattern of a NaN gives the same one.
-pub fn float_of(bits: u64) -> f64 {
-    if bits % 9223372036854775808 > 9218868437227405312 {
-        return 0.0 / 0.0;
-    }
-    f64::from_bits(bits)
 }

@@ -1,6 +1,7 @@
 -- WHAT IS PRINTED OF A LOG: its report by the plain definitions of crate history, or document 01's line of why it is refused. `report_log_alone` answers and
 -- leaves in the buffer what `report_of_log` says; `printed` of log_print says how many bytes of the buffer the program hands to the write.
 -- Assumes nothing.
+use Rattle.std.specs.Prelude.{Err, Ok, Result}
 use mathlib.Core.Path.{◌≡◌, refl, ap, ap₂, ◌∙◌}
 use mathlib.Core.Bool.{Bool, true, ◌&&◌, cond}
 use mathlib.Core.List.{List}
@@ -13,16 +14,13 @@ use Rattle.probe_queue.specs.declared.QueuedProbe.{QueuedProbe}
 use Rattle.ledger_steps.specs.Rooms.{Rooms}
 use Rattle.reply_history.specs.Stands.{RoomsFit}
 use Rattle.decimal.specs.Writing.{over}
-use Rattle.report.specs.declared.ReportAnswer.{ReportAnswer}
-use Rattle.report.specs.declared.ReportAnswer.TheVariants.{Written, Refused}
 use Rattle.report.specs.Lines.{text_of}
 use Rattle.report.specs.Report.{report_room, Outcome, outcome, written}
-use Rattle.log_record.specs.Records.{bad_record}
-use Rattle.log_whole.specs.declared.Log.{Log}
-use Rattle.log_whole.specs.declared.Log.TheVariants as log'
-use Rattle.log_whole.specs.Logs.{too_long, bad_trailer, log_of}
-use Rattle.log_settings.specs.declared.Checked.{Checked}
-use Rattle.log_settings.specs.declared.Checked.TheVariants as checked
+use Rattle.limits.specs.Numbers.{number_of}
+use Rattle.limits.specs.declared.Refusal.{Refusal}
+use Rattle.log_whole.specs.declared.Fault.{Fault}
+use Rattle.log_whole.specs.declared.Settings.{Settings}
+use Rattle.log_whole.specs.Logs.{refusal_of, log_of}
 use Rattle.link_report.specs.LogReport.{end_of, refused_with, report_by, fits, report_of_log}
 use Rattle.log_settings.specs.Checks.{checked_of, checked_by}
 use Rattle.report_history.specs.Bytes.{BytesIn}
@@ -32,25 +30,25 @@ use Rattle.log_print.specs.Printed.{refusal_line, said, bytes_of, line_in, refus
 use Rattle.print_history.specs.Printed.{printed_by, printed_of}
 
 -- what an answer and a buffer print, where the answer tells that a text was written
-text_printed : (log text buffer after : List ℕ) (a : ReportAnswer) → outcome a after ≡ written text buffer → bytes_of (printed_in log a after) ≡ text
+text_printed : (log text buffer after : List ℕ) (a : Result ℕ ℕ) → outcome a after ≡ written text buffer → bytes_of (printed_in log a after) ≡ text
 unfolding outcome printed_in
-text_printed log text buffer after (Written n) e =
+text_printed log text buffer after (Ok n) e =
     let same : n ≡ length text = cc (ap (λ (o : Outcome). o.values) e) in
     ap₂ (λ (k : ℕ) (l : List ℕ). take k l) same (ap (λ (o : Outcome). o.buffer) e) ∙ take-append_seam text (drop (length text) buffer)
-text_printed log text buffer after (Refused n) e = cc (ap (λ (o : Outcome). o.values) e)
+text_printed log text buffer after (Err n) e = cc (ap (λ (o : Outcome). o.values) e)
 
 -- and where it tells a refusal
-line-printed : (log : List ℕ) (n : ℕ) (buffer after : List ℕ) (a : ReportAnswer) → length buffer ≡ report_room → outcome a after ≡ refused_with n buffer → bytes_of (printed_in log a after) ≡ refusal_line (log_of log)
+line-printed : (log : List ℕ) (n : ℕ) (buffer after : List ℕ) (a : Result ℕ ℕ) → length buffer ≡ report_room → outcome a after ≡ refused_with n buffer → bytes_of (printed_in log a after) ≡ refusal_line (log_of log)
 unfolding outcome printed_in refused_in line_in over
-line-printed log n buffer after (Written m) h e = cc (ap (λ (o : Outcome). o.values) e)
-line-printed log n buffer after (Refused m) h e =
+line-printed log n buffer after (Ok m) h e = cc (ap (λ (o : Outcome). o.values) e)
+line-printed log n buffer after (Err m) h e =
     let line = refusal_line (log_of log) in
     ap (λ (b : Bool). bytes_of (cond b (line_in line after) (said 0 after))) (eq-eqb (length after) report_room (ap (λ (o : Outcome). length o.buffer) e ∙ h))
     ∙ take-append_seam line (drop (0 + length line) after)
 
 module _
     (log : List ℕ) (typed : BytesIn log) (secret : List ℕ) (queue : List QueuedProbe) (long : length queue ≡ capacity) (rooms : Rooms) (sized : RoomsFit capacity rooms) (buffer : List ℕ) (h : length buffer ≡ report_room)
-    (a : ReportAnswer) (after : List ℕ)
+    (a : Result ℕ ℕ) (after : List ℕ)
   where
     all_fit : fits queue rooms buffer ≡ true
     all_fit =
@@ -67,14 +65,12 @@ module _
     unfolding report_of_log
     what_is_printed e = by (log_of log) refl
       where
-        refused : (l : Log) (n : ℕ) → log_of log ≡ l → checked_of l ≡ checked.Refused n → bytes_of (printed_in log a after) ≡ refusal_line l
-        refused l n g c =
-            line-printed log n buffer after a h
-            (e ∙ ap₂ (λ (b : Bool) (x : Log). (report_by (checked_by b x) (end_of log secret queue rooms) queue rooms buffer).outcome) all_fit g ∙ ap (λ (x : Checked). (report_by x (end_of log secret queue rooms) queue rooms buffer).outcome) c)
+        refused : (l : Result Settings Fault) (r : Refusal) → log_of log ≡ l → checked_of l ≡ Err r → bytes_of (printed_in log a after) ≡ refusal_line l
+        refused l r g c =
+            line-printed log (number_of r) buffer after a h
+            (e ∙ ap₂ (λ (b : Bool) (x : Result Settings Fault). (report_by (checked_by b x) (end_of log secret queue rooms) queue rooms buffer).outcome) all_fit g ∙ ap (λ (x : Result Settings Refusal). (report_by x (end_of log secret queue rooms) queue rooms buffer).outcome) c)
             ∙ ap refusal_line g
 
-        by : (l : Log) → log_of log ≡ l → bytes_of (printed_in log a after) ≡ printed_by log l
-        by log'.TooLong g = refused log'.TooLong too_long g refl
-        by log'.BadTrailer g = refused log'.BadTrailer bad_trailer g refl
-        by (log'.BadRecord n) g = refused (log'.BadRecord n) bad_record g refl
-        by (log'.Good s) g = text_printed log (text_of (report_from log s)) buffer after a (e ∙ report_of_a_good_log log typed s g secret queue long rooms sized buffer all_fit)
+        by : (l : Result Settings Fault) → log_of log ≡ l → bytes_of (printed_in log a after) ≡ printed_by log l
+        by (Err f) g = refused (Err f) (refusal_of f) g refl
+        by (Ok s) g = text_printed log (text_of (report_from log s)) buffer after a (e ∙ report_of_a_good_log log typed s g secret queue long rooms sized buffer all_fit)

@@ -63,6 +63,7 @@ pub fn ring_after(ring: QueueRing, count: usize) -> QueueRing
 }
 
 // Whether a look passes a record.
+#[tactic(auto, unfolding(crate::specs::Queue::passes))]
 pub fn goes_on(probe: QueuedProbe, rule: Rule) -> bool
     ensures { result ≡ passes rule probe }
 {
@@ -70,37 +71,31 @@ pub fn goes_on(probe: QueuedProbe, rule: Rule) -> bool
         Rule::Due(now) => probe.deadline <= now,
         Rule::Below(sequence) => probe.sequence < sequence,
         Rule::Until(sequence) => probe.sequence != sequence,
-        Rule::Unmarked(sequence) => if probe.sequence == sequence {
-            probe.mark == 0
-        } else {
-            true
-        },
+        Rule::Unmarked(sequence) => probe.sequence != sequence || probe.mark == 0,
     }
 }
 
 // A record without its mark, where it is of the sequence.
+#[tactic(auto, unfolding(crate::specs::Queue::unmark))]
 pub fn unmarked(probe: QueuedProbe, sequence: u32) -> QueuedProbe
     ensures { result ≡ unmark sequence probe }
 {
     if probe.sequence == sequence {
-        QueuedProbe {
-            sequence: probe.sequence,
-            deadline: probe.deadline,
-            mark: 0,
-        }
+        QueuedProbe { mark: 0, ..probe }
     } else {
         probe
     }
 }
 
 // Where a record is stored once a sequence is unmarked: past the end of any room where the record is of another one, so that nothing is stored.
+#[tactic(auto, unfolding(crate::specs::Queue::place_if))]
 pub fn place_if(probe: QueuedProbe, sequence: u32, at: usize) -> usize
     ensures { result ≡ place_if sequence probe at }
 {
     if probe.sequence == sequence {
         at
     } else {
-        18446744073709551615
+        usize::MAX
     }
 }
 
@@ -108,11 +103,11 @@ pub fn place_if(probe: QueuedProbe, sequence: u32, at: usize) -> usize
 pub fn front(queue: &[QueuedProbe], at: usize) -> QueuedProbe
     ensures { result ≡ get_or queue.now at nil }
 {
-    let mut probe = absent();
     if at < queue.len() {
-        probe = queue[at];
+        queue[at]
+    } else {
+        absent()
     }
-    probe
 }
 
 // Stores a record at a place; past the end it stores nothing.
@@ -129,17 +124,14 @@ pub fn look(queue: &[QueuedProbe], ring: QueueRing, rule: Rule) -> usize
     requires { Held ring }
     ensures { result ≡ leading (passes rule) (queued queue.now ring) }
 {
-    let len = ring.len;
-    let mut i = 0;
-    while i < len {
+    for i in 0..ring.len {
         let at = place_of(ring, i);
         let probe = front(queue, at);
         if !goes_on(probe, rule) {
             return i;
         }
-        i = i + 1;
     }
-    i
+    ring.len
 }
 
 // Unmarks a sequence in every queued record.
@@ -147,15 +139,12 @@ pub fn unmark_queued(queue: &mut [QueuedProbe], ring: QueueRing, sequence: u32)
     requires { Held ring }
     ensures { queue.new ≡ unmarkedRoom queue.old ring sequence ring.len }
 {
-    let len = ring.len;
-    let mut i = 0;
-    while i < len {
+    for i in 0..ring.len {
         let at = place_of(ring, i);
         let probe = front(queue, at);
         let changed = unmarked(probe, sequence);
         let to = place_if(probe, sequence, at);
         push(queue, to, changed);
-        i = i + 1;
     }
 }
 
@@ -164,12 +153,8 @@ pub fn pop(queue: &mut [QueuedProbe], ring: QueueRing, rest: QueueRing, count: u
     requires { Held ring × (Held rest × (count ≤ capacity)) }
     ensures { queue.new ≡ popped queue.old ring rest count }
 {
-    let mut i = 0;
-    while i < count {
-        let at = place_of(ring, i);
-        let probe = front(queue, at);
-        let sequence = probe.sequence;
-        unmark_queued(queue, rest, sequence);
-        i = i + 1;
+    for i in 0..count {
+        let probe = front(queue, place_of(ring, i));
+        unmark_queued(queue, rest, probe.sequence);
     }
 }

@@ -1,23 +1,22 @@
 -- A probe survives its row: what is written is read back.
 -- Assumes nothing.
+use Rattle.std.specs.Prelude.{Option, Some, None}
 use mathlib.Core.Path.{◌≡◌, refl, ◌∙◌}
 use Prim.Native.Nat.{ℕ, ◌+◌, ◌*◌, ◌/◌, ◌%◌, ◌^◌, ◌<◌}
 use native.Mathlib.Omega.{arith}
 use native.Mathlib.Nat.{mod-eq_of_lt, add-mul-mod_self_right, add-mul-div_right, div-eq_of_lt, zero-add}
 use lib.ListN.{get_or}
-use Rattle.call_types.specs.declared.Ordinal.{Ordinal}
-use Rattle.call_types.specs.declared.Ordinal.TheVariants.{Absent, Number}
 use Rattle.probe_ring.specs.declared.HeldProbe.{HeldProbe}
 use Rattle.probe_ring.specs.Row.{known_of, number_of, ordinal_of, words_of, sequence_of, replies_of, held_probe_of, OrdinalFits, ProbeFits}
 
-ordinal-back : (o : Ordinal) → ordinal_of (known_of o) (number_of o) ≡ o
+ordinal-back : (o : Option ℕ) → ordinal_of (known_of o) (number_of o) ≡ o
 unfolding ordinal_of
-ordinal-back Absent = refl
-ordinal-back (Number n) = refl
+ordinal-back None = refl
+ordinal-back (Some n) = refl
 
-number_in : (o : Ordinal) → OrdinalFits o → number_of o < 2 ^ 32
-number_in Absent f = omega arith
-number_in (Number n) f = f
+number_in : (o : Option ℕ) → OrdinalFits o → number_of o < 2 ^ 32
+number_in None f = omega arith
+number_in (Some n) f = f
 
 -- two numbers in one word, the first below its size
 lower-part : (a b z : ℕ) → a < z → (a + b * z) % z ≡ a

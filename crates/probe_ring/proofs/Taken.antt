@@ -1,15 +1,15 @@
 -- A probe is taken out of the middle: the others are held as they were, and their chains are whole.
 -- Assumes nothing.
+use Rattle.std.specs.Prelude.{None, Some, slice_get}
 use mathlib.Core.Path.{◌≡◌, refl, sym, ap, ap₂, ◌∙◌}
 use mathlib.Core.Bool.{Bool, true, false, ◌||◌, cond}
 use mathlib.Core.Logic.{◌≢◌}
 use mathlib.Core.List.{List, [], ◌∷◌}
-use mathlib.Core.Option.{none, some}
 use Prim.Native.Nat.{ℕ, zero, suc, ◌+◌, ◌-◌, ◌≤◌, ◌<◌}
 use native.Mathlib.Omega.{arith}
 use native.Mathlib.Nat.{zero-add, suc-add}
 use lib.Dec.{eqb}
-use lib.ListN.{length, get_or, get_elem?, length-set, length-map, get_or-map}
+use lib.ListN.{length, get_or, length-set, length-map, get_or-map}
 use lib.Seq.{get_or-set_same, get_or-set_other}
 use Rattle.chains.specs.Rings.{wrap, contents}
 use Rattle.chains.specs.Links.{word_of, newest, older, Rows}
@@ -47,16 +47,16 @@ contents_cut {A} N at at' head p (suc d) low mid =
     rw (suc-add d p)
     (ap₂ (λ (x : A) (xs : List A). x ∷ xs) (mid (d + p) (omega arith) (omega arith)) (contents_cut N at at' head p d low (λ i l m. mid i l (omega arith))))
 
-elem_contents : {A : Type 0} (N : ℕ) (at : ℕ → A) (head d p : ℕ) → get_elem? (contents N at head (suc (d + p))) d ≡ some (at (wrap N (head + p)))
+elem_contents : {A : Type 0} (N : ℕ) (at : ℕ → A) (head d p : ℕ) → slice_get (contents N at head (suc (d + p))) d ≡ Some (at (wrap N (head + p)))
 unfolding contents
 elem_contents N at head zero p = rw (zero-add p)
 elem_contents N at head (suc d) p = rw (suc-add d p) (elem_contents N at head d p)
 
-holds_at : (ps : List HeldProbe) (i s : ℕ) (q : HeldProbe) → get_elem? ps i ≡ some q → q.sequence ≡ s → list.holds ps s ≡ true
+holds_at : (ps : List HeldProbe) (i s : ℕ) (q : HeldProbe) → slice_get ps i ≡ Some q → q.sequence ≡ s → list.holds ps s ≡ true
 unfolding list.holds
 holds_at [] i s q e f = absurd (never e)
   where
-    never : none ≡ some q → ⊥
+    never : None ≡ Some q → ⊥
     never g = let z : ◌≡◌ {A = ℕ} 0 1 = cc in omega arith
 holds_at (x ∷ ps) zero s q e f = let same : x ≡ q = cc in rw (same, f, eq_true s s refl)
 holds_at (x ∷ ps) (suc i) s q e f = rw (holds_at ps i s q e f) (or_true (eqb s x.sequence))
@@ -66,7 +66,7 @@ holds_at (x ∷ ps) (suc i) s q e f = rw (holds_at ps i s q e f) (or_true (eqb s
     or_true false = refl
 
 -- where no sequence stands twice, taking one out is cutting its place
-others_cut : (ps : List HeldProbe) (i s : ℕ) (q : HeldProbe) → Distinct ps → get_elem? ps i ≡ some q → q.sequence ≡ s → others s ps ≡ cut i ps
+others_cut : (ps : List HeldProbe) (i s : ℕ) (q : HeldProbe) → Distinct ps → slice_get ps i ≡ Some q → q.sequence ≡ s → others s ps ≡ cut i ps
 unfolding Distinct others
 others_cut [] i s q d e f = refl
 others_cut (x ∷ ps) zero s q d e f =

@@ -1,11 +1,7 @@
 -- A held probe, and the four words of its row: sequence, replies and whether it has an ordinal; ordinal and train; the packet's two words.
 -- Assumes nothing.
-use Rattle.std.specs.Prelude.{Bool, cond, List, [], ◌∷◌, ℕ, ◌+◌, ◌*◌, ◌/◌, ◌%◌, ◌^◌, ◌<◌, eqb, ltb, get_or}
-use Rattle.call_types.specs.declared.Ordinal.{Ordinal}
-use Rattle.call_types.specs.declared.Ordinal.TheVariants.{Absent, Number}
+use Rattle.std.specs.Prelude.{Bool, cond, List, [], ◌∷◌, ℕ, ◌+◌, ◌*◌, ◌/◌, ◌%◌, ◌^◌, ◌<◌, eqb, ltb, get_or, Option, Some, None}
 use Rattle.call_types.specs.declared.PendingPacket.{PendingPacket}
-use Rattle.call_types.specs.declared.Pending.{Pending}
-use Rattle.call_types.specs.declared.Pending.TheVariants as pending
 use Rattle.probe_ring.specs.declared.HeldProbe.{HeldProbe}
 
 -- the most replies that a probe counts: beyond it the count stays
@@ -13,20 +9,20 @@ abbrev pub most_replies : ℕ
 most_replies = 65535
 
 -- a probe just remembered: unanswered, with no replies; "0 means no train" (document 02, Q-3)
-abbrev pub unanswered : ℕ → PendingPacket → Ordinal → ℕ → HeldProbe
+abbrev pub unanswered : ℕ → PendingPacket → Option ℕ → ℕ → HeldProbe
 unanswered s p o t = record { sequence = s; replies = 0; ordinal = o; train = t; packet = p }
 
 -- a pending packet replaces the stored one
-abbrev pub packet_after : Pending → PendingPacket → PendingPacket
-packet_after pending.Absent p = p
-packet_after (pending.Held q) p = q
+abbrev pub packet_after : Option PendingPacket → PendingPacket → PendingPacket
+packet_after None p = p
+packet_after (Some q) p = q
 
 -- one reply more, up to the most
 unfoldable pub one_more : ℕ → ℕ
 one_more replies = cond (ltb replies most_replies) (replies + 1) replies
 
 -- a probe after one more reply; its train stays
-unfoldable pub after_reply : Pending → HeldProbe → HeldProbe
+unfoldable pub after_reply : Option PendingPacket → HeldProbe → HeldProbe
 after_reply pending p = record {
   sequence = p.sequence;
   replies = one_more p.replies;
@@ -42,18 +38,18 @@ is_answered p = ltb 0 p.replies
 -- ---- the words of a row
 
 -- whether there is an ordinal, as a number
-abbrev pub known_of : Ordinal → ℕ
-known_of Absent = 0
-known_of (Number n) = 1
+abbrev pub known_of : Option ℕ → ℕ
+known_of None = 0
+known_of (Some n) = 1
 
 -- the ordinal, 0 for none
-abbrev pub number_of : Ordinal → ℕ
-number_of Absent = 0
-number_of (Number n) = n
+abbrev pub number_of : Option ℕ → ℕ
+number_of None = 0
+number_of (Some n) = n
 
 -- both numbers as an ordinal
-unfoldable pub ordinal_of : ℕ → ℕ → Ordinal
-ordinal_of known number = cond (eqb known 0) Absent (Number number)
+unfoldable pub ordinal_of : ℕ → ℕ → Option ℕ
+ordinal_of known number = cond (eqb known 0) None (Some number)
 
 -- the row of a probe
 unfoldable pub words_of : HeldProbe → List ℕ
@@ -82,9 +78,9 @@ held_probe_of row = record {
 -- ---- what the types of a probe's fields say
 
 -- a u32, where there is one
-abbrev pub OrdinalFits : Ordinal → Type 0
-OrdinalFits Absent = Unit
-OrdinalFits (Number n) = n < 2 ^ 32
+abbrev pub OrdinalFits : Option ℕ → Type 0
+OrdinalFits None = Unit
+OrdinalFits (Some n) = n < 2 ^ 32
 
 -- sequence u32, replies u16, ordinal u32, train u32; the words of the packet may be any
 pub record ProbeFits (p : HeldProbe) : Type 0 where

@@ -8,7 +8,7 @@ ghost use Rattle.chains.specs.Walk.{place_of};
 ghost use Rattle.probe_ring.specs.Row.{one_more, packet_after, unanswered, after_reply, is_answered, known_of, number_of, ordinal_of, replies_of, words_of, held_probe_of};
 ghost use Rattle.probe_ring.specs.Rooms.{rooms, outcome, slot_of, pushed, remembered, taken_out, moved, move_row, move_link, mended_link, mend_newest};
 
-use call_types::{Ordinal, Pending, PendingPacket};
+use call_types::PendingPacket;
 use chains::{Ring, first, link, next, number_hash, place, push_slot};
 use limits::CAPACITY;
 
@@ -20,7 +20,7 @@ pub const LANE: usize = 4;
 pub struct HeldProbe {
     pub sequence: u32,
     pub replies: u16,
-    pub ordinal: Ordinal,
+    pub ordinal: Option<u32>,
     pub train: u32,
     pub packet: PendingPacket,
 }
@@ -66,51 +66,41 @@ fn count_of(word: u64) -> u16
 }
 
 // One reply more; the count stays at its largest, as `saturating_add` does.
+#[tactic(auto, unfolding(crate::specs::Row::one_more))]
 fn one_more(replies: u16) -> u16
     ensures { result ≡ one_more replies }
 {
-    if replies < 65535 {
-        replies + 1
-    } else {
-        replies
-    }
+    replies.saturating_add(1)
 }
 
-fn known_of(ordinal: Ordinal) -> u64
+fn known_of(ordinal: Option<u32>) -> u64
     ensures { (result ≡ known_of ordinal) × (result < 2) }
 {
     match ordinal {
-        Ordinal::Absent => 0,
-        Ordinal::Number(_) => 1,
+        None => 0,
+        Some(_) => 1,
     }
 }
 
-fn number_of(ordinal: Ordinal) -> u64
+fn number_of(ordinal: Option<u32>) -> u64
     ensures { (result ≡ number_of ordinal) × (result < 4294967296) }
 {
     match ordinal {
-        Ordinal::Absent => 0,
-        Ordinal::Number(n) => n as u64,
+        None => 0,
+        Some(n) => n as u64,
     }
 }
 
-fn ordinal_of(known: u64, number: u32) -> Ordinal
+fn ordinal_of(known: u64, number: u32) -> Option<u32>
     ensures { result ≡ ordinal_of known number }
 {
-    if known == 0 {
-        Ordinal::Absent
-    } else {
-        Ordinal::Number(number)
-    }
+    if known == 0 { None } else { Some(number) }
 }
 
-fn packet_after(pending: Pending, stored: PendingPacket) -> PendingPacket
+fn packet_after(pending: Option<PendingPacket>, stored: PendingPacket) -> PendingPacket
     ensures { result ≡ packet_after pending stored }
 {
-    match pending {
-        Pending::Absent => stored,
-        Pending::Held(packet) => packet,
-    }
+    pending.unwrap_or(stored)
 }
 
 impl HeldProbe {
@@ -118,40 +108,35 @@ impl HeldProbe {
     pub fn unanswered(
         sequence: u32,
         packet: PendingPacket,
-        ordinal: Ordinal,
+        ordinal: Option<u32>,
         train: u32,
     ) -> HeldProbe
         ensures { result ≡ unanswered sequence packet ordinal train }
     {
         HeldProbe {
-            sequence: sequence,
+            sequence,
             replies: 0,
-            ordinal: ordinal,
-            train: train,
-            packet: packet,
+            ordinal,
+            train,
+            packet,
         }
     }
 
     pub fn answered(self) -> bool
         ensures { result ≡ is_answered self }
     {
-        0 < self.replies
+        self.replies > 0
     }
 
     // The probe after one more reply. A pending packet carries a corrected send time and replaces the stored one.
-    pub fn after_reply(self, pending: Pending) -> HeldProbe
+    #[tactic(auto, unfolding(crate::specs::Row::after_reply))]
+    pub fn after_reply(self, pending: Option<PendingPacket>) -> HeldProbe
         ensures { result ≡ after_reply pending self }
     {
-        let ordinal = self.ordinal;
-        let stored = self.packet;
-        let replies = one_more(self.replies);
-        let packet = packet_after(pending, stored);
         HeldProbe {
-            sequence: self.sequence,
-            replies: replies,
-            ordinal: ordinal,
-            train: self.train,
-            packet: packet,
+            replies: one_more(self.replies),
+            packet: packet_after(pending, self.packet),
+            ..self
         }
     }
 
@@ -179,11 +164,11 @@ impl HeldProbe {
             tag: words[3],
         };
         HeldProbe {
-            sequence: sequence,
-            replies: replies,
-            ordinal: ordinal,
-            train: train,
-            packet: packet,
+            sequence,
+            replies,
+            ordinal,
+            train,
+            packet,
         }
     }
 }
@@ -212,10 +197,8 @@ fn mend_newest(links: &mut [[u16; 8]], lift: u16, gone: u16, own: u16)
     requires { (length links.old ≡ capacity) × (lift ≤ capacity) }
     ensures { links.new ≡ mend_newest (mended_link capacity lift gone own) links.old }
 {
-    let mut i = 0;
-    while i < CAPACITY {
-        links[i][LANE] = mended(lift, gone, own, links[i][LANE]);
-        i += 1;
+    for row in links.iter_mut() {
+        row[LANE] = mended(lift, gone, own, row[LANE]);
     }
 }
 
@@ -224,10 +207,9 @@ fn slide_rows(rows: &mut [[u64; 4]], from: usize, to: usize)
     requires { (length rows.old ≡ capacity) × (from ≤ to) × (to < capacity) }
     ensures { rows.new ≡ moved capacity move_row from (to - from) rows.old }
 {
-    let mut i = from;
-    while i < to {
+    // An index: each row takes what the next one holds.
+    for i in from..to {
         rows[i] = rows[i + 1];
-        i += 1;
     }
 }
 
@@ -236,10 +218,8 @@ fn slide_links(links: &mut [[u16; 8]], from: usize, to: usize, lift: u16, gone: 
     requires { (length links.old ≡ capacity) × (from ≤ to) × (to < capacity) × (lift ≤ capacity) }
     ensures { links.new ≡ moved capacity (move_link (mended_link capacity lift gone own)) from (to - from) links.old }
 {
-    let mut i = from;
-    while i < to {
+    for i in from..to {
         links[i][LANE + 1] = mended(lift, gone, own, links[i + 1][LANE + 1]);
-        i += 1;
     }
 }
 
@@ -288,10 +268,7 @@ fn take_out(probes: &mut [[u64; 4]], links: &mut [[u16; 8]], ring: Ring, slot: u
     mend_newest(links, lift, place, own);
     move_links(links, slot, above, lift, place, own);
     move_rows(probes, slot, above);
-    Ring {
-        head: head,
-        len: len - 1,
-    }
+    Ring { head, len: len - 1 }
 }
 
 // ---- the calls
@@ -307,6 +284,7 @@ pub fn find(
     requires { (length probes.now ≡ capacity) × (length links.now ≡ capacity) × RingFits capacity ring }
     ensures { result ≡ slot_of capacity (number_hash secret) (rooms probes.now links.now ring) sequence }
 {
+    // No index is counted: a chain is walked, by links.
     let head = ring.head;
     let hash = number_hash(secret, sequence);
     let mut bound = ring.len;
@@ -328,8 +306,7 @@ pub fn get(probes: &[[u64; 4]], slot: usize) -> HeldProbe
     requires { (length probes.now ≡ capacity) × (slot < capacity) }
     ensures { result ≡ held_probe_of (get_or probes.now slot []) }
 {
-    let words = probes[slot];
-    HeldProbe::of_words(words)
+    HeldProbe::of_words(probes[slot])
 }
 
 // Another row for a probe: after a reply, with the same sequence.
@@ -337,8 +314,7 @@ pub fn put(probes: &mut [[u64; 4]], slot: usize, probe: HeldProbe)
     requires { (length probes.old ≡ capacity) × (slot < capacity) }
     ensures { probes.new ≡ set probes.old slot (words_of probe) }
 {
-    let words = probe.words();
-    probes[slot] = words;
+    probes[slot] = probe.words();
 }
 
 // A probe as the newest; `full` is whether 4,096 are held, and the oldest goes for it.
@@ -361,7 +337,7 @@ fn push_when(
     let next = chains::pushed(ring);
     Remembered {
         ring: next,
-        slot: slot,
+        slot,
         evicted: full,
         lost: full & (before == 0),
     }
@@ -392,7 +368,7 @@ pub fn remember(
     secret: [u32; 8],
     sequence: u32,
     packet: PendingPacket,
-    ordinal: Ordinal,
+    ordinal: Option<u32>,
     train: u32,
 ) -> Remembered
     requires { (length probes.old ≡ capacity) × (length links.old ≡ capacity) × RingFits capacity ring }

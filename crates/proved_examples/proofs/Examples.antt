@@ -1,4 +1,5 @@
 -- Document 01, "Proved examples": the whole list, in its order, over the definitions that the contracts cite. Assumes nothing.
+use Rattle.std.specs.Prelude.{Some}
 use mathlib.Core.Path.{◌≡◌}
 use mathlib.Core.Bool.{true}
 use Prim.Native.Nat.{◌-◌, ◌^◌}
@@ -8,7 +9,6 @@ use Rattle.buckets.specs.Buckets.{index, value}
 use Rattle.buckets.specs.Signed.{index_of}
 use Rattle.buckets.proofs.Examples.{example_1, example_2, example_3, example_4, example_5}
 use Rattle.rank.specs.Rank.{rank_of, example_6}
-use Rattle.direct.specs.declared.summary.Packets.TheVariants.{Number}
 use Rattle.direct.specs.Shown.{summary_of}
 use Rattle.direct.specs.Examples.{second, third, example_7, example_8}
 
@@ -21,6 +21,6 @@ pub examples-1-to-8 :
     × (index (2 ^ 64 - 1) ≡ 7423)
     × (index_of true (2 ^ 63) ≡ 0)
     × (rank_of (of_int binary64 (pos 50)) 2 ≡ 1)
-    × (((summary_of second).spans.forward ≡ Number 0) × ((summary_of second).spans.reverse ≡ Number 2))
-    × (((summary_of third).counts.reordered ≡ 1) × ((summary_of third).spans.reverse ≡ Number 1))
+    × (((summary_of second).spans.forward ≡ Some 0) × ((summary_of second).spans.reverse ≡ Some 2))
+    × (((summary_of third).counts.reordered ≡ 1) × ((summary_of third).spans.reverse ≡ Some 1))
 examples-1-to-8 = (example_1, example_2, example_3, example_4, example_5, example_6, example_7, example_8)

@@ -4,7 +4,7 @@ use mathlib.Core.Bool.{Bool, true, false}
 use mathlib.Core.List.{List, [], ◌∷◌}
 use mathlib.Core.Logic.{⊎_elim}
 use Prim.Native.Nat.{ℕ, ◌+◌, ◌-◌, ◌*◌, ◌/◌, ◌^◌, ◌≤◌, ◌<◌}
-use native.Mathlib.Nat.{le_refl, le_trans, le_of_eq, le_antisymm, lt_of_lt_of_le, min-le_left}
+use native.Mathlib.Nat.{le_trans, le_of_eq, le_antisymm, lt_of_lt_of_le, min-le_left}
 use native.Mathlib.Omega.{arith}
 use lib.ListN.{length, get_or, take, drop, length-take}
 use lib.Seq.{take_all}
@@ -12,18 +12,18 @@ use Rattle.buckets.specs.Buckets.{index}
 use Rattle.buckets.specs.Signed.{bucket_count, signed_zero, index_of}
 use Rattle.buckets.proofs.Facts.{lt_or_ge, index_below}
 use Rattle.buckets.proofs.SignedFacts.{index_of-below, index-low, index-high}
-use Rattle.exact_rank.specs.Counting.{one_if, below}
+use Rattle.exact_rank.specs.Counting.{below}
 use Rattle.exact_rank.proofs.Counting.{one_below}
 use Rattle.histogram.specs.Histogram.{total, bucket_at, left_at}
 use Rattle.histogram.proofs.Sums.{at-below}
 use Rattle.histogram.proofs.Blocks.{at-within, block-total, by_blocks}
 use Rattle.quantiles.specs.declared.Quantiles.{Quantiles}
-use Rattle.quantile_room.specs.Room.{block_count, buckets, totals, block_of}
-use Rattle.quantiles.specs.Record.{filled, filled_buckets, filled_totals}
+use Rattle.quantile_room.specs.Room.{block_count, block_of}
+use Rattle.quantiles.specs.Record.{filled_buckets, filled_totals}
 use Rattle.quantile_room.proofs.Places.{block-below}
 use Rattle.quantiles.proofs.Tally.{filled-length}
-use Rattle.histogram_ranks.specs.Ranks.{block_at, block, bucket_of}
-use Rattle.quantile_meaning.specs.Words.{Words, none, more}
+use Rattle.histogram_ranks.specs.Ranks.{bucket_of}
+use Rattle.quantile_meaning.specs.Words.{Words, more}
 use Rattle.quantile_meaning.proofs.Buckets.{filled-total, below_by}
 use Rattle.quantile_meaning.proofs.Growth.{Holds}
 

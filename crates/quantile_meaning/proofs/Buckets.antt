@@ -1,15 +1,13 @@
 -- The buckets that count a list of samples: how many lie below a bucket, and which bucket a rank has. Assumes nothing.
-use mathlib.Core.Path.{◌≡◌, refl, sym, ◌∙◌, ap, ap₂, subst}
+use mathlib.Core.Path.{◌≡◌, refl, sym, ◌∙◌, ap, subst}
 use mathlib.Core.Bool.{Bool, true, false}
-use mathlib.Core.List.{List, [], ◌∷◌, ◌++◌}
-use mathlib.Core.Logic.{◌⊎◌, inl, inr, ⊎_elim}
+use mathlib.Core.List.{List, [], ◌∷◌}
+use mathlib.Core.Logic.{⊎_elim}
 use Prim.Native.Nat.{ℕ, zero, suc, ◌+◌, ◌-◌, ◌^◌, ◌≤◌, ◌<◌}
-use native.Mathlib.Nat.{le_refl, le_trans, le_of_eq, lt_of_lt_of_le, lt_of_le_of_lt, add-zero, zero-add, add_assoc, le_of_suc-le-suc, not-suc-le-zero, lt_of_not-le, not-le_of_lt}
-use native.Mathlib.Numerals.{add-one}
+use native.Mathlib.Nat.{le_refl, le_trans, le_of_eq, lt_of_lt_of_le, add-zero, zero-add, add_assoc, le_of_suc-le-suc, not-suc-le-zero, lt_of_not-le, not-le_of_lt}
 use native.Mathlib.Omega.{arith}
-use borrow.Author.Tests.{lt-ltb, le-ltb}
 use lib.Dec.{ltb, leb, leb-suc-suc}
-use lib.ListN.{length, get_or, set, take, drop, replicate, length-set, length-replicate}
+use lib.ListN.{length, get_or, take, drop, replicate, length-set, length-replicate}
 use lib.Seq.{drop-cons}
 use Rattle.buckets.specs.Signed.{bucket_count, order, index_of}
 use Rattle.buckets.proofs.Facts.{lt_or_ge}
@@ -17,7 +15,6 @@ use Rattle.buckets.proofs.SignedFacts.{index_of-below, index_of_monotone}
 use Rattle.exact_rank.specs.Rank.{choose, insert, sorted}
 use Rattle.exact_rank.specs.Counting.{one_if, below, KeyOfRank}
 use Rattle.exact_rank.proofs.Counting.{one_below, none_below}
-use Rattle.exact_rank.proofs.Sorting.{sorted-is_counted}
 use Rattle.histogram.specs.Histogram.{total, bucket_at, bumped}
 use Rattle.histogram.proofs.Sums.{total-next, at-past, at_first}
 use Rattle.quantiles.specs.Record.{tally, filled, filled_buckets}

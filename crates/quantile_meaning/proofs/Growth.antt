@@ -1,16 +1,16 @@
 -- A room grown from fresh by `record`s: what it holds, and so what its percentiles show. Assumes nothing.
 use mathlib.Core.Path.{◌≡◌, refl, sym, ◌∙◌, ap, subst}
 use mathlib.Core.Bool.{Bool, true, false, ◌&&◌}
-use mathlib.Core.List.{List, [], ◌∷◌, ◌++◌, append_assoc, append-nil}
+use mathlib.Core.List.{List, [], ◌∷◌, ◌++◌}
 use mathlib.Core.Logic.{◌⊎◌, inl, inr, ⊎_elim}
-use Prim.Native.Nat.{ℕ, zero, suc, ◌+◌, ◌-◌, ◌*◌, ◌^◌, ◌≤◌, ◌<◌}
-use native.Mathlib.Nat.{le_refl, le_trans, le_of_eq, le_of_lt, lt_of_lt_of_le, lt_of_le_of_lt}
+use Prim.Native.Nat.{ℕ, suc, ◌+◌, ◌-◌, ◌^◌, ◌≤◌, ◌<◌}
+use native.Mathlib.Nat.{le_refl, le_trans, le_of_eq, le_of_lt}
 use native.Mathlib.Numerals.{add-one}
 use native.Mathlib.Omega.{arith}
-use borrow.Author.Tests.{lt-ltb, le-ltb, eq-eqb, ne_eqb}
-use lib.Dec.{ltb, eqb}
-use lib.ListN.{length, get_or, set, take, drop, replicate, length-set, length-append, length-take}
-use lib.Seq.{take-suc-set, take_all}
+use borrow.Author.Tests.{le-ltb, eq-eqb, ne_eqb}
+use lib.Dec.{ltb}
+use lib.ListN.{length, get_or, set, take, drop, length-set, length-append}
+use lib.Seq.{take-suc-set}
 use Rattle.buckets.specs.Buckets.{pick}
 use Rattle.buckets.specs.Signed.{bucket_count, order, index_of}
 use Rattle.buckets.proofs.Facts.{lt_or_ge}
@@ -19,13 +19,11 @@ use Rattle.histogram.specs.Histogram.{bumped}
 use Rattle.quantiles.specs.declared.Quantiles.{Quantiles}
 use Rattle.quantile_room.specs.Room.{block_count, room_size, samples, buckets, totals, block_of}
 use Rattle.quantiles.specs.State.{crossed}
-use Rattle.quantiles.specs.Record.{Outcome, taken, filled, filled_buckets, filled_totals, counted, grown, recorded}
+use Rattle.quantiles.specs.Record.{taken, filled, filled_buckets, filled_totals, counted, grown, recorded}
 use Rattle.quantile_room.proofs.Parts.{three_buckets, three_totals, three_length, samples-length}
 use Rattle.quantile_room.proofs.Places.{parts_in}
 use Rattle.quantiles.proofs.Tally.{filled_snoc, filled-length, filled_le}
 use Rattle.quantiles.proofs.Ways.{first_room, later_room, way_exact, way_first, way_later}
-use Rattle.quantile_meaning.specs.Words.{Words, none, more}
-use Rattle.quantile_meaning.specs.Grown.{Kept, fresh, record_all}
 
 -- each sample lies between the minimum and the maximum
 pub data Around (s : Bool) (low high : ℕ) : List ℕ → Type 0 where

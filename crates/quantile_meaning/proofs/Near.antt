@@ -2,24 +2,19 @@
 -- least and the greatest sample. Assumes nothing.
 use mathlib.Core.Path.{◌≡◌, refl, sym, ◌∙◌, ap, subst}
 use mathlib.Core.Bool.{Bool, true, false}
-use mathlib.Core.List.{List, [], ◌∷◌, ◌++◌, append_assoc, append-nil}
-use mathlib.Core.Logic.{◌⊎◌, inl, inr, ⊎_elim}
-use Prim.Native.Nat.{ℕ, zero, suc, ◌+◌, ◌-◌, ◌*◌, ◌^◌, ◌≤◌, ◌<◌}
-use native.Mathlib.Nat.{le_refl, le_trans, le_of_eq, le_of_lt, lt_of_lt_of_le, lt_of_le_of_lt, lt_of_not-le}
+use mathlib.Core.List.{List, [], ◌∷◌, ◌++◌}
+use mathlib.Core.Logic.{⊎_elim}
+use Prim.Native.Nat.{ℕ, suc, ◌+◌, ◌-◌, ◌≤◌, ◌<◌}
+use native.Mathlib.Nat.{le_trans, lt_of_le_of_lt}
 use native.Mathlib.Omega.{arith}
 use borrow.Author.Tests.{eq-eqb, ne_eqb}
-use lib.Dec.{ltb, eqb}
-use lib.Ieee.{Float}
-use lib.ListN.{length, get_or}
-use Rattle.rank.specs.Rank.{rank_of, rank_below}
-use Rattle.exact_rank.specs.Rank.{sorted}
+use lib.Dec.{ltb}
+use lib.ListN.{length}
 use Rattle.exact_rank.specs.Counting.{one_if, below, KeyOfRank}
 use Rattle.exact_rank.proofs.Counting.{one_below, none_below, below_length, one_if-most}
-use Rattle.exact_rank.proofs.Sorting.{sorted-is_counted}
 use Rattle.buckets.specs.Buckets.{pick}
-use Rattle.buckets.specs.Signed.{bucket_count, magnitude, order, gap, value_of}
+use Rattle.buckets.specs.Signed.{order}
 use Rattle.buckets.proofs.Facts.{lt_or_ge}
-use Rattle.histogram.specs.Histogram.{bucket_at}
 use Rattle.quantiles.specs.declared.Quantiles.{Quantiles}
 use Rattle.quantiles.specs.Record.{grown}
 use Rattle.quantile_meaning.proofs.Growth.{Around, around-none, around_more}

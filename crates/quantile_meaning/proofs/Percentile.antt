@@ -2,30 +2,27 @@
 use mathlib.Core.Path.{◌≡◌, refl, sym, ◌∙◌, ap, subst}
 use mathlib.Core.Bool.{Bool, true, false}
 use mathlib.Core.List.{List, [], ◌∷◌, ◌++◌, append_assoc, append-nil}
-use Prim.Native.Nat.{ℕ, zero, suc, ◌+◌, ◌-◌, ◌*◌, ◌^◌, ◌≤◌, ◌<◌}
-use native.Mathlib.Nat.{le_trans, le_of_eq, lt_of_lt_of_le}
+use Prim.Native.Nat.{ℕ, suc, ◌+◌, ◌-◌, ◌^◌, ◌≤◌, ◌<◌}
 use native.Mathlib.Omega.{arith}
 use lib.Dec.{eqb}
 use lib.Ieee.{Float}
-use lib.ListN.{length, get_or, take, drop, length-append}
+use lib.ListN.{length, get_or, take, length-append}
 use Rattle.rank.specs.Rank.{rank_of, rank_below}
 use Rattle.exact_rank.specs.Rank.{sorted, at_rank}
-use Rattle.exact_rank.proofs.Sorting.{length-sorted}
 use Rattle.limits.specs.Refusals.{wrong_room}
 use Rattle.quantile_room.specs.Room.{room_size}
-use Rattle.buckets.specs.Signed.{magnitude, order, gap, index_of, value_of}
-use Rattle.histogram.specs.Histogram.{bucket_at}
+use Rattle.buckets.specs.Signed.{order, index_of, value_of}
 use Rattle.quantiles.specs.declared.Quantiles.{Quantiles}
 use Rattle.quantiles.specs.Record.{Outcome, still, taken, grown, stored, refuses, pick_outcome, recorded}
-use Rattle.histogram_ranks.specs.Ranks.{clamped, histogram_value}
+use Rattle.histogram_ranks.specs.Ranks.{clamped}
 use Rattle.percentiles.specs.Percentiles.{value_at, percentile}
 use Rattle.histogram_ranks.proofs.Values.{shows_bucket}
 use Rattle.percentiles.proofs.Values.{shows_sample, shows_histogram}
-use Rattle.quantile_meaning.specs.Words.{Words, none, more}
-use Rattle.quantile_meaning.specs.Grown.{Kept, fresh, record_all}
-use Rattle.quantile_meaning.proofs.Meaning.{sample_of, bucket_of_sample, within_one_part_in_128}
+use Rattle.quantile_meaning.specs.Words.{Words}
+use Rattle.quantile_meaning.specs.Grown.{fresh, record_all}
+use Rattle.quantile_meaning.proofs.Meaning.{sample_of, bucket_of_sample}
 use Rattle.quantile_meaning.proofs.Blocks.{held_bucket}
-use Rattle.quantile_meaning.proofs.Growth.{Around, around-none, around_more, Holds, step}
+use Rattle.quantile_meaning.proofs.Growth.{around-none, Holds, step}
 
 -- what one `record` leaves, read off its outcome
 pub after-step : (vs : List ℕ) (q : Quantiles) (room : List ℕ) (v : ℕ) → length vs + 1 < 2 ^ 64 → Holds vs q room → Holds (vs ++ (v ∷ [])) (recorded q room v).state (recorded q room v).room

@@ -4,9 +4,9 @@ use mathlib.Core.Path.{◌≡◌, refl, sym, ◌∙◌, ap, ap₂, subst}
 use mathlib.Core.Bool.{Bool, true, false, not, ◌&&◌, ◌||◌}
 use mathlib.Core.List.{List, [], ◌∷◌, map}
 use mathlib.Core.Logic.{⊎_elim}
-use Prim.Native.Nat.{ℕ, ◌+◌, ◌-◌, ◌*◌, ◌^◌, ◌≤◌, ◌<◌}
+use Prim.Native.Nat.{ℕ, ◌-◌, ◌*◌, ◌^◌, ◌≤◌, ◌<◌}
 use native.Mathlib.Omega.{arith}
-use borrow.Author.Tests.{eq-eqb, ne_eqb, le-leb, lt-leb}
+use borrow.Author.Tests.{eq-eqb, ne_eqb, le-leb}
 use lib.Dec.{leb, eqb}
 use lib.Ieee.{Float}
 use lib.ListN.{length, get_or, take, drop}
@@ -17,14 +17,13 @@ use Rattle.buckets.specs.Signed.{order, value_of}
 use Rattle.buckets.proofs.Facts.{lt_or_ge}
 use Rattle.histogram.specs.Histogram.{total, bucket_at}
 use Rattle.quantiles.specs.declared.Quantiles.{Quantiles}
-use Rattle.quantile_room.specs.Room.{block_count, room_size, buckets, totals}
+use Rattle.quantile_room.specs.Room.{room_size, totals}
 use Rattle.quantiles.specs.State.{crossed}
 use Rattle.quantiles.specs.Record.{filled_buckets, filled_totals}
-use Rattle.percentiles.specs.declared.Showing.TheVariants.{Shown}
-use Rattle.histogram_ranks.specs.Ranks.{block_at, block, lies, bucket_of, clamped, histogram_value}
+use Rattle.std.specs.Prelude.{Ok}
+use Rattle.histogram_ranks.specs.Ranks.{block_at, lies, clamped, histogram_value}
 use Rattle.percentiles.specs.Percentiles.{outcome, any_lies, spoilt, value_at, percentile, percentiles_of}
 use Rattle.percentiles.proofs.Ways.{way_exact, way_histogram}
-use Rattle.percentiles.proofs.Values.{shows_sample, shows_histogram}
 use Rattle.percentiles.proofs.Lies.{spoilt-block}
 use Rattle.quantile_meaning.specs.Words.{Words}
 use Rattle.quantile_meaning.specs.Grown.{fresh, record_all}
@@ -94,17 +93,17 @@ module _ (vs : List ℕ) (q : Quantiles) (room : List ℕ) (h : Holds vs q room)
   not_spoilt l ps =
       spoilt-block q room ps (eq-eqb (total (totals q.signed room)) q.count (ap total (h.totalled l) ∙ all_counted q.signed vs w ∙ sym h.count)) ∙ none-at l ps
 
-  pub held-served : 0 < length vs → (ps : List Float) (shown : List ℕ) → length shown ≡ length ps → percentiles_of q room ps shown ≡ outcome Shown (map (walked q room) ps)
+  pub held-served : 0 < length vs → (ps : List Float) (shown : List ℕ) → length shown ≡ length ps → percentiles_of q room ps shown ≡ outcome (Ok true) (map (walked q room) ps)
   held-served l ps shown same =
-      ⊎_elim late early (lt_or_ge 4096 (length vs)) ∙ ap (outcome Shown) (same_map (percentile q room) (walked q room) (same-percentile l) ps)
+      ⊎_elim late early (lt_or_ge 4096 (length vs)) ∙ ap (outcome (Ok true)) (same_map (percentile q room) (walked q room) (same-percentile l) ps)
     where
       fine : crossed q ≡ false
       fine = not_crossed vs q h.count h.around
 
-      late : 4096 < length vs → percentiles_of q room ps shown ≡ outcome Shown (map (percentile q room) ps)
+      late : 4096 < length vs → percentiles_of q room ps shown ≡ outcome (Ok true) (map (percentile q room) ps)
       late m = sym (way_histogram q room ps shown h.sized same fine (subst (λ (n : ℕ). 4096 < n) (sym h.count) m) (not_spoilt m ps))
 
-      early : length vs ≤ 4096 → percentiles_of q room ps shown ≡ outcome Shown (map (percentile q room) ps)
+      early : length vs ≤ 4096 → percentiles_of q room ps shown ≡ outcome (Ok true) (map (percentile q room) ps)
       early m =
           sym (way_exact q room ps shown h.sized same fine (subst (λ (n : ℕ). n ≤ 4096) (sym h.count) m) (λ z. nothing (length vs) l (sym h.count ∙ z)))
         where
@@ -115,6 +114,6 @@ module _ (vs : List ℕ) (q : Quantiles) (room : List ℕ) (h : Holds vs q room)
 -- full walk's.
 pub a_grown_room_shows_the_walk : (s : Bool) (room vs : List ℕ) (ps : List Float) (shown : List ℕ) → length room ≡ room_size s → Words vs → 0 < length vs → length vs < 2 ^ 64 → length shown ≡ length ps
     → percentiles_of (record_all (fresh s) room vs).state (record_all (fresh s) room vs).room ps shown
-    ≡ outcome Shown (map (walked (record_all (fresh s) room vs).state (record_all (fresh s) room vs).room) ps)
+    ≡ outcome (Ok true) (map (walked (record_all (fresh s) room vs).state (record_all (fresh s) room vs).room) ps)
 a_grown_room_shows_the_walk s room vs ps shown h w l m same =
     held-served vs (record_all (fresh s) room vs).state (record_all (fresh s) room vs).room (from_fresh s room vs h m) w l ps shown same

@@ -4,7 +4,7 @@ use mathlib.Core.Path.{◌≡◌, refl, sym, ◌∙◌, ap, subst}
 use mathlib.Core.Bool.{Bool, true, false}
 use mathlib.Core.List.{List, [], ◌∷◌, ◌++◌, append_assoc, append-nil}
 use mathlib.Core.Logic.{◌⊎◌, inl, inr, ⊎_elim}
-use Prim.Native.Nat.{ℕ, zero, suc, ◌+◌, ◌-◌, ◌*◌, ◌^◌, ◌≤◌, ◌<◌}
+use Prim.Native.Nat.{ℕ, suc, ◌+◌, ◌-◌, ◌*◌, ◌^◌, ◌≤◌, ◌<◌}
 use native.Mathlib.Omega.{arith}
 use borrow.Author.Tests.{eqb-true, eqb-false}
 use lib.Dec.{eqb}
@@ -14,16 +14,15 @@ use Rattle.rank.specs.Rank.{rank_of, rank_below}
 use Rattle.exact_rank.specs.Counting.{KeyOfRank}
 use Rattle.exact_rank.proofs.Sorting.{sorted-is_counted}
 use Rattle.quantile_room.specs.Room.{room_size}
-use Rattle.buckets.specs.Signed.{magnitude, order, gap, index_of, value_of}
-use Rattle.histogram.specs.Histogram.{bucket_at}
+use Rattle.buckets.specs.Signed.{magnitude, order, gap, value_of}
 use Rattle.quantiles.specs.declared.Quantiles.{Quantiles}
-use Rattle.quantiles.specs.Record.{Outcome, taken, grown, recorded}
+use Rattle.quantiles.specs.Record.{Outcome, taken, recorded}
 use Rattle.histogram_ranks.specs.Ranks.{clamped, histogram_value}
 use Rattle.percentiles.specs.Percentiles.{value_at, percentile}
 use Rattle.histogram_ranks.proofs.Values.{shows_min, shows_max, shows_bucket}
 use Rattle.percentiles.proofs.Values.{shows_histogram}
 use Rattle.quantile_meaning.specs.Words.{Words}
-use Rattle.quantile_meaning.specs.Grown.{Kept, fresh, record_all}
+use Rattle.quantile_meaning.specs.Grown.{fresh, record_all}
 use Rattle.quantile_meaning.proofs.Meaning.{sample_of, within_one_part_in_128}
 use Rattle.quantile_meaning.proofs.Blocks.{held_bucket}
 use Rattle.quantile_meaning.proofs.Growth.{Holds, step}

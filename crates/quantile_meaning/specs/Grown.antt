@@ -1,7 +1,7 @@
 -- Recording a list of values, one after the other. Assumes nothing.
 use Rattle.std.specs.Prelude.{Bool, List, [], ◌∷◌, ℕ}
 use Rattle.quantiles.specs.declared.Quantiles.{Quantiles}
-use Rattle.quantiles.specs.Record.{Outcome, recorded}
+use Rattle.quantiles.specs.Record.{recorded}
 
 -- a state and a room
 pub record Kept : Type 0 where

@@ -1,7 +1,7 @@
 -- The contract of `record` determines the answer, the state and each word of the room; and a call that is refused, or answers false,
 -- changes nothing. Assumes nothing.
 use mathlib.Core.Path.{◌≡◌, refl, sym, ap, ◌∙◌}
-use mathlib.Core.Bool.{Bool, true, false}
+use mathlib.Core.Bool.{Bool, true, false, true≢false}
 use mathlib.Core.List.{List}
 use Prim.Native.Nat.{ℕ, ◌-◌, ◌^◌}
 use native.Mathlib.Omega.{arith}
@@ -10,43 +10,36 @@ use borrow.Fn.World as World
 use borrow.Fn.Kinds as Kinds'
 use denote.Triple.Clauses as Clauses
 use lib.Dec.{eqb}
+use Rattle.std.specs.Prelude.{Option, Some, None, Result, Ok, Err}
+use Rattle.limits.specs.declared.Refusal.{Refusal}
 use Rattle.limits.specs.Refusals.{wrong_room}
 use Rattle.quantiles.specs.declared.Quantiles.{Quantiles}
-use Rattle.quantiles.specs.declared.Recording.{Recording}
-use Rattle.quantiles.specs.declared.Recording.TheVariants.{Refused, Full, Counted}
 use Rattle.quantiles.specs.Record.{Outcome, still, taken, outcome, refuses, recorded, grown, stored, pick_outcome}
+use Rattle.limits.proofs.Numbers.{number_of_unique}
+use Rattle.quantiles.proofs.Numbers.{some_number}
 use Rattle.quantiles.specs.contracts.Quantiles.record.{signature}
 use Rattle.quantiles.proofs.Quantiles.record.Kinds as K
 use Rattle.quantiles.proofs.Quantiles.record.Reads.{Post}
 
 -- an outcome tells the answer
-same_answer : (q : Quantiles) (r₁ r₂ : Recording) (l₁ l₂ : List ℕ) → outcome q r₁ l₁ ≡ outcome q r₂ l₂ → r₁ ≡ r₂
+pub same_answer : (q : Quantiles) (r₁ r₂ : Result (Option Quantiles) Refusal) (l₁ l₂ : List ℕ) → outcome q r₁ l₁ ≡ outcome q r₂ l₂ → r₁ ≡ r₂
 unfolding outcome still taken
-same_answer q Refused Refused l₁ l₂ e = refl
-same_answer q Refused Full l₁ l₂ e = absurd (no (ap (λ (o : Outcome). o.number) e))
-  where
-    no : ◌≡◌ {A = ℕ} 5 0 → ⊥
-    no e = omega arith
-same_answer q Refused (Counted n) l₁ l₂ e = absurd (no (ap (λ (o : Outcome). o.number) e))
-  where
-    no : ◌≡◌ {A = ℕ} 5 0 → ⊥
-    no e = omega arith
-same_answer q Full Refused l₁ l₂ e = absurd (no (ap (λ (o : Outcome). o.number) e))
-  where
-    no : ◌≡◌ {A = ℕ} 0 5 → ⊥
-    no e = omega arith
-same_answer q Full Full l₁ l₂ e = refl
-same_answer q Full (Counted n) l₁ l₂ e = cc (ap (λ (o : Outcome). o.answer) e)
-same_answer q (Counted m) Refused l₁ l₂ e = cc (ap (λ (o : Outcome). o.answer) e)
-same_answer q (Counted m) Full l₁ l₂ e = cc (ap (λ (o : Outcome). o.answer) e)
-same_answer q (Counted m) (Counted n) l₁ l₂ e = ap Counted (ap (λ (o : Outcome). o.state) e)
+same_answer q (Err x) (Err y) l₁ l₂ e = ap Err (number_of_unique x y (ap (λ (o : Outcome). o.number) e))
+same_answer q (Err x) (Ok None) l₁ l₂ e = absurd (some_number x (ap (λ (o : Outcome). o.number) e))
+same_answer q (Err x) (Ok (Some n)) l₁ l₂ e = absurd (some_number x (ap (λ (o : Outcome). o.number) e))
+same_answer q (Ok None) (Err y) l₁ l₂ e = absurd (some_number y (sym (ap (λ (o : Outcome). o.number) e)))
+same_answer q (Ok None) (Ok None) l₁ l₂ e = refl
+same_answer q (Ok None) (Ok (Some n)) l₁ l₂ e = absurd (true≢false (sym (ap (λ (o : Outcome). o.answer) e)))
+same_answer q (Ok (Some m)) (Err y) l₁ l₂ e = absurd (some_number y (sym (ap (λ (o : Outcome). o.number) e)))
+same_answer q (Ok (Some m)) (Ok None) l₁ l₂ e = absurd (true≢false (ap (λ (o : Outcome). o.answer) e))
+same_answer q (Ok (Some m)) (Ok (Some n)) l₁ l₂ e = ap (λ (x : Quantiles). Ok (Some x)) (ap (λ (o : Outcome). o.state) e)
 
 -- and the room
-room_of : (q : Quantiles) (r : Recording) (l : List ℕ) → (outcome q r l).room ≡ l
+pub room_of : (q : Quantiles) (r : Result (Option Quantiles) Refusal) (l : List ℕ) → (outcome q r l).room ≡ l
 unfolding outcome still taken
-room_of q Refused l = refl
-room_of q Full l = refl
-room_of q (Counted n) l = refl
+room_of q (Err x) l = refl
+room_of q (Ok None) l = refl
+room_of q (Ok (Some n)) l = refl
 
 -- any two exits that meet the contract are equal
 pub record-unique : (κs : Lfts 1) (a : World.ArgsD signature κs) (r₁ r₂ : World.ResD signature κs) (s₁ s₂ : Clauses.AtExit (Kinds'.ended_of 1 K.ps K.r) κs)

@@ -1,15 +1,15 @@
 -- The counts that samples are put into, by any place that a sample may have, and the room while they are. Assumes nothing.
 use mathlib.Core.Path.{◌≡◌, refl, sym, ◌∙◌, ap, ap₂, subst}
-use mathlib.Core.Bool.{Bool, true, false}
+use mathlib.Core.Bool.{Bool, false}
 use mathlib.Core.List.{List, [], ◌∷◌, ◌++◌}
 use Prim.Native.Nat.{ℕ, zero, suc, ◌+◌, ◌-◌, ◌/◌, ◌^◌, ◌≤◌, ◌<◌}
 use native.Mathlib.Nat.{le_refl, le_trans, le_of_eq, min-le_left}
 use native.Mathlib.Numerals.{add-one}
 use native.Mathlib.Omega.{arith}
-use lib.ListN.{length, get_or, set, take, drop, replicate, length-set, length-take, length-replicate, replicate-append-replicate}
+use lib.ListN.{length, get_or, take, drop, replicate, length-set, length-take, length-replicate, replicate-append-replicate}
 use lib.Seq.{take-suc}
-use Rattle.buckets.specs.Signed.{bucket_count, order, index_of}
-use Rattle.histogram.specs.Histogram.{total, bumped}
+use Rattle.buckets.specs.Signed.{bucket_count, index_of}
+use Rattle.histogram.specs.Histogram.{bumped}
 use Rattle.quantile_room.specs.Room.{block_count, room_size, samples, buckets, totals, block_of, full_at}
 use Rattle.quantiles.specs.Record.{tally, filled, filled_buckets, filled_totals}
 use Rattle.quantile_room.proofs.Parts.{three_samples, three_buckets, three_totals, three_length, samples-length, joined_sample}

@@ -1,13 +1,13 @@
 -- `record`: what a call answers and leaves, for every state, room and value. Assumes nothing.
-use Rattle.std.specs.Prelude.{Bool, true, false, not, ◌&&◌, ◌||◌, List, [], ◌∷◌, ◌++◌, ℕ, ◌+◌, ◌-◌, ◌^◌, ltb, eqb, length, get_or, set, take, drop, replicate}
+use Rattle.std.specs.Prelude.{Bool, true, false, not, ◌&&◌, ◌||◌, List, [], ◌∷◌, ◌++◌, ℕ, ◌+◌, ◌-◌, ◌^◌, ltb, eqb, get_or, set, replicate, Option, Some, None, Result, Ok, Err}
 use Rattle.limits.specs.Limits.{capacity}
+use Rattle.limits.specs.declared.Refusal.{Refusal}
+use Rattle.limits.specs.Numbers.{number_of}
 use Rattle.limits.specs.Refusals.{wrong_room}
 use Rattle.buckets.specs.Buckets.{pick}
 use Rattle.buckets.specs.Signed.{bucket_count, order, index_of}
 use Rattle.histogram.specs.Histogram.{bumped}
 use Rattle.quantiles.specs.declared.Quantiles.{Quantiles}
-use Rattle.quantiles.specs.declared.Recording.{Recording}
-use Rattle.quantiles.specs.declared.Recording.TheVariants.{Refused, Full, Counted}
 use Rattle.quantile_room.specs.Room.{block_count, samples, buckets, totals, block_of, sized}
 use Rattle.quantiles.specs.State.{crossed}
 
@@ -27,11 +27,11 @@ unfoldable pub taken : Quantiles → List ℕ → Outcome
 taken q room = record { number = 0; answer = true; state = q; room = room }
 
 -- document 01's number and values for each case of the answer to a call at the state q
-unfoldable pub outcome : Quantiles → Recording → List ℕ → Outcome
+unfoldable pub outcome : Quantiles → Result (Option Quantiles) Refusal → List ℕ → Outcome
 unfolding still taken
-outcome q Refused room = still wrong_room q room
-outcome q Full room = still 0 q room
-outcome q (Counted next) room = taken next room
+outcome q (Err refusal) room = still (number_of refusal) q room
+outcome q (Ok None) room = still 0 q room
+outcome q (Ok (Some next)) room = taken next room
 
 -- a bucket or a block total that would pass u64: the value's own, where the room is a histogram already (sample 4,097 zeroes both first)
 unfoldable pub passes : Quantiles → List ℕ → ℕ → Bool

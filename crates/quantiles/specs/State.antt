@@ -1,5 +1,5 @@
 -- Which state of quantiles no call leaves. Document 01, "Estimates and percentiles" and refusal 5. Assumes nothing.
-use Rattle.std.specs.Prelude.{Bool, ◌&&◌, ℕ, ltb}
+use Rattle.std.specs.Prelude.{Bool, ◌&&◌, ltb}
 use Rattle.buckets.specs.Signed.{order}
 use Rattle.quantiles.specs.declared.Quantiles.{Quantiles}
 

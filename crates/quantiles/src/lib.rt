@@ -1,10 +1,14 @@
 // `Quantiles` of src/stats/quantiles.rs: its state by value, and `record`. `Storage` is a lent room of u64 words (`quantile_room`). The type
 // parameter is the flag `signed`, and an i64 is its two's complement word.
+#![tactic(auto)]
+
 ghost use Rattle.std.specs.Prelude.{◌≡◌, true, false, ◌++◌, ◌+◌, ◌-◌, ◌<◌, ◌≤◌, ◌^◌, length, take, replicate};
 ghost use Rattle.quantile_room.specs.Room.{room_size, samples};
 ghost use Rattle.quantiles.specs.State.{crossed};
 ghost use Rattle.quantiles.specs.Record.{outcome, recorded, grown, filled_buckets, filled_totals};
 ghost use Rattle.quantiles.specs.Between.{between, Tried};
+
+use limits::Refusal;
 
 // A count that has no room for one more.
 const MOST: u64 = 18446744073709551615;
@@ -16,14 +20,6 @@ pub struct Quantiles {
     pub count: u64,
     pub min: u64,
     pub max: u64,
-}
-
-// The answer of `record`: refusal 5; false, at a count of 2^64-1; or true, with the state after it.
-#[derive(Clone, Copy)]
-pub enum Recording {
-    Refused,
-    Full,
-    Counted(Quantiles),
 }
 
 // `Default`: no samples yet. What the room holds then does not matter.
@@ -75,49 +71,47 @@ fn fill(signed: bool, room: &mut [u64])
     ensures { room.new ≡ samples room.old ++ (filled_buckets signed (samples room.old) ++ filled_totals signed (samples room.old)) }
 {
     clear_counts(room);
-    let mut i = 0;
-    while i < limits::CAPACITY {
+    for i in 0..limits::CAPACITY {
         let place = buckets::bucket_of(signed, room[i]);
         quantile_room::count_in(signed, room, place);
-        i += 1;
     }
 }
 
 // A sample of the exact mode: it stands behind those before it.
-fn add_sample(q: Quantiles, room: &mut [u64], value: u64) -> Recording
+fn add_sample(q: Quantiles, room: &mut [u64], value: u64) -> Result<Option<Quantiles>, Refusal>
     requires { (length room.old ≡ room_size q.signed) × (crossed q ≡ false) × (0 < q.count) × (q.count < 4096) }
     ensures { outcome q result room.new ≡ recorded q room.old value }
 {
     let next = q.count as usize;
     quantile_room::put_sample(room, next, value);
-    Recording::Counted(grow(q, value))
+    Ok(Some(grow(q, value)))
 }
 
 // Sample 4,097: the buckets and the totals are zeroed, then filled, and have it too.
-fn add_first(q: Quantiles, room: &mut [u64], value: u64) -> Recording
+fn add_first(q: Quantiles, room: &mut [u64], value: u64) -> Result<Option<Quantiles>, Refusal>
     requires { (length room.old ≡ room_size q.signed) × (crossed q ≡ false) × (q.count ≡ 4096) }
     ensures { outcome q result room.new ≡ recorded q room.old value }
 {
     let place = buckets::bucket_of(q.signed, value);
     fill(q.signed, room);
     quantile_room::count_in(q.signed, room, place);
-    Recording::Counted(grow(q, value))
+    Ok(Some(grow(q, value)))
 }
 
 // A sample of a histogram: its bucket and its block have one more, unless one of them or the count is full.
-fn add_later(q: Quantiles, room: &mut [u64], value: u64) -> Recording
+fn add_later(q: Quantiles, room: &mut [u64], value: u64) -> Result<Option<Quantiles>, Refusal>
     requires { (length room.old ≡ room_size q.signed) × (crossed q ≡ false) × (4096 < q.count) }
     ensures { outcome q result room.new ≡ recorded q room.old value }
 {
     let place = buckets::bucket_of(q.signed, value);
     if quantile_room::full_at(q.signed, room, place) {
-        return Recording::Refused;
+        return Err(Refusal::WrongRoom);
     }
     if q.count == MOST {
-        return Recording::Full;
+        return Ok(None);
     }
     quantile_room::count_in(q.signed, room, place);
-    Recording::Counted(grow(q, value))
+    Ok(Some(grow(q, value)))
 }
 
 // Tries a sample of the exact mode.
@@ -151,60 +145,60 @@ fn try_later(q: Quantiles, room: &mut [u64], value: u64) -> bool
 
 impl Quantiles {
     // `record` of the first sample, which is the least and the greatest.
-    fn record_first(self, room: &mut [u64], value: u64) -> Recording
+    fn record_first(self, room: &mut [u64], value: u64) -> Result<Option<Quantiles>, Refusal>
         requires { self.count ≡ 0 }
         ensures { outcome self result room.new ≡ recorded self room.old value }
     {
         if room.len() != quantile_room::room_size(self.signed) {
-            return Recording::Refused;
+            return Err(Refusal::WrongRoom);
         }
         quantile_room::put_sample(room, 0, value);
-        Recording::Counted(Quantiles {
+        Ok(Some(Quantiles {
             signed: self.signed,
             count: 1,
             min: value,
             max: value,
-        })
+        }))
     }
 
     // `record` of a sample of the exact mode, not the first.
-    fn record_sample(self, room: &mut [u64], value: u64) -> Recording
+    fn record_sample(self, room: &mut [u64], value: u64) -> Result<Option<Quantiles>, Refusal>
         requires { (0 < self.count) × (self.count < 4096) }
         ensures { outcome self result room.new ≡ recorded self room.old value }
     {
         if room.len() != quantile_room::room_size(self.signed) {
-            return Recording::Refused;
+            return Err(Refusal::WrongRoom);
         }
         if extremes::above(self.signed, self.min, self.max) {
-            return Recording::Refused;
+            return Err(Refusal::WrongRoom);
         }
         add_sample(self, room, value)
     }
 
     // `record` of sample 4,097.
-    fn record_building(self, room: &mut [u64], value: u64) -> Recording
+    fn record_building(self, room: &mut [u64], value: u64) -> Result<Option<Quantiles>, Refusal>
         requires { self.count ≡ 4096 }
         ensures { outcome self result room.new ≡ recorded self room.old value }
     {
         if room.len() != quantile_room::room_size(self.signed) {
-            return Recording::Refused;
+            return Err(Refusal::WrongRoom);
         }
         if extremes::above(self.signed, self.min, self.max) {
-            return Recording::Refused;
+            return Err(Refusal::WrongRoom);
         }
         add_first(self, room, value)
     }
 
     // `record` of a later sample.
-    fn record_later(self, room: &mut [u64], value: u64) -> Recording
+    fn record_later(self, room: &mut [u64], value: u64) -> Result<Option<Quantiles>, Refusal>
         requires { 4096 < self.count }
         ensures { outcome self result room.new ≡ recorded self room.old value }
     {
         if room.len() != quantile_room::room_size(self.signed) {
-            return Recording::Refused;
+            return Err(Refusal::WrongRoom);
         }
         if extremes::above(self.signed, self.min, self.max) {
-            return Recording::Refused;
+            return Err(Refusal::WrongRoom);
         }
         add_later(self, room, value)
     }
@@ -225,9 +219,9 @@ impl Quantiles {
         false
     }
 
-    // `record`: one sample more, in the room that holds the others. A caller that is to be fast asks for `record_between` first, with a flag that
+    // `record`: one sample more, in the room that holds the others: refusal 5; none, Rust's false, at a count of 2^64-1; or the state after it. A caller that is to be fast asks for `record_between` first, with a flag that
     // the compiler knows, and for this where that took nothing.
-    pub fn record(self, room: &mut [u64], value: u64) -> Recording
+    pub fn record(self, room: &mut [u64], value: u64) -> Result<Option<Quantiles>, Refusal>
         ensures { outcome self result room.new ≡ recorded self room.old value }
     {
         if self.count == 0 {

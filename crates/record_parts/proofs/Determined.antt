@@ -1,12 +1,19 @@
 -- The contract of each public function determines its answer. Assumes nothing.
-use mathlib.Core.Path.{sym, ◌∙◌}
+use mathlib.Core.Path.{◌≡◌, sym, ◌∙◌}
+use mir.Syntax.{Dict}
+use contract.Lifetimes.{Lfts}
+use denote.RattleType.{RattleType}
+use denote.Param.Laws.{Laws, IsCopy}
+use denote.Triple.Clauses.{AtExit}
+use borrow.Fn.Kinds.{Dens, res_t, ended_of}
+use Rattle.std.specs.declared.clone.Clone.{Ghosts}
 use Rattle.floats.proofs.Determined.{OneAnswer}
 use Rattle.record_parts.proofs.call_of.Kinds as call-of
 use Rattle.record_parts.proofs.call_of.Reads as call-of'
 use Rattle.record_parts.proofs.flag_set.Kinds as flag-set
 use Rattle.record_parts.proofs.flag_set.Reads as flag-set'
-use Rattle.record_parts.proofs.pending_flag.Kinds as pending-flag
-use Rattle.record_parts.proofs.pending_flag.Reads as pending-flag'
+use Rattle.record_parts.proofs.flag_of.Kinds as flag-of
+use Rattle.record_parts.proofs.flag_of.Reads as flag-of'
 use Rattle.record_parts.proofs.pending_time.Kinds as pending-time
 use Rattle.record_parts.proofs.pending_time.Reads as pending-time'
 use Rattle.record_parts.proofs.pending_tag.Kinds as pending-tag
@@ -54,8 +61,12 @@ call_of-unique κs a r₁ r₂ s₁ s₂ p q = p ∙ sym q
 pub flag_set-unique : OneAnswer flag-set.ps flag-set.r flag-set'.Post
 flag_set-unique κs a x y s t p q = p ∙ sym q
 
-pub pending_flag-unique : OneAnswer pending-flag.ps pending-flag.r pending-flag'.Post
-pending_flag-unique κs a x y s t p q = p ∙ sym q
+-- of a part of any type that is copied
+module _ (T : RattleType) (laws : Laws T) (copy : IsCopy T) (clone : Ghosts T.Denot) (dict : Dict) where
+  pub flag_of-unique :
+      (κs : Lfts 1) (a : Dens κs (flag-of.ps T laws copy)) (x y : (res_t (flag-of.r T laws copy) κs).Denot) (s t : AtExit (ended_of 1 (flag-of.ps T laws copy) (flag-of.r T laws copy)) κs)
+      → flag-of'.Post T laws copy clone dict κs a x s → flag-of'.Post T laws copy clone dict κs a y t → x ≡ y
+  flag_of-unique κs a x y s t p q = p.0 ∙ sym q.0
 
 pub pending_time-unique : OneAnswer pending-time.ps pending-time.r pending-time'.Post
 pending_time-unique κs a x y s t p q = p ∙ sym q

@@ -1,24 +1,12 @@
 -- What the declared types of a call and of a record hold, and that an estimate's scale has six bits: such a record loses nothing in its bytes.
 -- Assumes nothing.
-use Rattle.std.specs.Prelude.{◌≡◌, ℕ, ◌^◌, ◌≤◌, ◌<◌}
+use Rattle.std.specs.Prelude.{◌≡◌, ℕ, ◌^◌, ◌≤◌, ◌<◌, Option, Some, None, ℤ}
 use Rattle.std.specs.Int.{w32, w64}
 use Rattle.std.proofs.Common.{SFits}
 use Rattle.estimate.specs.declared.ErrorEstimate.{ErrorEstimate}
-use Rattle.estimate.specs.declared.Estimates.{Estimates}
-use Rattle.estimate.specs.declared.Estimates.TheVariants as estimates
-use Rattle.call_types.specs.declared.Time.{Time}
-use Rattle.call_types.specs.declared.Time.TheVariants as time
 use Rattle.call_types.specs.declared.PendingPacket.{PendingPacket}
-use Rattle.call_types.specs.declared.Pending.{Pending}
-use Rattle.call_types.specs.declared.Pending.TheVariants as pending
-use Rattle.call_types.specs.declared.Ordinal.{Ordinal}
-use Rattle.call_types.specs.declared.Ordinal.TheVariants as ordinal
 use Rattle.call_types.specs.declared.CounterPoint.{CounterPoint}
-use Rattle.call_types.specs.declared.Counters.{Counters}
-use Rattle.call_types.specs.declared.Counters.TheVariants as counters
 use Rattle.call_types.specs.declared.FollowUpTelemetry.{FollowUpTelemetry}
-use Rattle.call_types.specs.declared.FollowUp.{FollowUp}
-use Rattle.call_types.specs.declared.FollowUp.TheVariants as follow
 use Rattle.call_types.specs.declared.ReplyKey.{ReplyKey}
 use Rattle.call_types.specs.declared.Reply.{Reply}
 use Rattle.call_types.specs.declared.SentProbe.{SentProbe}
@@ -44,9 +32,9 @@ pub record PacketFits (p : PendingPacket) : Type 0 where
   pub tag : U64 p.tag
 
 -- a pending packet's two words are u64; nothing is asked where none is pending
-abbrev pub PendingFits : Pending → Type 0
-PendingFits pending.Absent = Unit
-PendingFits (pending.Held p) = PacketFits p
+abbrev pub PendingFits : Option PendingPacket → Type 0
+PendingFits None = Unit
+PendingFits (Some p) = PacketFits p
 
 -- sender and reflector sequence of 4 bytes, T3 of 8
 pub record KeyFits (k : ReplyKey) : Type 0 where
@@ -55,14 +43,14 @@ pub record KeyFits (k : ReplyKey) : Type 0 where
   pub t3 : U64 k.t3
 
 -- a T4 or converted T3 is a signed number of 64 bits; nothing is asked where it is absent
-abbrev pub TimeFits : Time → Type 0
-TimeFits time.Absent = Unit
-TimeFits (time.Nanoseconds z) = SFits w64 z
+abbrev pub TimeFits : Option ℤ → Type 0
+TimeFits None = Unit
+TimeFits (Some z) = SFits w64 z
 
 -- an observation's ordinal has 4 bytes; nothing is asked where it is absent
-abbrev pub OrdinalFits : Ordinal → Type 0
-OrdinalFits ordinal.Absent = Unit
-OrdinalFits (ordinal.Number n) = U32 n
+abbrev pub OrdinalFits : Option ℕ → Type 0
+OrdinalFits None = Unit
+OrdinalFits (Some n) = U32 n
 
 -- S_TxC, R_RxC and R_TxC have 4 bytes each
 pub record PointFits (p : CounterPoint) : Type 0 where
@@ -71,9 +59,9 @@ pub record PointFits (p : CounterPoint) : Type 0 where
   pub transmitted : U32 p.transmitted.0
 
 -- all three have; nothing is asked where they are absent
-abbrev pub CountersFit : Counters → Type 0
-CountersFit counters.Absent = Unit
-CountersFit (counters.Point p) = PointFits p
+abbrev pub CountersFit : Option CounterPoint → Type 0
+CountersFit None = Unit
+CountersFit (Some p) = PointFits p
 
 -- a follow-up's sequence of 4 bytes and its timestamp of 8
 pub record TelemetryFits (f : FollowUpTelemetry) : Type 0 where
@@ -81,9 +69,9 @@ pub record TelemetryFits (f : FollowUpTelemetry) : Type 0 where
   pub timestamp : U64 f.timestamp
 
 -- the same of an observation's follow-up; nothing is asked where it has none
-abbrev pub FollowFits : FollowUp → Type 0
-FollowFits follow.Absent = Unit
-FollowFits (follow.Telemetry f) = TelemetryFits f
+abbrev pub FollowFits : Option FollowUpTelemetry → Type 0
+FollowFits None = Unit
+FollowFits (Some f) = TelemetryFits f
 
 -- a scale of six bits (a larger one would lose bits in the wire) and a multiplier of eight
 pub record EstimateFits (e : ErrorEstimate) : Type 0 where
@@ -91,9 +79,9 @@ pub record EstimateFits (e : ErrorEstimate) : Type 0 where
   pub multiplier : e.multiplier < 256
 
 -- the same of the sender's and the reflector's; nothing is asked where they are absent
-abbrev pub EstimatesFit : Estimates → Type 0
-EstimatesFit estimates.Absent = Unit
-EstimatesFit (estimates.Pair s r) = EstimateFits s × EstimateFits r
+abbrev pub EstimatesFit : Option (ErrorEstimate × ErrorEstimate) → Type 0
+EstimatesFit None = Unit
+EstimatesFit (Some (s, r)) = EstimateFits s × EstimateFits r
 
 -- what `sent` is told: sequence, ordinal and train of 4 bytes, and the packet
 pub record SentFits (p : SentProbe) : Type 0 where
@@ -120,9 +108,9 @@ pub record ObservationFits (o : ReplyObservation) : Type 0 where
   pub quality : EstimatesFit o.quality
 
 -- a record's converted T3: a signed number of 64 bits beside a follow-up, and absent where there is none
-abbrev pub ConvertedFits : FollowUp → Time → Type 0
-ConvertedFits follow.Absent t = t ≡ time.Absent
-ConvertedFits (follow.Telemetry f) t = TimeFits t
+abbrev pub ConvertedFits : Option FollowUpTelemetry → Option ℤ → Type 0
+ConvertedFits None t = t ≡ None
+ConvertedFits (Some f) t = TimeFits t
 
 -- the same of a record of any kind: an advance has its now, an idle has no field
 abbrev pub EntryFits : Entry → Type 0

@@ -1,4 +1,5 @@
 -- The parts of the second count put together, as the code puts them. Assumes nothing.
+use Rattle.std.specs.Prelude.{Result, Ok, Err}
 use mathlib.Core.Path.{◌≡◌, refl, sym, ap, ◌∙◌}
 use mathlib.Core.Bool.{Bool, true, false, ◌&&◌}
 use mathlib.Core.List.{List}
@@ -8,14 +9,14 @@ use lib.Dec.{eqb}
 use lib.ListN.{length}
 use borrow.Author.Tests.{eq-eqb, eqb-true}
 use Rattle.limits.specs.Limits.{capacity}
+use Rattle.limits.specs.declared.Refusal.{Refusal}
+use Rattle.limits.specs.Numbers.{number_of}
 use Rattle.history.specs.Ledger.{copies_of}
 use Rattle.history.specs.FollowUps.{round_trips}
 use Rattle.history.specs.DirectLoss.{window, spans}
 use Rattle.log_whole.specs.declared.Settings.{Settings}
-use Rattle.log_whole.specs.declared.Log.{Log}
-use Rattle.log_whole.specs.declared.Log.TheVariants as log'
+use Rattle.log_whole.specs.declared.Fault.{Fault}
 use Rattle.log_whole.specs.Logs.{log_of}
-use Rattle.report.specs.declared.ReportAnswer.TheVariants as answer
 use Rattle.report.specs.declared.figures.PlayedRecords.{PlayedRecords}
 use Rattle.report.specs.declared.figures.Loss.{Loss}
 use Rattle.report.specs.declared.figures.Replies.{Replies}
@@ -37,8 +38,6 @@ use Rattle.recount_marks.specs.Marks.{marked_to}
 use Rattle.recount_marks.proofs.Records.{few_records}
 use Rattle.recount_queue.specs.Moves.{move_at}
 use Rattle.recount_monitor.specs.Session.{session_in, fronts_after}
-use Rattle.recount.specs.declared.Checked.{Checked}
-use Rattle.recount.specs.declared.Checked.TheVariants.{Refused, Good}
 use Rattle.recount.specs.Figures.{followup_at, direct_at, figures_by, watched_by, figures_at}
 use Rattle.recount.specs.Recount.{most_records, rooms_fit, checked_by, recounted, Recounted, marks_of, fronts_of, recount_good, recount_by, recount_of_log}
 
@@ -115,14 +114,12 @@ module _ (s : Settings) (log marks fronts buffer : List ℕ) where
 
 -- ---- what the check tells
 
-apart : {n : ℕ} {s : Settings} → Refused n ≡ Good s → ⊥
+apart : {r : Refusal} {s : Settings} → ◌≡◌ {A = Result Settings Refusal} (Err r) (Ok s) → ⊥
 apart e = let z : ◌≡◌ {A = ℕ} 0 1 = cc in omega arith
 
-pub checked_good : (fit : Bool) (l : Log) (s : Settings) → Good s ≡ checked_by fit l → (fit ≡ true) × (l ≡ log'.Good s)
-checked_good true log'.TooLong s e = absurd (apart (sym e))
-checked_good true log'.BadTrailer s e = absurd (apart (sym e))
-checked_good true (log'.BadRecord n) s e = absurd (apart (sym e))
-checked_good true (log'.Good s') s e = (refl, cc)
+pub checked_good : (fit : Bool) (l : Result Settings Fault) (s : Settings) → Ok s ≡ checked_by fit l → (fit ≡ true) × (l ≡ Ok s)
+checked_good true (Err f) s e = absurd (apart (sym e))
+checked_good true (Ok s') s e = (refl, cc)
 checked_good false l s e = absurd (apart (sym e))
 
 both : (a b : Bool) → a && b ≡ true → (a ≡ true) × (b ≡ true)
@@ -138,10 +135,10 @@ rooms_are marks fronts buffer e =
     let y = both (eqb marks most_records) (eqb fronts most_records) x.0 in
     (eqb-true marks most_records y.0, eqb-true fronts most_records y.1, eqb-true buffer report_room x.1)
 
-module _ (log marks fronts buffer : List ℕ) (fit : Bool) (found : Log) (checked : Checked)
+module _ (log marks fronts buffer : List ℕ) (fit : Bool) (found : Result Settings Fault) (checked : Result Settings Refusal)
     (fits : fit ≡ rooms_fit (length marks) (length fronts) (length buffer)) (reads : found ≡ log_of log) (checks : checked ≡ checked_by fit found) where
   -- so a good log's records have their room
-  pub rooms_for : (s : Settings) → checked ≡ Good s
+  pub rooms_for : (s : Settings) → checked ≡ Ok s
       → (s.count ≤ length marks) × (s.count ≤ length fronts) × (s.count < 65536) × (length buffer ≡ report_room)
   rooms_for s e =
       let c = checked_good fit found s (sym e ∙ checks) in
@@ -152,12 +149,12 @@ module _ (log marks fronts buffer : List ℕ) (fit : Bool) (found : Log) (checke
   pub by-check : recount_by checked log marks fronts buffer ≡ recount_of_log log marks fronts buffer
   unfolding recount_of_log
   by-check =
-      ap (λ (x : Checked). recount_by x log marks fronts buffer) checks
+      ap (λ (x : Result Settings Refusal). recount_by x log marks fronts buffer) checks
       ∙ (λ i. recount_by (checked_by (fits i) (reads i)) log marks fronts buffer)
 
-  pub refused_is : (n : ℕ) → checked ≡ Refused n → recounted (outcome (answer.Refused n) buffer) marks fronts ≡ recount_of_log log marks fronts buffer
+  pub refused_is : (r : Refusal) → checked ≡ Err r → recounted (outcome (Err (number_of r)) buffer) marks fronts ≡ recount_of_log log marks fronts buffer
   unfolding outcome
-  refused_is n e = sym (ap (λ (x : Checked). recount_by x log marks fronts buffer) e) ∙ by-check
+  refused_is r e = sym (ap (λ (x : Result Settings Refusal). recount_by x log marks fronts buffer) e) ∙ by-check
 
-  pub counted_is : (s : Settings) (left : Recounted) → checked ≡ Good s → left ≡ recount_good s log marks fronts buffer → left ≡ recount_of_log log marks fronts buffer
-  counted_is s left e r = r ∙ sym (ap (λ (x : Checked). recount_by x log marks fronts buffer) e) ∙ by-check
+  pub counted_is : (s : Settings) (left : Recounted) → checked ≡ Ok s → left ≡ recount_good s log marks fronts buffer → left ≡ recount_of_log log marks fronts buffer
+  counted_is s left e r = r ∙ sym (ap (λ (x : Result Settings Refusal). recount_by x log marks fronts buffer) e) ∙ by-check

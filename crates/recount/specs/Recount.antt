@@ -1,18 +1,16 @@
 -- The second count of a log: its report, or the number with which it is refused, and what is left in the lent rooms. Assumes nothing.
-use Rattle.std.specs.Prelude.{Bool, true, false, ◌&&◌, List, [], ℕ, eqb, length}
-use Rattle.limits.specs.Refusals.{wrong_room}
-use Rattle.log_record.specs.Records.{bad_record}
+use Rattle.std.specs.Prelude.{Bool, true, false, ◌&&◌, List, [], ℕ, eqb, length, Result, Ok, Err}
+use Rattle.limits.specs.declared.Refusal.{Refusal}
+use Rattle.limits.specs.declared.Refusal.TheVariants as refusal
+use Rattle.limits.specs.Numbers.{number_of}
 use Rattle.log_whole.specs.declared.Settings.{Settings}
-use Rattle.log_whole.specs.declared.Log.{Log}
-use Rattle.log_whole.specs.declared.Log.TheVariants as log'
-use Rattle.log_whole.specs.Logs.{too_long, bad_trailer, log_of}
+use Rattle.log_whole.specs.declared.Fault.{Fault}
+use Rattle.log_whole.specs.Logs.{refusal_of, log_of}
 use Rattle.report.specs.Lines.{text_of}
 use Rattle.report.specs.Report.{Outcome, report_room, written}
 use Rattle.recount_marks.specs.Marks.{marked_to}
 use Rattle.recount_queue.specs.Moves.{move_at}
 use Rattle.recount_monitor.specs.Session.{fronts_after}
-use Rattle.recount.specs.declared.Checked.{Checked}
-use Rattle.recount.specs.declared.Checked.TheVariants.{Refused, Good}
 use Rattle.recount.specs.Figures.{watched_by, figures_at}
 
 -- ---- what is refused
@@ -26,16 +24,14 @@ abbrev pub rooms_fit : (marks fronts buffer : ℕ) → Bool
 rooms_fit marks fronts buffer = eqb marks most_records && eqb fronts most_records && eqb buffer report_room
 
 -- "9 above 65,536 bytes, 7 bad trailer, 8 bad record (first, from 0); tested in that order"
-abbrev pub checked_of : Log → Checked
-checked_of log'.TooLong = Refused too_long
-checked_of log'.BadTrailer = Refused bad_trailer
-checked_of (log'.BadRecord n) = Refused bad_record
-checked_of (log'.Good s) = Good s
+abbrev pub checked_of : Result Settings Fault → Result Settings Refusal
+checked_of (Err f) = Err (refusal_of f)
+checked_of (Ok s) = Ok s
 
 -- before these, 5 where a room has another size
-abbrev pub checked_by : Bool → Log → Checked
+abbrev pub checked_by : Bool → Result Settings Fault → Result Settings Refusal
 checked_by true l = checked_of l
-checked_by false l = Refused wrong_room
+checked_by false l = Err refusal.WrongRoom
 
 -- ---- what the call leaves
 
@@ -67,9 +63,9 @@ abbrev pub refused_with : ℕ → (marks fronts buffer : List ℕ) → Recounted
 refused_with n marks fronts buffer = recounted (record { number = n; values = []; buffer = buffer }) marks fronts
 
 -- the one or the other
-abbrev pub recount_by : Checked → List ℕ → (marks fronts buffer : List ℕ) → Recounted
-recount_by (Refused n) log marks fronts buffer = refused_with n marks fronts buffer
-recount_by (Good s) log marks fronts buffer = recount_good s log marks fronts buffer
+abbrev pub recount_by : Result Settings Refusal → List ℕ → (marks fronts buffer : List ℕ) → Recounted
+recount_by (Err r) log marks fronts buffer = refused_with (number_of r) marks fronts buffer
+recount_by (Ok s) log marks fronts buffer = recount_good s log marks fronts buffer
 
 -- THE SECOND COUNT of a log, in rooms that may hold anything
 unfoldable pub recount_of_log : List ℕ → (marks fronts buffer : List ℕ) → Recounted

@@ -1,13 +1,10 @@
 -- What one record more changes in an answer that was got by looking back. Assumes nothing.
-use Rattle.std.specs.Prelude.{ℕ, ◌^◌, Bool, false, cond, ◌==◌, nat_le, nat_lt}
-use Rattle.std.proofs.Math.Option.{Option, none, some}
+use Rattle.std.specs.Prelude.{◌≡◌, ℕ, zero, suc, ◌^◌, Bool, false, cond, ◌==◌, nat_le, nat_lt, Some, None, Option}
 use Rattle.call_types.specs.declared.ReplyKey.{ReplyKey}
 use Rattle.history.specs.Counting.{tally, offset}
 use Rattle.history.specs.Ledger.{same_key}
 use Rattle.recount_seen.specs.declared.Seen.{Seen}
 use Rattle.recount_seen.specs.declared.Seen.TheVariants.{Nothing, Probe, Duplicate, Unknown, Known, First, Observed}
-use Rattle.recount_back.specs.declared.Highest.{Highest}
-use Rattle.recount_back.specs.declared.Highest.TheVariants.{Absent, Number}
 
 -- it is a unique reply with this key
 abbrev pub accepts : Seen → ReplyKey → Bool
@@ -31,8 +28,8 @@ remembers (Observed o) q = false
 
 -- this key awaits its observe
 abbrev pub awaits : Option ReplyKey → ReplyKey → Bool
-awaits none k = false
-awaits (some a) k = same_key k a
+awaits None k = false
+awaits (Some a) k = same_key k a
 
 -- the same after one record more
 abbrev pub awaits_next : Seen → ReplyKey → Bool → Bool
@@ -59,17 +56,17 @@ replies_next (First a) q n = tally (q == a.key.sender) (zero_if (q == a.key.send
 replies_next (Observed o) q n = n
 
 -- the highest reflector number, or none
-abbrev pub highest_of : Option ℕ → Highest
-highest_of none = Absent
-highest_of (some h) = Number h
+abbrev pub highest_of : Option ℕ → Option ℕ
+highest_of None = None
+highest_of (Some h) = Some h
 
 -- a step below 2^31 from the highest is a new highest; the first sets it
-abbrev pub raised : ℕ → Highest → Highest
-raised r Absent = Number r
-raised r (Number h) = cond (nat_lt (offset h r) (2 ^ 31)) (Number r) (Number h)
+abbrev pub raised : ℕ → Option ℕ → Option ℕ
+raised r None = Some r
+raised r (Some h) = cond (nat_lt (offset h r) (2 ^ 31)) (Some r) (Some h)
 
 -- the highest after one record more
-abbrev pub highest_next : Seen → Highest → Highest
+abbrev pub highest_next : Seen → Option ℕ → Option ℕ
 highest_next Nothing h = h
 highest_next (Probe s) h = h
 highest_next Duplicate h = h
@@ -79,6 +76,14 @@ highest_next (First a) h = raised a.key.reflector h
 highest_next (Observed o) h = h
 
 -- a step of 2^31 or more from the highest
-abbrev pub is_behind : ℕ → Highest → Bool
-is_behind r Absent = false
-is_behind r (Number h) = nat_le (2 ^ 31) (offset h r)
+abbrev pub is_behind : ℕ → Option ℕ → Bool
+is_behind r None = false
+is_behind r (Some h) = nat_le (2 ^ 31) (offset h r)
+
+-- how many of the numbers below n pass a test
+abbrev pub counts_to : (ℕ → Bool → Type 0) → ℕ → ℕ → Type 0
+counts_to test zero r = r ≡ 0
+counts_to test (suc n) r = (b : Bool) × (m : ℕ) × counts_to test n m × test n b × (r ≡ tally b m)
+
+pub record Counted (test : ℕ → Bool → Type 0) (n r : ℕ) : Type 0 where
+  pub ran : counts_to test n r

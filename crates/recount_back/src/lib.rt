@@ -1,12 +1,12 @@
 // Looking back: what the first n records of a marked log say. Each function goes through the records from the first, and keeps one answer.
-ghost use Rattle.std.specs.Prelude.{◌≡◌, ◌+◌, ◌^◌, ◌<◌, ◌≤◌, length};
+ghost use Rattle.std.specs.Prelude.{ℕ, ◌≡◌, ◌+◌, ◌^◌, ◌<◌, ◌≤◌, length};
 ghost use Rattle.history.specs.Counting.{has, tally, offset};
 ghost use Rattle.history.specs.Ledger.{same_key, has_key, accepted, rememberings, awaiting, replies, highest_reflector};
 ghost use Rattle.recount_seen.specs.Seen.{events_of};
-ghost use Rattle.recount_back.specs.Back.{accepts, remembers, awaits, awaits_next, replies_next, zero_if, highest_of, raised, highest_next, is_behind};
+ghost use Rattle.recount_back.specs.Back.{accepts, remembers, awaits, awaits_next, replies_next, zero_if, highest_of, raised, highest_next, is_behind, Counted};
 
 use call_types::ReplyKey;
-use recount_seen::Seen;
+use recount_seen::{Marked, Seen};
 
 pub fn same_key(a: ReplyKey, b: ReplyKey) -> bool
     ensures { result ≡ same_key a b }
@@ -20,34 +20,17 @@ fn accepts(seen: Seen, key: ReplyKey) -> bool
     ensures { result ≡ accepts seen key }
 {
     match seen {
-        Seen::Nothing => false,
-        Seen::Probe(_) => false,
-        Seen::Duplicate => false,
-        Seen::Unknown => false,
-        Seen::Known(reply) => {
-            let own = reply.key;
-            same_key(key, own)
-        }
-        Seen::First(reply) => {
-            let own = reply.key;
-            same_key(key, own)
-        }
-        Seen::Observed(_) => false,
+        Seen::Known(reply) | Seen::First(reply) => same_key(key, reply.key),
+        Seen::Nothing | Seen::Probe(_) | Seen::Duplicate | Seen::Unknown | Seen::Observed(_) =>
+            false,
     }
 }
 
-pub fn was_accepted(log: &[u8], marks: &[u8], n: u32, key: ReplyKey) -> bool
-    requires { n ≤ length marks.now }
-    ensures { result ≡ has_key (accepted (events_of log.now marks.now n)) key }
+pub fn was_accepted(records: Marked, n: u32, key: ReplyKey) -> bool
+    requires { n ≤ length records.marks.now }
+    ensures { result ≡ has_key (accepted (events_of records.entry.log.now records.entry.marks.now n)) key }
 {
-    let mut found = false;
-    let mut j: u32 = 0;
-    while j < n {
-        let seen = recount_seen::seen_at(log, marks, j);
-        found = accepts(seen, key) | found;
-        j += 1;
-    }
-    found
+    records.fold(n, false, |seen, found| accepts(seen, key) | found)
 }
 
 // ---- was this probe remembered?
@@ -56,28 +39,18 @@ fn remembers(seen: Seen, sequence: u32) -> bool
     ensures { result ≡ remembers seen sequence }
 {
     match seen {
-        Seen::Nothing => false,
         Seen::Probe(probe) => sequence == probe.sequence,
-        Seen::Duplicate => false,
-        Seen::Unknown => false,
-        Seen::Known(_) => false,
         Seen::First(reply) => sequence == reply.key.sender,
-        Seen::Observed(_) => false,
+        Seen::Nothing | Seen::Duplicate | Seen::Unknown | Seen::Known(_) | Seen::Observed(_) =>
+            false,
     }
 }
 
-pub fn was_remembered(log: &[u8], marks: &[u8], n: u32, sequence: u32) -> bool
-    requires { n ≤ length marks.now }
-    ensures { result ≡ has (rememberings (events_of log.now marks.now n)) sequence }
+pub fn was_remembered(records: Marked, n: u32, sequence: u32) -> bool
+    requires { n ≤ length records.marks.now }
+    ensures { result ≡ has (rememberings (events_of records.entry.log.now records.entry.marks.now n)) sequence }
 {
-    let mut found = false;
-    let mut j: u32 = 0;
-    while j < n {
-        let seen = recount_seen::seen_at(log, marks, j);
-        found = remembers(seen, sequence) | found;
-        j += 1;
-    }
-    found
+    records.fold(n, false, |seen, found| remembers(seen, sequence) | found)
 }
 
 // ---- does this key await its observe?
@@ -86,34 +59,17 @@ fn awaits_next(seen: Seen, key: ReplyKey, before: bool) -> bool
     ensures { result ≡ awaits_next seen key before }
 {
     match seen {
-        Seen::Nothing => before,
-        Seen::Probe(_) => before,
-        Seen::Duplicate => before,
-        Seen::Unknown => before,
-        Seen::Known(reply) => {
-            let own = reply.key;
-            same_key(key, own)
-        }
-        Seen::First(reply) => {
-            let own = reply.key;
-            same_key(key, own)
-        }
+        Seen::Known(reply) | Seen::First(reply) => same_key(key, reply.key),
         Seen::Observed(_) => false,
+        Seen::Nothing | Seen::Probe(_) | Seen::Duplicate | Seen::Unknown => before,
     }
 }
 
-pub fn awaits_observe(log: &[u8], marks: &[u8], n: u32, key: ReplyKey) -> bool
-    requires { n ≤ length marks.now }
-    ensures { result ≡ awaits (awaiting (events_of log.now marks.now n)) key }
+pub fn awaits_observe(records: Marked, n: u32, key: ReplyKey) -> bool
+    requires { n ≤ length records.marks.now }
+    ensures { result ≡ awaits (awaiting (events_of records.entry.log.now records.entry.marks.now n)) key }
 {
-    let mut held = false;
-    let mut j: u32 = 0;
-    while j < n {
-        let seen = recount_seen::seen_at(log, marks, j);
-        held = awaits_next(seen, key, held);
-        j += 1;
-    }
-    held
+    records.fold(n, false, |seen, held| awaits_next(seen, key, held))
 }
 
 // ---- how many replies has this probe had since it was remembered?
@@ -126,6 +82,18 @@ pub fn one_if(test: bool, n: u32) -> u32
         return n + 1;
     }
     n
+}
+
+// How many of the numbers below n pass a test.
+pub fn count_where<F: Fn(u32) -> bool>(n: u32, test: F) -> u32
+    requires callable { (j : ℕ) → j < n → F.pre test j }
+    ensures { Counted (F.post test) n result }
+{
+    let mut count = 0;
+    for j in 0..n {
+        count = one_if(test(j), count);
+    }
+    count
 }
 
 fn zero_if(test: bool, n: u32) -> u32
@@ -142,32 +110,21 @@ fn replies_next(seen: Seen, sequence: u32, before: u32) -> u32
     ensures { result ≡ replies_next seen sequence before }
 {
     match seen {
-        Seen::Nothing => before,
         Seen::Probe(probe) => zero_if(sequence == probe.sequence, before),
-        Seen::Duplicate => before,
-        Seen::Unknown => before,
         Seen::Known(reply) => one_if(sequence == reply.key.sender, before),
         Seen::First(reply) => {
             let own = sequence == reply.key.sender;
-            let rest = zero_if(own, before);
-            one_if(own, rest)
+            one_if(own, zero_if(own, before))
         }
-        Seen::Observed(_) => before,
+        Seen::Nothing | Seen::Duplicate | Seen::Unknown | Seen::Observed(_) => before,
     }
 }
 
-pub fn replies_before(log: &[u8], marks: &[u8], n: u32, sequence: u32) -> u32
-    requires { (n ≤ length marks.now) × (n < 65536) }
-    ensures { result ≡ replies sequence (events_of log.now marks.now n) }
+pub fn replies_before(records: Marked, n: u32, sequence: u32) -> u32
+    requires { (n ≤ length records.marks.now) × (n < 65536) }
+    ensures { result ≡ replies sequence (events_of records.entry.log.now records.entry.marks.now n) }
 {
-    let mut count: u32 = 0;
-    let mut j: u32 = 0;
-    while j < n {
-        let seen = recount_seen::seen_at(log, marks, j);
-        count = replies_next(seen, sequence, count);
-        j += 1;
-    }
-    count
+    records.fold(n, 0, |seen, count| replies_next(seen, sequence, count))
 }
 
 // ---- what is the highest reflector number of the unique replies?
@@ -179,59 +136,41 @@ pub fn step(from: u32, to: u32) -> u32
     std::num::wrapping_sub_u32(to, from)
 }
 
-// The highest reflector number, or none before the first unique reply.
-#[derive(Clone, Copy)]
-pub enum Highest {
-    Absent,
-    Number(u32),
-}
-
-fn raised(reflector: u32, highest: Highest) -> Highest
+fn raised(reflector: u32, highest: Option<u32>) -> Option<u32>
     ensures { result ≡ raised reflector highest }
 {
-    let Highest::Number(high) = highest else {
-        return Highest::Number(reflector);
+    let Some(high) = highest else {
+        return Some(reflector);
     };
     if step(high, reflector) < 2147483648 {
-        return Highest::Number(reflector);
+        return Some(reflector);
     }
-    Highest::Number(high)
+    Some(high)
 }
 
-fn highest_next(seen: Seen, before: Highest) -> Highest
+fn highest_next(seen: Seen, before: Option<u32>) -> Option<u32>
     ensures { result ≡ highest_next seen before }
 {
     match seen {
-        Seen::Nothing => before,
-        Seen::Probe(_) => before,
-        Seen::Duplicate => before,
-        Seen::Unknown => before,
-        Seen::Known(reply) => raised(reply.key.reflector, before),
-        Seen::First(reply) => raised(reply.key.reflector, before),
-        Seen::Observed(_) => before,
+        Seen::Known(reply) | Seen::First(reply) => raised(reply.key.reflector, before),
+        Seen::Nothing | Seen::Probe(_) | Seen::Duplicate | Seen::Unknown | Seen::Observed(_) =>
+            before,
     }
 }
 
-pub fn highest_before(log: &[u8], marks: &[u8], n: u32) -> Highest
-    requires { n ≤ length marks.now }
-    ensures { result ≡ highest_of (highest_reflector (accepted (events_of log.now marks.now n))) }
+pub fn highest_before(records: Marked, n: u32) -> Option<u32>
+    requires { n ≤ length records.marks.now }
+    ensures { result ≡ highest_of (highest_reflector (accepted (events_of records.entry.log.now records.entry.marks.now n))) }
 {
-    let mut highest = Highest::Absent;
-    let mut j: u32 = 0;
-    while j < n {
-        let seen = recount_seen::seen_at(log, marks, j);
-        highest = highest_next(seen, highest);
-        j += 1;
-    }
-    highest
+    records.fold(n, None, highest_next)
 }
 
 // Whether a reflector number is 2^31 or more from the highest.
-pub fn is_behind(reflector: u32, highest: Highest) -> bool
+pub fn is_behind(reflector: u32, highest: Option<u32>) -> bool
     ensures { result ≡ is_behind reflector highest }
 {
     match highest {
-        Highest::Absent => false,
-        Highest::Number(high) => 2147483648 <= step(high, reflector),
+        None => false,
+        Some(high) => 2147483648 <= step(high, reflector),
     }
 }

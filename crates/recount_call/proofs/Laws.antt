@@ -1,4 +1,5 @@
 -- The marks by the tests that the code makes. Assumes nothing.
+use Rattle.std.specs.Prelude.{Option, Some, None}
 use mathlib.Core.Path.{◌≡◌, refl, sym}
 use mathlib.Core.Bool.{Bool, true, false}
 use mathlib.Core.List.{List}
@@ -7,8 +8,6 @@ use native.Mathlib.Omega.{arith}
 use lib.Dec.{leb, ltb}
 use borrow.Author.Tests.{le-leb, lt-leb, ltb-true, ltb-false}
 use Rattle.call_types.specs.declared.PendingPacket.{PendingPacket}
-use Rattle.call_types.specs.declared.Pending.{Pending}
-use Rattle.call_types.specs.declared.Pending.TheVariants.{Absent, Held}
 use Rattle.call_types.specs.declared.Reply.{Reply}
 use Rattle.call_types.specs.declared.ReplyObservation.{ReplyObservation}
 use Rattle.ranges.specs.Ranges.{in_range}
@@ -34,11 +33,11 @@ module _ (es : List Event) (a : Reply) where
   unfolding reply_mark
   known_probe k p = rw (k, p)
 
-  pub no_packet : has_key (accepted es) a.key ≡ false → has (rememberings es) a.key.sender ≡ false → (x : Pending) → a.pending ≡ x → x ≡ Absent → 3 ≡ reply_mark es a
+  pub no_packet : has_key (accepted es) a.key ≡ false → has (rememberings es) a.key.sender ≡ false → (x : Option PendingPacket) → a.pending ≡ x → x ≡ None → 3 ≡ reply_mark es a
   unfolding reply_mark
   no_packet k p x e n = rw (k, p, e, n)
 
-  pub has-packet : has_key (accepted es) a.key ≡ false → has (rememberings es) a.key.sender ≡ false → (x : Pending) (q : PendingPacket) → a.pending ≡ x → x ≡ Held q → 5 ≡ reply_mark es a
+  pub has-packet : has_key (accepted es) a.key ≡ false → has (rememberings es) a.key.sender ≡ false → (x : Option PendingPacket) (q : PendingPacket) → a.pending ≡ x → x ≡ Some q → 5 ≡ reply_mark es a
   unfolding reply_mark
   has-packet k p x q e n = rw (k, p, e, n)
 

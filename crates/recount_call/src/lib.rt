@@ -1,63 +1,58 @@
 // The mark of one call of a log, from the call and from looking back over the records before it: whether it is served, and the class of a reply.
 ghost use Rattle.std.specs.Prelude.{◌≡◌, ◌≤◌, length};
-ghost use Rattle.recount_seen.specs.Seen.{events_of};
+ghost use Rattle.recount_seen.specs.Seen.{byte_of, events_of};
 ghost use Rattle.recount_call.specs.Mark.{late, probe_mark, reply_mark, observe_mark};
 
 pub mod range;
 
-use call_types::{Pending, Reply, ReplyObservation, SentProbe};
-use recount_seen::{DUPLICATE, FIRST, KNOWN, SERVED, TURNED, UNKNOWN};
+use call_types::{Reply, ReplyObservation, SentProbe};
+use recount_seen::{Mark, Marked};
 
 // The deadline of a probe that is sent at this time passes 2^64-1.
 fn late(watched: bool, timeout: u64, time: u64) -> bool
     ensures { result ≡ late watched timeout time }
 {
-    if watched {
-        return 18446744073709551615 - timeout < time;
-    }
-    false
+    watched && u64::MAX - timeout < time
 }
 
 // The mark of a probe: it is served unless it is late.
-pub fn probe_mark(watched: bool, timeout: u64, probe: SentProbe) -> u8
-    ensures { result ≡ probe_mark watched timeout probe }
+pub fn probe_mark(watched: bool, timeout: u64, probe: SentProbe) -> Mark
+    ensures { byte_of result ≡ probe_mark watched timeout probe }
 {
     if late(watched, timeout, probe.packet.time) {
-        return TURNED;
+        return Mark::TurnedAway;
     }
-    SERVED
+    Mark::Served
 }
 
 // The class of a reply, by looking back over the first n records.
-pub fn reply_mark(log: &[u8], marks: &[u8], n: u32, reply: Reply) -> u8
-    requires { n ≤ length marks.now }
-    ensures { result ≡ reply_mark (events_of log.now marks.now n) reply }
+pub fn reply_mark(records: Marked, n: u32, reply: Reply) -> Mark
+    requires { n ≤ length records.marks.now }
+    ensures { byte_of result ≡ reply_mark (events_of records.entry.log.now records.entry.marks.now n) reply }
 {
     let key = reply.key;
-    let pending = reply.pending;
-    if recount_back::was_accepted(log, marks, n, key) {
-        return DUPLICATE;
+    if recount_back::was_accepted(records, n, key) {
+        return Mark::Duplicate;
     }
-    if recount_back::was_remembered(log, marks, n, key.sender) {
-        return KNOWN;
+    if recount_back::was_remembered(records, n, key.sender) {
+        return Mark::Known;
     }
-    match pending {
-        Pending::Absent => UNKNOWN,
-        Pending::Held(_) => FIRST,
+    match reply.pending {
+        None => Mark::Unknown,
+        Some(_) => Mark::First,
     }
 }
 
 // The mark of an observation: it is served where it is in range and its key awaits it.
-pub fn observe_mark(log: &[u8], marks: &[u8], n: u32, o: ReplyObservation) -> u8
-    requires { n ≤ length marks.now }
-    ensures { result ≡ observe_mark (events_of log.now marks.now n) o }
+pub fn observe_mark(records: Marked, n: u32, o: ReplyObservation) -> Mark
+    requires { n ≤ length records.marks.now }
+    ensures { byte_of result ≡ observe_mark (events_of records.entry.log.now records.entry.marks.now n) o }
 {
-    let key = o.key;
     if !range::in_range(o) {
-        return TURNED;
+        return Mark::TurnedAway;
     }
-    if recount_back::awaits_observe(log, marks, n, key) {
-        return SERVED;
+    if recount_back::awaits_observe(records, n, o.key) {
+        return Mark::Served;
     }
-    TURNED
+    Mark::TurnedAway
 }

@@ -2,8 +2,8 @@
 ghost use Rattle.std.specs.Prelude.{◌≡◌};
 ghost use Rattle.ranges.specs.Ranges.{reference_within, offset_within, time_within, time_fits, estimates_fit, in_range};
 
-use call_types::{ReplyObservation, Time};
-use estimate::Estimates;
+use call_types::ReplyObservation;
+use estimate::ErrorEstimate;
 
 fn time_within(ns: i64) -> bool
     ensures { result ≡ time_within ns }
@@ -11,12 +11,12 @@ fn time_within(ns: i64) -> bool
     (-4000000000000000000 <= ns) & (ns <= 4000000000000000000)
 }
 
-fn time_fits(t4: Time) -> bool
+fn time_fits(t4: Option<i64>) -> bool
     ensures { result ≡ time_fits t4 }
 {
     match t4 {
-        Time::Absent => true,
-        Time::Nanoseconds(ns) => time_within(ns),
+        None => true,
+        Some(ns) => time_within(ns),
     }
 }
 
@@ -32,12 +32,12 @@ fn offset_fits(seconds: i32) -> bool
     (-86400 <= seconds) & (seconds <= 86400)
 }
 
-fn scales_fit(quality: Estimates) -> bool
+fn scales_fit(quality: Option<(ErrorEstimate, ErrorEstimate)>) -> bool
     ensures { result ≡ estimates_fit quality }
 {
     match quality {
-        Estimates::Absent => true,
-        Estimates::Pair(sender, reflector) => (sender.scale <= 63) & (reflector.scale <= 63),
+        None => true,
+        Some((sender, reflector)) => (sender.scale <= 63) & (reflector.scale <= 63),
     }
 }
 

@@ -1,23 +1,57 @@
-// What follows from the class of a record's counters, a number (recount_direct says which), and from how far a window reaches: where the window
-// starts after it, whether it is counted, and what is missing. No record is looked at here.
+// What follows from the class of a record's counters, and from how far a window reaches: where the window starts after it, whether it is
+// counted, and what is missing. No record is looked at here.
 ghost use Rattle.std.specs.Prelude.{◌≡◌, ◌≤◌, ◌<◌};
-ghost use Rattle.recount_class.specs.Numbers.{clears_number, start_next, number_test};
+ghost use Rattle.recount_class.specs.Numbers.{number_of, class_number, figure_number, clears_number, start_next, number_test};
 ghost use Rattle.recount_class.specs.Reached.{missing_by};
 
 use recount_window::Reach;
-use report::figures::{Missing, Value};
+use report::figures::Missing;
+
+// The class of a record's counters in the window before it. A record without any has none.
+#[derive(Clone, Copy, Debug, Drop, PartialEq, Eq)]
+pub enum Class {
+    // Their sender count is not the ordinal.
+    Mismatch = 0,
+    // Both reflector counts are 0, and there is no anchor.
+    Zeros = 1,
+    // They become the anchor.
+    Anchor = 2,
+    // A count is 2^31 or more from the anchor's.
+    Jump = 3,
+    // Their transmit offset was seen before.
+    Again = 4,
+    // As many offsets were seen as are remembered.
+    Exceeded = 5,
+    // Their transmit offset is below the highest.
+    Reordered = 6,
+    Advanced = 7,
+}
+
+// What is counted.
+#[derive(Clone, Copy, Debug, Drop, PartialEq, Eq)]
+pub enum Figure {
+    Observations = 0,
+    Unavailable = 1,
+    Discontinuities = 2,
+    Reordered = 3,
+}
 
 // Whether the window is empty after a record of this class.
-fn clears(class: u8) -> bool
-    ensures { result ≡ clears_number class }
+fn clears(class: Option<Class>) -> bool
+    ensures { result ≡ clears_number (class_number class) }
 {
-    (class == 1) | (class == 3) | (class == 4) | (class == 5)
+    match class {
+        None => false,
+        Some(Class::Mismatch) => false,
+        Some(Class::Anchor | Class::Reordered | Class::Advanced) => false,
+        Some(Class::Zeros | Class::Jump | Class::Again | Class::Exceeded) => true,
+    }
 }
 
 // Past record j where its class clears the window: what clears does not become the anchor.
-pub fn start_next(class: u8, start: u32, j: u32) -> u32
+pub fn start_next(class: Option<Class>, start: u32, j: u32) -> u32
     requires { j < 65536 }
-    ensures { result ≡ start_next class start j }
+    ensures { result ≡ start_next (class_number class) start j }
 {
     if clears(class) {
         return j + 1;
@@ -25,23 +59,27 @@ pub fn start_next(class: u8, start: u32, j: u32) -> u32
     start
 }
 
-// Whether a record of this class is: 0 an observation, 1 unavailable, 2 a discontinuity, 3 reordered.
-pub fn passes(kind: u8, class: u8) -> bool
-    ensures { result ≡ number_test kind class }
+fn counted(figure: Figure, class: Class) -> bool
+    ensures { result ≡ number_test (figure_number figure) (number_of class) }
 {
-    if kind == 0 {
-        return (class != 0) & (class != 8);
+    match figure {
+        Figure::Observations => class != Class::Mismatch,
+        Figure::Unavailable => {
+            (class == Class::Mismatch) | (class == Class::Zeros) | (class == Class::Again)
+        }
+        Figure::Discontinuities => (class == Class::Jump) | (class == Class::Again),
+        Figure::Reordered => class == Class::Reordered,
     }
-    if kind == 1 {
-        return (class == 0) | (class == 1) | (class == 4);
+}
+
+// Whether a record of this class is one that is counted.
+pub fn passes(figure: Figure, class: Option<Class>) -> bool
+    ensures { result ≡ number_test (figure_number figure) (class_number class) }
+{
+    match class {
+        None => false,
+        Some(class) => counted(figure, class),
     }
-    if kind == 2 {
-        return (class == 3) | (class == 4);
-    }
-    if kind == 3 {
-        return class == 6;
-    }
-    false
 }
 
 // The packets missing in a window that reaches so far.
@@ -51,19 +89,19 @@ pub fn missing_by(r: Reach) -> Missing
 {
     if r.points < 2 {
         return Missing {
-            forward: Value::Absent,
-            reverse: Value::Absent,
+            forward: None,
+            reverse: None,
         };
     }
-    let reverse = Value::Number((r.highest - r.above) as u64);
+    let reverse = Some((r.highest - r.above) as u64);
     if r.received <= r.sender {
         return Missing {
-            forward: Value::Number((r.sender - r.received) as u64),
+            forward: Some((r.sender - r.received) as u64),
             reverse,
         };
     }
     Missing {
-        forward: Value::Absent,
+        forward: None,
         reverse,
     }
 }

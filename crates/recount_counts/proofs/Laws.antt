@@ -8,19 +8,14 @@ use Rattle.history.specs.Counting.{tally}
 use Rattle.history.specs.Ledger.{Event}
 use Rattle.recount_seen.specs.declared.Seen.{Seen}
 use Rattle.recount_seen.specs.Seen.{seen_at, events_of}
-pub use Rattle.recount_back.proofs.Laws.{total-most}
+use Rattle.recount_back.specs.Back.{Counted}
+use Rattle.recount_back.proofs.Laws.{counted_is}
 use Rattle.recount_counts.specs.Tests.{passing}
 
-module _ (test : Seen → List Event → Bool) (log marks : List ℕ) where
-  pub passing-none : 0 ≡ passing test log marks 0
-  unfolding passing
-  passing-none = refl
-
-  pub passing_more : (n a r : ℕ) (b : Bool) → r ≡ tally b a → b ≡ test (seen_at log marks n) (events_of log marks n) → a ≡ passing test log marks n → r ≡ passing test log marks (n + 1)
-  unfolding passing
-  passing_more n a r b s e inv =
-      let one : suc n ≡ n + 1 = omega arith in
-      subst (λ (m : ℕ). r ≡ passing test log marks m) one (s ∙ ap (λ (x : Bool). tally x a) e ∙ ap (tally (test (seen_at log marks n) (events_of log marks n))) inv)
+pub passing_is : {t : ℕ → Bool → Type 0} {n r : ℕ} (test : Seen → List Event → Bool) (log marks : List ℕ) → Counted t n r → ((j : ℕ) (b : Bool) → t j b → b ≡ test (seen_at log marks j) (events_of log marks j))
+    → r ≡ passing test log marks n
+unfolding passing
+passing_is test log marks h tests = counted_is (passing test log marks) (λ j. test (seen_at log marks j) (events_of log marks j)) refl (λ j. refl) h tests
 
 -- no more than the records pass
 pub passing-most : (test : Seen → List Event → Bool) (log marks : List ℕ) (n : ℕ) → passing test log marks n ≤ n

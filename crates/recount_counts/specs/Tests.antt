@@ -1,18 +1,32 @@
 -- The tests of a record, each from the record and the events before it, and how many records pass. Assumes nothing.
-use Rattle.std.specs.Prelude.{Bool, true, false, not, ◌&&◌, cond, List, ℕ, zero, suc, eqb, ltb}
-use Rattle.call_types.specs.declared.Pending.{Pending}
-use Rattle.call_types.specs.declared.Pending.TheVariants as pending
+use Rattle.call_types.specs.declared.PendingPacket.{PendingPacket}
+use Rattle.std.specs.Prelude.{Bool, true, false, not, ◌&&◌, cond, List, ℕ, zero, suc, eqb, ltb, Option, Some, None}
 use Rattle.call_types.specs.declared.Reply.{Reply}
 use Rattle.history.specs.Counting.{tally}
 use Rattle.history.specs.Ledger.{Event, accepted, replies, behind, highest_reflector}
 use Rattle.recount_seen.specs.declared.Seen.{Seen}
 use Rattle.recount_seen.specs.declared.Seen.TheVariants.{Nothing, Probe, Duplicate, Unknown, Known, First, Observed}
 use Rattle.recount_seen.specs.Seen.{seen_at, events_of}
+use Rattle.recount_counts.specs.declared.Test.{Test}
+use Rattle.recount_counts.specs.declared.Test.TheVariants as test
+
+-- the number of a test
+abbrev pub number_of : Test → ℕ
+number_of test.Sent = 0
+number_of test.Duplicate = 1
+number_of test.Unknown = 2
+number_of test.Unique = 3
+number_of test.Answered = 4
+number_of test.Additional = 5
+number_of test.Late = 6
+number_of test.Satisfying = 7
+number_of test.Independent = 8
+number_of test.Reordered = 9
 
 -- no packet is pending
-abbrev pub absent : Pending → Bool
-absent pending.Absent = true
-absent (pending.Held p) = false
+abbrev pub absent : Option PendingPacket → Bool
+absent None = true
+absent (Some p) = false
 
 -- of a unique reply whose probe had so many replies before
 abbrev pub unique_test : ℕ → ℕ → ℕ → Reply → Bool

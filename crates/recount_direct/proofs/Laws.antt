@@ -1,8 +1,9 @@
 -- The class of a record's counters as a number, the start of the window, and the counts, after one record more. Assumes nothing.
+use Rattle.std.specs.Prelude.{Some, None, Option}
+use Rattle.call_types.specs.declared.ReplyObservation.{ReplyObservation}
 use mathlib.Core.Path.{◌≡◌, refl, sym, ap, subst, ◌∙◌}
 use mathlib.Core.Bool.{Bool, true, false, ◌&&◌, ◌||◌, cond}
 use mathlib.Core.List.{List, [], ◌∷◌}
-use mathlib.Core.Option.{Option, none, some}
 use Prim.Native.Nat.{ℕ, suc, ◌+◌, ◌-◌, ◌≤◌, ◌<◌}
 use native.Mathlib.Omega.{arith}
 use lib.Dec.{eqb, leb, ltb}
@@ -10,12 +11,13 @@ use borrow.Author.Tests.{eq-eqb, ne_eqb, lt-ltb, le-ltb}
 use lib.ListN.{length}
 use Rattle.limits.specs.Limits.{capacity}
 use Rattle.call_types.specs.declared.CounterPoint.{CounterPoint}
-use Rattle.history.specs.Counting.{has}
+use Rattle.history.specs.Counting.{has, tally}
+use Rattle.history.specs.Ledger.{Event}
+use Rattle.recount_seen.specs.declared.Seen.{Seen}
+use Rattle.recount_counts.specs.Tests.{passing}
 use Rattle.history.specs.Given.{ordinal_of, counters_of}
 use Rattle.history.specs.DirectLoss.{DirectClass, mismatch, zeros, anchors, jump, again, exceeded, reordered, advanced, jumps, within, sender_offset, received_offset, transmit_offset, seen, highest, anchor_of, anchor, on_window, direct_class, direct_at, window}
 use Rattle.recount_seen.specs.Seen.{seen_at, events_of}
-use Rattle.recount_observed.specs.declared.Observation.{Observation}
-use Rattle.recount_observed.specs.declared.Observation.TheVariants.{Absent, Made}
 use Rattle.recount_observed.specs.Observed.{observation_at}
 use Rattle.recount_window.specs.declared.Reach.{Reach}
 use Rattle.recount_window.specs.Reach.{reach_of}
@@ -32,13 +34,13 @@ module _ (c : CounterPoint) where
   pick-number false x y = refl
 
   -- a window without an anchor
-  pub unanchored : (w : List CounterPoint) → none ≡ anchor w → without_anchor c ≡ direct_number (on_window capacity c w)
+  pub unanchored : (w : List CounterPoint) → None ≡ anchor w → without_anchor c ≡ direct_number (on_window capacity c w)
   unfolding anchor
   unanchored [] e = sym (pick-number (eqb c.received.0 0 && eqb c.transmitted.0 0) zeros anchors)
   unanchored (d ∷ w) e = absurd (let z : ◌≡◌ {A = ℕ} 0 1 = cc in omega arith)
 
   -- one with an anchor
-  pub anchored : (a : CounterPoint) (w : List CounterPoint) → some a ≡ anchor w → from_anchor a c w ≡ direct_number (on_window capacity c w)
+  pub anchored : (a : CounterPoint) (w : List CounterPoint) → Some a ≡ anchor w → from_anchor a c w ≡ direct_number (on_window capacity c w)
   unfolding anchor from_anchor
   anchored a [] e = absurd (let z : ◌≡◌ {A = ℕ} 0 1 = cc in omega arith)
   anchored a (d ∷ w) e =
@@ -132,12 +134,12 @@ clears-number reordered = refl
 clears-number advanced = refl
 
 clears-counters : (n : Option ℕ) (x : Option CounterPoint) (w : List CounterPoint) → clears_at capacity n x w ≡ clears_number (counters_class n x w)
-clears-counters n none w = refl
-clears-counters n (some c) w = clears-number (direct_class capacity n c w)
+clears-counters n None w = refl
+clears-counters n (Some c) w = clears-number (direct_class capacity n c w)
 
-clears_is : (x : Observation) (w : List CounterPoint) → clears_by capacity x w ≡ clears_number (class_in x w)
-clears_is Absent w = refl
-clears_is (Made o) w = clears-counters (ordinal_of o.ordinal) (counters_of o.counters) w
+clears_is : (x : Option ReplyObservation) (w : List CounterPoint) → clears_by capacity x w ≡ clears_number (class_in x w)
+clears_is None w = refl
+clears_is (Some o) w = clears-counters (ordinal_of o.ordinal) (counters_of o.counters) w
 
 next-most : (class start j : ℕ) → start ≤ j → start_next class start j ≤ j + 1
 next-most class start j l = go (clears_number class)
@@ -199,9 +201,22 @@ module _ (log marks : List ℕ) where
             by false false false false = refl
 
         of_counters : (n : Option ℕ) (x : Option CounterPoint) → number_test kind (counters_class n x (window capacity (events_of log marks j))) ≡ direct_at capacity (class_test kind) n x (events_of log marks j)
-        of_counters n none = no_test
-        of_counters n (some c) = number_test_lem (direct_class capacity n c (window capacity (events_of log marks j)))
+        of_counters n None = no_test
+        of_counters n (Some c) = number_test_lem (direct_class capacity n c (window capacity (events_of log marks j)))
 
-        go : (x : Observation) → number_test kind (class_in x (window capacity (events_of log marks j))) ≡ direct_in kind x (events_of log marks j)
-        go Absent = no_test
-        go (Made o) = of_counters (ordinal_of o.ordinal) (counters_of o.counters)
+        go : (x : Option ReplyObservation) → number_test kind (class_in x (window capacity (events_of log marks j))) ≡ direct_in kind x (events_of log marks j)
+        go None = no_test
+        go (Some o) = of_counters (ordinal_of o.ordinal) (counters_of o.counters)
+
+-- ---- how many records pass, one record more
+
+module _ (test : Seen → List Event → Bool) (log marks : List ℕ) where
+  pub passing-none : 0 ≡ passing test log marks 0
+  unfolding passing
+  passing-none = refl
+
+  pub passing_more : (n a r : ℕ) (b : Bool) → r ≡ tally b a → b ≡ test (seen_at log marks n) (events_of log marks n) → a ≡ passing test log marks n → r ≡ passing test log marks (n + 1)
+  unfolding passing
+  passing_more n a r b s e inv =
+      let one : suc n ≡ n + 1 = omega arith in
+      subst (λ (m : ℕ). r ≡ passing test log marks m) one (s ∙ ap (λ (x : Bool). tally x a) e ∙ ap (tally (test (seen_at log marks n) (events_of log marks n))) inv)

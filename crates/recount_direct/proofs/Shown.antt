@@ -1,8 +1,8 @@
 -- What is missing in a window, by how far it reaches. Assumes nothing.
+use Rattle.std.specs.Prelude.{Some, None}
 use mathlib.Core.Path.{◌≡◌, refl, sym, ap, subst, ◌∙◌}
 use mathlib.Core.Bool.{Bool, true, false, cond}
 use mathlib.Core.List.{List, [], ◌∷◌}
-use mathlib.Core.Option.{none, some}
 use Prim.Native.Nat.{ℕ, suc, ◌-◌, ◌≤◌}
 use native.Mathlib.Omega.{arith}
 use lib.Dec.{leb}
@@ -12,7 +12,6 @@ use Rattle.limits.specs.Limits.{capacity}
 use Rattle.call_types.specs.declared.CounterPoint.{CounterPoint}
 use Rattle.history.specs.DirectLoss.{seen, highest, sender_maximum, received_maximum, anchor_of, anchor, missing, above0, forward_missing, spans, window}
 use Rattle.history.proofs.Missing.{Clean, Distinct, window_clean, missing_is, missing-present, present-distinct, largest_bounds}
-use Rattle.report.specs.declared.figures.Value.TheVariants.{Absent, Number}
 use Rattle.report.specs.declared.figures.Missing.{Missing}
 use Rattle.recount_window.specs.declared.Reach.{Reach}
 use Rattle.recount_window.specs.Reach.{reach_of}
@@ -33,18 +32,18 @@ module _ (a : CounterPoint) (w : List CounterPoint) (clean : Distinct (seen a w)
 
 -- by the forward figure: shown, or absent where it would be negative
 forward_by : (b : Bool) (n m : ℕ)
-    → ◌≡◌ {A = Missing} (cond b (record { forward = Number n; reverse = Number m }) (record { forward = Absent; reverse = Number m })) (record { forward = value_of (cond b (some n) none); reverse = Number m })
+    → ◌≡◌ {A = Missing} (cond b (record { forward = Some n; reverse = Some m }) (record { forward = None; reverse = Some m })) (record { forward = value_of (cond b (Some n) None); reverse = Some m })
 forward_by true n m = refl
 forward_by false n m = refl
 
 module _ (a : CounterPoint) where
-  seen_clean : (w : List CounterPoint) → some a ≡ anchor w → Clean w → Distinct (seen a w)
+  seen_clean : (w : List CounterPoint) → Some a ≡ anchor w → Clean w → Distinct (seen a w)
   unfolding anchor
   seen_clean [] e g = tt
   seen_clean (d ∷ w) e g = let same : anchor_of d w ≡ a = cc in subst (λ (b : CounterPoint). Distinct (seen b (d ∷ w))) same g
 
   -- what the code subtracts is not more than what it subtracts from
-  pub reach_sound : (w : List CounterPoint) → some a ≡ anchor w → Clean w → (reach_of a w).above ≤ (reach_of a w).highest
+  pub reach_sound : (w : List CounterPoint) → Some a ≡ anchor w → Clean w → (reach_of a w).above ≤ (reach_of a w).highest
   reach_sound w e g = above_most a w (seen_clean w e g)
 
   missing_from : (c d : CounterPoint) (w : List CounterPoint) → a ≡ anchor_of d w → Distinct (seen a (c ∷ d ∷ w)) → missing_by (reach_of a (c ∷ d ∷ w)) ≡ missing_of (spans (c ∷ d ∷ w))
@@ -53,17 +52,17 @@ module _ (a : CounterPoint) where
       let v : List CounterPoint = c ∷ d ∷ w in
       rw (le-ltb (suc (suc (length w))) 2 (omega arith))
       (forward_by (leb (received_maximum a v) (sender_maximum a v)) (sender_maximum a v - received_maximum a v) (highest a v - above0 (seen a v))
-      ∙ ap (λ (m : ℕ). record { forward = value_of (forward_missing (sender_maximum a v) (received_maximum a v)); reverse = Number m }) (reverse_is a v g)
-      ∙ ap (λ (b : CounterPoint). record { forward = value_of (forward_missing (sender_maximum b v) (received_maximum b v)); reverse = Number (missing (highest b v) (seen b v)) }) same)
+      ∙ ap (λ (m : ℕ). record { forward = value_of (forward_missing (sender_maximum a v) (received_maximum a v)); reverse = Some m }) (reverse_is a v g)
+      ∙ ap (λ (b : CounterPoint). record { forward = value_of (forward_missing (sender_maximum b v) (received_maximum b v)); reverse = Some (missing (highest b v) (seen b v)) }) same)
 
-  pub missing_reached : (w : List CounterPoint) → some a ≡ anchor w → Clean w → missing_by (reach_of a w) ≡ missing_of (spans w)
+  pub missing_reached : (w : List CounterPoint) → Some a ≡ anchor w → Clean w → missing_by (reach_of a w) ≡ missing_of (spans w)
   unfolding anchor spans anchor_of
   missing_reached [] e g = refl
   missing_reached (c ∷ []) e g = refl
   missing_reached (c ∷ d ∷ w) e g = let same : a ≡ anchor_of d w = cc in missing_from c d w same (seen_clean (c ∷ d ∷ w) e g)
 
 -- and without an anchor
-pub missing-none : (w : List CounterPoint) → none ≡ anchor w → no_missing ≡ missing_of (spans w)
+pub missing-none : (w : List CounterPoint) → None ≡ anchor w → no_missing ≡ missing_of (spans w)
 unfolding anchor spans
 missing-none [] e = refl
 missing-none (c ∷ w) e = absurd (let z : ◌≡◌ {A = ℕ} 0 1 = cc in omega arith)
@@ -83,10 +82,10 @@ module _ (log marks : List ℕ) (n start : ℕ) (is-start : start ≡ start_of (
   run_clean : Clean run
   run_clean = subst Clean (sym run_window) (window_clean capacity (events_of log marks n))
 
-  pub none-missing : none ≡ anchor run → no_missing ≡ missing_of (spans (window capacity (events_of log marks n)))
+  pub none-missing : None ≡ anchor run → no_missing ≡ missing_of (spans (window capacity (events_of log marks n)))
   none-missing e = missing-none run e ∙ ap (λ (w : List CounterPoint). missing_of (spans w)) run_window
 
-  module _ (a : CounterPoint) (e : some a ≡ anchor run) (q : Reach) (reached : q ≡ reach_of a run) where
+  module _ (a : CounterPoint) (e : Some a ≡ anchor run) (q : Reach) (reached : q ≡ reach_of a run) where
     pub reach-fits : q.above ≤ q.highest
     reach-fits = subst (λ (x : Reach). x.above ≤ x.highest) (sym reached) (reach_sound a run e run_clean)
 

@@ -1,6 +1,6 @@
 -- The class of a record's counters as a number, and the tests of it. Assumes nothing.
-use Rattle.std.specs.Prelude.{Bool, false, ◌&&◌, cond, List, ℕ, eqb, ltb, length}
-use Rattle.std.proofs.Math.Option.{Option, none, some}
+use Rattle.call_types.specs.declared.ReplyObservation.{ReplyObservation}
+use Rattle.std.specs.Prelude.{Bool, false, ◌&&◌, cond, List, ℕ, eqb, ltb, length, Some, None, Option}
 use Rattle.limits.specs.Limits.{capacity}
 use Rattle.call_types.specs.declared.CounterPoint.{CounterPoint}
 use Rattle.history.specs.Counting.{has}
@@ -8,8 +8,6 @@ use Rattle.history.specs.Given.{ordinal_of, counters_of}
 use Rattle.history.specs.Ledger.{Event}
 use Rattle.history.specs.DirectLoss.{DirectClass, mismatch, zeros, anchors, jump, again, exceeded, reordered, advanced, jumps, within, transmit_offset, seen, highest, direct_class, is_observation, is_unavailable, is_discontinuity, is_below, direct_at}
 use Rattle.recount_seen.specs.declared.Seen.{Seen}
-use Rattle.recount_observed.specs.declared.Observation.{Observation}
-use Rattle.recount_observed.specs.declared.Observation.TheVariants.{Absent, Made}
 use Rattle.recount_observed.specs.Observed.{observation_of}
 
 -- a number for each class
@@ -34,13 +32,13 @@ from_anchor a c w =
 
 -- in any window; 8 where there are no counters
 abbrev pub counters_class : Option ℕ → Option CounterPoint → List CounterPoint → ℕ
-counters_class n none w = 8
-counters_class n (some c) w = direct_number (direct_class capacity n c w)
+counters_class n None w = 8
+counters_class n (Some c) w = direct_number (direct_class capacity n c w)
 
 -- of a record
-abbrev pub class_in : Observation → List CounterPoint → ℕ
-class_in Absent w = 8
-class_in (Made o) w = counters_class (ordinal_of o.ordinal) (counters_of o.counters) w
+abbrev pub class_in : Option ReplyObservation → List CounterPoint → ℕ
+class_in None w = 8
+class_in (Some o) w = counters_class (ordinal_of o.ordinal) (counters_of o.counters) w
 
 -- what is counted of a class of crate history: 0 an observation, 1 unavailable, 2 a discontinuity, 3 reordered
 abbrev pub class_test : (kind : ℕ) → DirectClass → Bool
@@ -48,9 +46,9 @@ class_test kind x =
     cond (eqb kind 0) (is_observation x) (cond (eqb kind 1) (is_unavailable x) (cond (eqb kind 2) (is_discontinuity x) (cond (eqb kind 3) (is_below x) false)))
 
 -- of an observation, after the events es
-abbrev pub direct_in : (kind : ℕ) → Observation → List Event → Bool
-direct_in kind Absent es = false
-direct_in kind (Made o) es = direct_at capacity (class_test kind) (ordinal_of o.ordinal) (counters_of o.counters) es
+abbrev pub direct_in : (kind : ℕ) → Option ReplyObservation → List Event → Bool
+direct_in kind None es = false
+direct_in kind (Some o) es = direct_at capacity (class_test kind) (ordinal_of o.ordinal) (counters_of o.counters) es
 
 -- of a record
 abbrev pub direct_by : (kind : ℕ) → Seen → List Event → Bool

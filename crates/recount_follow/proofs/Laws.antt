@@ -1,18 +1,14 @@
 -- What is kept of a slot is enough for its class, and for what one record more makes of it. Assumes nothing.
+use Rattle.std.specs.Prelude.{Some, None, Option}
 use mathlib.Core.Path.{◌≡◌, refl, sym, ap, subst, ◌∙◌}
 use mathlib.Core.Bool.{Bool, true, false, not, ◌||◌, ◌&&◌, cond}
 use mathlib.Core.List.{List}
-use mathlib.Core.Option.{Option, none, some}
 use Prim.Native.Nat.{ℕ, suc, ◌+◌, ◌≤◌, ◌<◌}
 use native.Mathlib.Omega.{arith}
 use lib.Dec.{T, eqb, ltb, eqb→eq}
 use lib.IntN.{ℤ, ◌+ℤ◌}
 use Rattle.estimate.specs.declared.ClockFormat.{ClockFormat}
-use Rattle.call_types.specs.declared.Time.{Time}
-use Rattle.call_types.specs.declared.Time.TheVariants as time
 use Rattle.call_types.specs.declared.FollowUpTelemetry.{FollowUpTelemetry}
-use Rattle.call_types.specs.declared.FollowUp.{FollowUp}
-use Rattle.call_types.specs.declared.FollowUp.TheVariants as follow
 use Rattle.call_types.specs.declared.ReplyObservation.{ReplyObservation}
 use Rattle.history.specs.Counting.{present}
 use Rattle.history.specs.Given.{time_of, follow_of, estimates_of}
@@ -20,8 +16,6 @@ use Rattle.history.specs.FollowUps.{Kept, Slot, free, taken, record_of, raise, c
 use Rattle.history.specs.FollowUps as history
 use Rattle.recount_seen.specs.Seen.{events_of}
 use Rattle.recount_time.specs.Eras.{says_time}
-use Rattle.recount_observed.specs.declared.Observation.{Observation}
-use Rattle.recount_observed.specs.declared.Observation.TheVariants.{Absent, Made}
 use Rattle.recount_observed.specs.Observed.{observation_at}
 use Rattle.recount_observed.proofs.Laws.{observed-turn}
 use Rattle.recount_follow.specs.declared.Left.{Left}
@@ -45,21 +39,21 @@ module _ (timestamp : ℕ) (offset : ℤ) (format : ClockFormat) (reference : �
       → follow_number (cond c repeated (cond (present t4 && says_time format timestamp (reference +ℤ offset)) matched unavailable))
       ≡ cond c 3 (by_record timestamp offset (left_of t4 format reference))
   timed t4 true = refl
-  timed none false = refl
-  timed (some z) false = pick-number (says_time format timestamp (reference +ℤ offset)) matched unavailable
+  timed None false = refl
+  timed (Some z) false = pick-number (says_time format timestamp (reference +ℤ offset)) matched unavailable
 
   some_record : (t4 : Option ℤ) (x y : ℕ) → cond (not (has_record (left_of t4 format reference))) x y ≡ y
-  some_record none x y = refl
-  some_record (some z) x y = refl
+  some_record None x y = refl
+  some_record (Some z) x y = refl
 
 by_slot_lem : (timestamp : ℕ) (offset : ℤ) (s : Slot) → follow_number (history.by_slot timestamp offset s) ≡ by_slot timestamp offset (brief_of s)
 by_slot_lem timestamp offset free = refl
-by_slot_lem timestamp offset (taken n none c) = refl
-by_slot_lem timestamp offset (taken n (some r) c) =
+by_slot_lem timestamp offset (taken n None c) = refl
+by_slot_lem timestamp offset (taken n (Some r) c) =
     pick-number (eqb n 1) (cond c repeated (cond (present r.t4 && says_time r.format timestamp (r.reference +ℤ offset)) matched unavailable)) ambiguous
     ∙ ap (λ (x : ℕ). cond (eqb n 1) x 1) (timed timestamp offset r.format r.reference r.t4 c)
-    ∙ pick_not (eqb n 1) (cond c 3 (by_record timestamp offset (left_in (some r)))) 1
-    ∙ sym (some_record timestamp offset r.format r.reference r.t4 1 (cond (not (eqb n 1)) 1 (cond c 3 (by_record timestamp offset (left_in (some r))))))
+    ∙ pick_not (eqb n 1) (cond c 3 (by_record timestamp offset (left_in (Some r)))) 1
+    ∙ sym (some_record timestamp offset r.format r.reference r.t4 1 (cond (not (eqb n 1)) 1 (cond c 3 (by_record timestamp offset (left_in (Some r))))))
 
 pub class_is : (f : FollowUpTelemetry) (own : ℕ) (offset : ℤ) (s : Slot) → follow_number (follow_class f own offset s) ≡ class_of f own offset (brief_of s)
 unfolding follow_class
@@ -100,24 +94,24 @@ module _ (f : FollowUpTelemetry) (own : ℕ) (offset : ℤ) (r : ℕ) (slot : �
   follow-by false e =
       rw (and_false (same_follow matched (follow_class f own offset (slot f.sequence))), and_false (eqb 4 (class_of f own offset (brief_of (slot r)))))
 
-  follow_is : brief_of (following (some f) own offset slot r) ≡ followed_by f own offset r (brief_of (slot r))
+  follow_is : brief_of (following (Some f) own offset slot r) ≡ followed_by f own offset r (brief_of (slot r))
   follow_is = follow-by (eqb r f.sequence) refl
 
-followed_is : (x : FollowUp) (own : ℕ) (offset : ℤ) (r : ℕ) (slot : ℕ → Slot) → brief_of (following (follow_of x) own offset slot r) ≡ followed x own offset r (brief_of (slot r))
-followed_is follow.Absent own offset r slot = refl
-followed_is (follow.Telemetry f) own offset r slot = follow_is f own offset r slot
+followed_is : (x : Option FollowUpTelemetry) (own : ℕ) (offset : ℤ) (r : ℕ) (slot : ℕ → Slot) → brief_of (following (follow_of x) own offset slot r) ≡ followed x own offset r (brief_of (slot r))
+followed_is None own offset r slot = refl
+followed_is (Some f) own offset r slot = follow_is f own offset r slot
 
 -- ---- what an observation does
 
 left_is : (copies : ℕ) (o : ReplyObservation) → left_in (record_of copies o) ≡ left_by copies o
 left_is copies o = go (ltb 1 copies && eqb o.key.sender o.key.reflector) o.t4
   where
-    go : (b : Bool) (x : Time)
-        → left_in (cond b none (some (record { t4 = time_of x; format = o.format; reference = o.reference; quality = estimates_of o.quality })))
+    go : (b : Bool) (x : Option ℤ)
+        → left_in (cond b None (Some (record { t4 = time_of x; format = o.format; reference = o.reference; quality = estimates_of o.quality })))
         ≡ cond b Nothing (left_time x o.format o.reference)
     go true x = refl
-    go false time.Absent = refl
-    go false (time.Nanoseconds z) = refl
+    go false None = refl
+    go false (Some z) = refl
 
 raise_is : (k : Option Kept) (s : Slot) → brief_of (raise k s) ≡ raised (left_in k) (brief_of s)
 raise_is k free = refl
@@ -140,7 +134,7 @@ pub slot_start : (log marks : List ℕ) (copies r : ℕ) → record { there = fa
 unfolding events_of slot_in
 slot_start log marks copies r = refl
 
-pub slot_turn : (log marks : List ℕ) (copies r n : ℕ) (x : Observation) (b b' : Brief) → x ≡ observation_at log marks n → b' ≡ slot_next x copies r b
+pub slot_turn : (log marks : List ℕ) (copies r n : ℕ) (x : Option ReplyObservation) (b b' : Brief) → x ≡ observation_at log marks n → b' ≡ slot_next x copies r b
     → b ≡ brief_of (slot_in copies (events_of log marks n) r) → b' ≡ brief_of (slot_in copies (events_of log marks (n + 1)) r)
 unfolding slot_in
 slot_turn log marks copies r =
@@ -149,9 +143,9 @@ slot_turn log marks copies r =
 
 -- ---- the count of a slot
 
-followed-count : (x : FollowUp) (own : ℕ) (offset : ℤ) (r : ℕ) (b : Brief) → (followed x own offset r b).count ≡ b.count
-followed-count follow.Absent own offset r b = refl
-followed-count (follow.Telemetry f) own offset r b = go (eqb 4 (class_of f own offset b) && eqb r f.sequence)
+followed-count : (x : Option FollowUpTelemetry) (own : ℕ) (offset : ℤ) (r : ℕ) (b : Brief) → (followed x own offset r b).count ≡ b.count
+followed-count None own offset r b = refl
+followed-count (Some f) own offset r b = go (eqb 4 (class_of f own offset b) && eqb r f.sequence)
   where
     go : (d : Bool) → (cond d (record { there = b.there; count = b.count; left = b.left; corrected = b.there }) b).count ≡ b.count
     go true = refl
@@ -164,7 +158,7 @@ raised-count k b m l = go b.there
     go true = omega arith
     go false = omega arith
 
-pub followed-less : (x : FollowUp) (own : ℕ) (offset : ℤ) (r m : ℕ) (b b' : Brief) → b' ≡ followed x own offset r b → b.count + 1 < m → b'.count + 1 < m
+pub followed-less : (x : Option FollowUpTelemetry) (own : ℕ) (offset : ℤ) (r m : ℕ) (b b' : Brief) → b' ≡ followed x own offset r b → b.count + 1 < m → b'.count + 1 < m
 followed-less x own offset r m b b' e l = omega (arith, ap (λ (y : Brief). y.count) e, followed-count x own offset r b)
 
 observed-count : (o : ReplyObservation) (copies r m : ℕ) (b : Brief) → b.count ≤ m → (observed_by o copies r b).count ≤ m + 1
@@ -178,11 +172,11 @@ observed-count o copies r m b l = go (eqb r o.key.reflector)
     go true = raised-count (left_by copies o) (followed o.follow o.key.reflector o.offset r b) m within
     go false = omega (arith, within)
 
-next-count : (x : Observation) (copies r m : ℕ) (b : Brief) → b.count ≤ m → (slot_next x copies r b).count ≤ m + 1
-next-count Absent copies r m b l = omega arith
-next-count (Made o) copies r m b l = observed-count o copies r m b l
+next-count : (x : Option ReplyObservation) (copies r m : ℕ) (b : Brief) → b.count ≤ m → (slot_next x copies r b).count ≤ m + 1
+next-count None copies r m b l = omega arith
+next-count (Some o) copies r m b l = observed-count o copies r m b l
 
-pub next-most : (x : Observation) (copies r m : ℕ) (b b' : Brief) → b' ≡ slot_next x copies r b → b.count ≤ m → b'.count ≤ m + 1
+pub next-most : (x : Option ReplyObservation) (copies r m : ℕ) (b b' : Brief) → b' ≡ slot_next x copies r b → b.count ≤ m → b'.count ≤ m + 1
 next-most x copies r m b b' e l = omega (arith, ap (λ (y : Brief). y.count) e, next-count x copies r m b l)
 
 -- ---- the class of a record with T4, by the conversion's answer

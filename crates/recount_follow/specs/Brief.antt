@@ -1,30 +1,33 @@
 -- What a class needs of a slot, and what one record more does to it. Assumes nothing.
-use Rattle.std.specs.Prelude.{Bool, true, false, not, ◌||◌, ◌&&◌, cond, ℕ, ◌+◌, eqb, ltb, ℤ, ◌+ℤ◌}
-use Rattle.std.proofs.Math.Option.{Option, none, some}
+use Rattle.std.specs.Prelude.{Bool, true, false, not, ◌||◌, ◌&&◌, cond, ℕ, ◌+◌, eqb, ltb, ℤ, ◌+ℤ◌, Some, None, Option}
 use Rattle.estimate.specs.declared.ClockFormat.{ClockFormat}
-use Rattle.call_types.specs.declared.Time.{Time}
-use Rattle.call_types.specs.declared.Time.TheVariants as time
 use Rattle.call_types.specs.declared.FollowUpTelemetry.{FollowUpTelemetry}
-use Rattle.call_types.specs.declared.FollowUp.{FollowUp}
-use Rattle.call_types.specs.declared.FollowUp.TheVariants as follow
 use Rattle.call_types.specs.declared.ReplyObservation.{ReplyObservation}
 use Rattle.history.specs.FollowUps.{Kept, Slot, free, taken}
 use Rattle.recount_time.specs.Eras.{says_time}
-use Rattle.recount_observed.specs.declared.Observation.{Observation}
-use Rattle.recount_observed.specs.declared.Observation.TheVariants.{Absent, Made}
 use Rattle.recount_follow.specs.declared.Left.{Left}
 use Rattle.recount_follow.specs.declared.Left.TheVariants.{Nothing, Untimed, Timed}
 use Rattle.recount_follow.specs.declared.Brief.{Brief}
+use Rattle.recount_follow.specs.declared.Class.{Class}
+use Rattle.recount_follow.specs.declared.Class.TheVariants as class
+
+-- the number of a class
+abbrev pub number_of : Class → ℕ
+number_of class.Unavailable = 0
+number_of class.Ambiguous = 1
+number_of class.Unmatched = 2
+number_of class.Repeated = 3
+number_of class.Matched = 4
 
 -- a record, by whether it has T4
 abbrev pub left_of : Option ℤ → ClockFormat → (reference : ℤ) → Left
-left_of none format reference = Untimed
-left_of (some t4) format reference = Timed format reference
+left_of None format reference = Untimed
+left_of (Some t4) format reference = Timed format reference
 
 -- of a slot's record
 abbrev pub left_in : Option Kept → Left
-left_in none = Nothing
-left_in (some r) = left_of r.t4 r.format r.reference
+left_in None = Nothing
+left_in (Some r) = left_of r.t4 r.format r.reference
 
 -- of a slot
 abbrev pub brief_of : Slot → Brief
@@ -61,14 +64,14 @@ followed_by f own offset number b =
     cond (eqb 4 (class_of f own offset b) && eqb number f.sequence) (record { there = b.there; count = b.count; left = b.left; corrected = b.there }) b
 
 -- where there is one
-abbrev pub followed : FollowUp → (own : ℕ) → (offset : ℤ) → (number : ℕ) → Brief → Brief
-followed follow.Absent own offset number b = b
-followed (follow.Telemetry f) own offset number b = followed_by f own offset number b
+abbrev pub followed : Option FollowUpTelemetry → (own : ℕ) → (offset : ℤ) → (number : ℕ) → Brief → Brief
+followed None own offset number b = b
+followed (Some f) own offset number b = followed_by f own offset number b
 
 -- what an observation leaves
-abbrev pub left_time : Time → ClockFormat → (reference : ℤ) → Left
-left_time time.Absent format reference = Untimed
-left_time (time.Nanoseconds z) format reference = Timed format reference
+abbrev pub left_time : Option ℤ → ClockFormat → (reference : ℤ) → Left
+left_time None format reference = Untimed
+left_time (Some z) format reference = Timed format reference
 
 -- nothing if copies exceed 1 and sender equals reflector
 abbrev pub left_by : ℕ → ReplyObservation → Left
@@ -86,6 +89,6 @@ observed_by o copies number b =
     (followed o.follow o.key.reflector o.offset number b)
 
 -- one record more
-abbrev pub slot_next : Observation → (copies number : ℕ) → Brief → Brief
-slot_next Absent copies number b = b
-slot_next (Made o) copies number b = observed_by o copies number b
+abbrev pub slot_next : Option ReplyObservation → (copies number : ℕ) → Brief → Brief
+slot_next None copies number b = b
+slot_next (Some o) copies number b = observed_by o copies number b

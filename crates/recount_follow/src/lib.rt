@@ -1,13 +1,27 @@
 // The class of a follow-up, by looking back: how many observed replies before it carry its number, what the only one brought, and whether
 // an earlier follow-up was matched to it.
-ghost use Rattle.std.specs.Prelude.{◌≡◌, ◌+◌, ◌≤◌, ◌<◌, ◌^◌, length};
+ghost use Rattle.std.specs.Prelude.{◌≡◌, eqb, ◌+◌, ◌≤◌, ◌<◌, ◌^◌, length};
 ghost use Rattle.recount_seen.specs.Seen.{events_of};
 ghost use Rattle.recount_follow.specs.Slots.{slot_in};
-ghost use Rattle.recount_follow.specs.Brief.{by_record, has_record, by_slot, class_of, followed_by, followed, left_time, left_by, raised, observed_by, slot_next, brief_of};
+ghost use Rattle.recount_follow.specs.Brief.{number_of, by_record, has_record, by_slot, class_of, followed_by, followed, left_time, left_by, raised, observed_by, slot_next, brief_of};
 
-use call_types::{FollowUp, FollowUpTelemetry, ReplyObservation, Time};
+use call_types::{FollowUpTelemetry, ReplyObservation};
 use estimate::ClockFormat;
-use recount_observed::Observation;
+use recount_seen::Marked;
+
+// The class of a follow-up.
+#[derive(Clone, Copy, Debug, Drop, PartialEq, Eq)]
+pub enum Class {
+    // It says no time.
+    Unavailable = 0,
+    // It is about the reply that carries it, or about more than one.
+    Ambiguous = 1,
+    // No observed reply carries its number.
+    Unmatched = 2,
+    // An earlier one was matched to the reply.
+    Repeated = 3,
+    Matched = 4,
+}
 
 // What an observed reply leaves to its follow-up: nothing, a record without T4, or one with T4, whose format and reference say how a
 // timestamp is to be read.
@@ -28,17 +42,17 @@ pub struct Brief {
     pub corrected: bool,
 }
 
-fn by_record(timestamp: u64, offset: i32, left: Left) -> u8
-    ensures { result ≡ by_record timestamp offset left }
+fn by_record(timestamp: u64, offset: i32, left: Left) -> Class
+    ensures { number_of result ≡ by_record timestamp offset left }
 {
     match left {
-        Left::Nothing => 1,
-        Left::Untimed => 0,
+        Left::Nothing => Class::Ambiguous,
+        Left::Untimed => Class::Unavailable,
         Left::Timed(format, reference) => {
             if recount_time::says_time(format, timestamp, reference, offset) {
-                return 4;
+                return Class::Matched;
             }
-            0
+            Class::Unavailable
         }
     }
 }
@@ -53,36 +67,42 @@ fn has_record(left: Left) -> bool
     }
 }
 
-fn by_slot(timestamp: u64, offset: i32, b: Brief) -> u8
-    ensures { result ≡ by_slot timestamp offset b }
+fn by_slot(timestamp: u64, offset: i32, b: Brief) -> Class
+    ensures { number_of result ≡ by_slot timestamp offset b }
 {
     let left = b.left;
     if !b.there {
-        return 2;
+        return Class::Unmatched;
     }
     if !has_record(left) {
-        return 1;
+        return Class::Ambiguous;
     }
     if b.count != 1 {
-        return 1;
+        return Class::Ambiguous;
     }
     if b.corrected {
-        return 3;
+        return Class::Repeated;
     }
     by_record(timestamp, offset, left)
 }
 
-// 0 unavailable, 1 ambiguous, 2 unmatched, 3 repeated, 4 matched. `own` and `offset` are those of the observation that carries it.
-pub fn class_of(f: FollowUpTelemetry, own: u32, offset: i32, b: Brief) -> u8
-    ensures { result ≡ class_of f own offset b }
+// By the reply that it is about. `own` and `offset` are those of the observation that carries it.
+pub fn class_of(f: FollowUpTelemetry, own: u32, offset: i32, b: Brief) -> Class
+    ensures { number_of result ≡ class_of f own offset b }
 {
     if f.unknown | (f.timestamp == 0) {
-        return 0;
+        return Class::Unavailable;
     }
     if f.sequence == own {
-        return 1;
+        return Class::Ambiguous;
     }
     by_slot(f.timestamp, offset, b)
+}
+
+fn is_matched(class: Class) -> bool
+    ensures { result ≡ eqb 4 (number_of class) }
+{
+    class == Class::Matched
 }
 
 fn followed_by(f: FollowUpTelemetry, own: u32, offset: i32, number: u32, b: Brief) -> Brief
@@ -90,7 +110,7 @@ fn followed_by(f: FollowUpTelemetry, own: u32, offset: i32, number: u32, b: Brie
 {
     let left = b.left;
     let class = class_of(f, own, offset, b);
-    if (4 == class) & (number == f.sequence) {
+    if is_matched(class) & (number == f.sequence) {
         return Brief {
             there: b.there,
             count: b.count,
@@ -101,21 +121,27 @@ fn followed_by(f: FollowUpTelemetry, own: u32, offset: i32, number: u32, b: Brie
     b
 }
 
-fn followed(follow: FollowUp, own: u32, offset: i32, number: u32, b: Brief) -> Brief
+fn followed(
+    follow: Option<FollowUpTelemetry>,
+    own: u32,
+    offset: i32,
+    number: u32,
+    b: Brief,
+) -> Brief
     ensures { result ≡ followed follow own offset number b }
 {
     match follow {
-        FollowUp::Absent => b,
-        FollowUp::Telemetry(f) => followed_by(f, own, offset, number, b),
+        None => b,
+        Some(f) => followed_by(f, own, offset, number, b),
     }
 }
 
-fn left_time(time: Time, format: ClockFormat, reference: i64) -> Left
+fn left_time(time: Option<i64>, format: ClockFormat, reference: i64) -> Left
     ensures { result ≡ left_time time format reference }
 {
     match time {
-        Time::Absent => Left::Untimed,
-        Time::Nanoseconds(_) => Left::Timed(format, reference),
+        None => Left::Untimed,
+        Some(_) => Left::Timed(format, reference),
     }
 }
 
@@ -163,20 +189,20 @@ fn observed_by(o: ReplyObservation, copies: u32, number: u32, b: Brief) -> Brief
     after
 }
 
-fn slot_next(x: Observation, copies: u32, number: u32, b: Brief) -> Brief
+fn slot_next(x: Option<ReplyObservation>, copies: u32, number: u32, b: Brief) -> Brief
     requires { b.count + 1 < 2 ^ 32 }
     ensures { result ≡ slot_next x copies number b }
 {
     match x {
-        Observation::Absent => b,
-        Observation::Made(o) => observed_by(o, copies, number, b),
+        None => b,
+        Some(o) => observed_by(o, copies, number, b),
     }
 }
 
 // Of the first n records.
-pub fn slot_before(log: &[u8], marks: &[u8], n: u32, copies: u32, number: u32) -> Brief
-    requires { (n ≤ length marks.now) × (n < 65536) }
-    ensures { result ≡ brief_of (slot_in copies (events_of log.now marks.now n) number) }
+pub fn slot_before(records: Marked, n: u32, copies: u32, number: u32) -> Brief
+    requires { (n ≤ length records.marks.now) × (n < 65536) }
+    ensures { result ≡ brief_of (slot_in copies (events_of records.entry.log.now records.entry.marks.now n) number) }
 {
     let mut b = Brief {
         there: false,
@@ -184,11 +210,13 @@ pub fn slot_before(log: &[u8], marks: &[u8], n: u32, copies: u32, number: u32) -
         left: Left::Nothing,
         corrected: false,
     };
-    let mut j: u32 = 0;
-    while j < n {
-        let x = recount_observed::observation_at(log, marks, j);
-        b = slot_next(x, copies, number, b);
-        j += 1;
+    for j in 0..n {
+        b = slot_next(
+            recount_observed::observation_at(records, j),
+            copies,
+            number,
+            b,
+        );
     }
     b
 }

@@ -1,8 +1,8 @@
 -- EACH COUNT OF REPLIES OF A MARKED LOG IS WHAT ITS SERVED CALLS CALL FOR. Assumes nothing.
+use Rattle.std.specs.Prelude.{Some, None, Option}
 use mathlib.Core.Path.{◌≡◌, refl, sym, ap, ◌∙◌}
 use mathlib.Core.Bool.{Bool, true, false, not, ◌&&◌, cond}
 use mathlib.Core.List.{List, ◌∷◌}
-use mathlib.Core.Option.{Option}
 use Prim.Native.Nat.{ℕ, zero, suc, ◌≤◌, ◌<◌}
 use native.Mathlib.Omega.{arith}
 use lib.Dec.{eqb, ltb}
@@ -10,8 +10,6 @@ use lib.ListN.{length, get_or}
 use Rattle.limits.specs.Limits.{capacity}
 use Rattle.reply_history.proofs.Lists.{eqb_same}
 use Rattle.call_types.specs.declared.PendingPacket.{PendingPacket}
-use Rattle.call_types.specs.declared.Pending.{Pending}
-use Rattle.call_types.specs.declared.Pending.TheVariants as pending
 use Rattle.call_types.specs.declared.SentProbe.{SentProbe}
 use Rattle.call_types.specs.declared.Reply.{Reply}
 use Rattle.call_types.specs.declared.ReplyKey.{ReplyKey}
@@ -22,8 +20,6 @@ use Rattle.ranges.specs.Ranges.{in_range}
 use Rattle.history.specs.Counting.{tally, has, present}
 use Rattle.history.specs.Given.{packet_of}
 use Rattle.history.specs.Ledger.{Event, accepted, has_key, rememberings, awaiting, replies, Class, duplicate, unknown, unique, same_class, held, class_by, reply_class, ready, unique?, before, CallTest, is_sent, is_class, is_answered, is_additional, is_late, is_satisfying, is_independent, is_reordered, behind, highest_reflector, events, count}
-use Rattle.log_whole.specs.declared.PlayedCall.{PlayedCall}
-use Rattle.log_whole.specs.declared.PlayedCall.TheVariants as played
 use Rattle.log_whole.specs.Logs.{call_at}
 use Rattle.link_history.specs.Fresh.{Watching}
 use Rattle.link_history.specs.Link.{served_from}
@@ -44,17 +40,17 @@ use Rattle.recount_history.proofs.Marked.{served_in, served_few, marks_say}
 -- where the mark is 0 the record is seen as nothing, and passes no test
 abbrev pub Agree : Bool → ℕ → (Seen → List Event → Bool) → CallTest → Type 0
 Agree watched t f test = (h : List Call) → length h < capacity → (c : Call) →
-    tally (f (seen_by (call_mark watched t (events capacity h) c) (played.Call c)) (events capacity h)) (count capacity test h)
+    tally (f (seen_by (call_mark watched t (events capacity h) c) (Some c)) (events capacity h)) (count capacity test h)
     ≡ count capacity test (cond (eqb (call_mark watched t (events capacity h) c) 0) h (c ∷ h))
 
 module _ (v : Watching) (t : ℕ) (ok : Timed v t) (log marks : List ℕ) (n : ℕ) (few : n ≤ capacity) (marked : Marked (watched_in v) t log marks n) where
   module _ (f : Seen → List Event → Bool) (None-passes : (es : List Event) → f Nothing es ≡ false) (test : CallTest) (agree : Agree (watched_in v) t f test) where
-    one_more : (r : PlayedCall) (cs : List Call) → length (served_from v cs) < capacity
+    one_more : (r : Option Call) (cs : List Call) → length (served_from v cs) < capacity
         → tally (f (seen_by (played_mark (watched_in v) t (events capacity (served_from v cs)) r) r) (events capacity (served_from v cs))) (count capacity test (served_from v cs))
         ≡ count capacity test (served_from v (call_then r cs))
     unfolding served_from
-    one_more played.Nothing cs l = rw (None-passes (events capacity (served_from v cs)))
-    one_more (played.Call c) cs l = agree (served_from v cs) l c ∙ sym (ap (count capacity test) (call_kept (served_from v cs) l v t ok c))
+    one_more None cs l = rw (None-passes (events capacity (served_from v cs)))
+    one_more (Some c) cs l = agree (served_from v cs) l c ∙ sym (ap (count capacity test) (call_kept (served_from v cs) l v t ok c))
 
     -- THE COUNT
     pub count_says : (j : ℕ) → j ≤ n → passing f log marks j ≡ count capacity test (served_in v t ok log j)
@@ -103,13 +99,13 @@ module _ (N : ℕ) (es : List Event) (a : Reply) (la : length (accepted es) ≤ 
 module _ (watched : Bool) (t : ℕ) (f : Seen → List Event → Bool) (of-nothing : (es : List Event) → f Nothing es ≡ false) where
   -- a probe and an observation by whether they are served
   sent-by : (h : List Call) (test : CallTest) (s : SentProbe) → f (Probe s) (events capacity h) ≡ test (Sent s) (events capacity h) → (b : Bool)
-      → tally (f (seen_by (cond b 0 1) (played.Call (Sent s))) (events capacity h)) (count capacity test h) ≡ count capacity test (cond (eqb (cond b 0 1) 0) h (Sent s ∷ h))
+      → tally (f (seen_by (cond b 0 1) (Some (Sent s))) (events capacity h)) (count capacity test h) ≡ count capacity test (cond (eqb (cond b 0 1) 0) h (Sent s ∷ h))
   unfolding count
   sent-by h test s e true = rw (of-nothing (events capacity h))
   sent-by h test s e false = rw e
 
   observe-by : (h : List Call) (test : CallTest) (o : ReplyObservation) → f (Observed o) (events capacity h) ≡ test (Observe o) (events capacity h) → (b : Bool)
-      → tally (f (seen_by (cond b 1 0) (played.Call (Observe o))) (events capacity h)) (count capacity test h) ≡ count capacity test (cond (eqb (cond b 1 0) 0) h (Observe o ∷ h))
+      → tally (f (seen_by (cond b 1 0) (Some (Observe o))) (events capacity h)) (count capacity test h) ≡ count capacity test (cond (eqb (cond b 1 0) 0) h (Observe o ∷ h))
   unfolding count
   observe-by h test o e true = rw e
   observe-by h test o e false = rw (of-nothing (events capacity h))
@@ -162,9 +158,9 @@ module _ (N : ℕ) (es : List Event) (a : Reply) (la : length (accepted es) ≤ 
         ∙ ap (λ (b : Bool). same_class x (class_by (has_key (accepted es) a.key) b (present (packet_of a.pending)))) (sym (all_held N es lr a.key.sender))
         ∙ ap (λ (ks : List ReplyKey). same_class x (class_by (has_key ks a.key) (has (held N es) a.key.sender) (present (packet_of a.pending)))) (sym (all_accepted N es la))
 
-absent_is : (x : Pending) → absent x ≡ not (present (packet_of x))
-absent_is pending.Absent = refl
-absent_is (pending.Held p) = refl
+absent_is : (x : Option PendingPacket) → absent x ≡ not (present (packet_of x))
+absent_is None = refl
+absent_is (Some p) = refl
 
 and_and : (a b c : Bool) → (a && (b && c)) ≡ ((a && b) && c)
 and_and true b c = refl

@@ -1,8 +1,8 @@
 -- THE LINES `direct` AND `missing` OF A GOOD LOG. Assumes nothing.
+use Rattle.std.specs.Prelude.{Some, Option, None, Ok}
 use mathlib.Core.Path.{◌≡◌, refl, sym, ap, ◌∙◌}
 use mathlib.Core.Bool.{Bool}
 use mathlib.Core.List.{List}
-use mathlib.Core.Option.{Option, none, some}
 use Prim.Native.Nat.{ℕ, ◌≤◌}
 use native.Mathlib.Omega.{arith}
 use Rattle.limits.specs.Limits.{capacity}
@@ -13,11 +13,8 @@ use Rattle.history.specs.DirectLoss.{DirectClass, is_observation, is_unavailable
 use Rattle.observe_history.specs.Direct.{packets_of, spans_shown}
 use Rattle.link_figures.specs.Figures.{value_of as shown_of}
 use Rattle.log_whole.specs.declared.Settings.{Settings}
-use Rattle.log_whole.specs.declared.Log.TheVariants as log'
 use Rattle.log_whole.specs.Logs.{log_of}
 use Rattle.link_history.specs.Fresh.{Watching}
-use Rattle.report.specs.declared.figures.Value.{Value}
-use Rattle.report.specs.declared.figures.Value.TheVariants as value
 use Rattle.report_history.specs.Figures.{watching_by, figures_from, report_from}
 use Rattle.recount_seen.specs.Seen.{events_of}
 use Rattle.recount_marks.specs.Marks.{Marked}
@@ -33,8 +30,8 @@ use Rattle.recount_history.proofs.Whole.{few_records, timed}
 -- a test of counters by the number that names it
 module _ (watched : Bool) (t kind : ℕ) (test : DirectClass → Bool) (same : (x : DirectClass) → class_test kind x ≡ test x) where
   counters_agree : (n : Option ℕ) (x : Option CounterPoint) (es : List Event) → direct_at capacity (class_test kind) n x es ≡ direct_at capacity test n x es
-  counters_agree n none es = refl
-  counters_agree n (some c) es = same _
+  counters_agree n None es = refl
+  counters_agree n (Some c) es = same _
 
   pub direct_agrees : Agree watched t (direct_by kind) (is_direct capacity test)
   direct_agrees =
@@ -43,14 +40,14 @@ module _ (watched : Bool) (t kind : ℕ) (test : DirectClass → Bool) (same : (
 
 -- what is missing, as it is shown of a summary and of a window's figures
 packets_shown : (n : Option ℕ) → shown_of (packets_of n) ≡ value_of n
-packets_shown none = refl
-packets_shown (some n) = refl
+packets_shown None = refl
+packets_shown (Some n) = refl
 
 spans-missing : (x : Option Spans) → record { forward = shown_of (spans_shown x).forward; reverse = shown_of (spans_shown x).reverse } ≡ missing_of x
-spans-missing none = refl
-spans-missing (some s) = ap (λ (v : Value). record { forward = v; reverse = value.Number s.reverse-missing }) (packets_shown s.forward_missing)
+spans-missing None = refl
+spans-missing (Some s) = ap (λ (v : Option ℕ). record { forward = v; reverse = Some s.reverse-missing }) (packets_shown s.forward_missing)
 
-module _ (log : List ℕ) (s : Settings) (g : log_of log ≡ log'.Good s) (marks : List ℕ) where
+module _ (log : List ℕ) (s : Settings) (g : log_of log ≡ Ok s) (marks : List ℕ) where
   abbrev v : Watching
   v = watching_by s.threshold s.timeout
 

@@ -1,8 +1,8 @@
 -- Of few calls nothing is evicted: the last N accepted are all, and the N most recently remembered are all. Assumes nothing.
+use Rattle.std.specs.Prelude.{Option, None}
 use mathlib.Core.Path.{◌≡◌, refl, ap, ◌∙◌}
 use mathlib.Core.Bool.{Bool, true, false, not, ◌&&◌, ◌||◌, cond}
 use mathlib.Core.List.{List, [], ◌∷◌}
-use mathlib.Core.Option.{Option, none}
 use Prim.Native.Nat.{ℕ, suc, ◌≤◌}
 use native.Mathlib.Omega.{arith}
 use lib.Dec.{eqb}
@@ -92,7 +92,7 @@ module _ (N : ℕ) where
   unfolding ready accepted
   accepted-ready es k p = go (has (held N es) k.sender)
     where
-      go : (b : Bool) → accepted (cond b es (remembered k.sender none 0 (or_else p no_packet) ∷ es)) ≡ accepted es
+      go : (b : Bool) → accepted (cond b es (remembered k.sender None 0 (or_else p no_packet) ∷ es)) ≡ accepted es
       go true = refl
       go false = refl
 
@@ -100,7 +100,7 @@ module _ (N : ℕ) where
   unfolding ready rememberings
   remembered-ready es k p = go (has (held N es) k.sender)
     where
-      go : (b : Bool) → length (rememberings (cond b es (remembered k.sender none 0 (or_else p no_packet) ∷ es))) ≤ suc (length (rememberings es))
+      go : (b : Bool) → length (rememberings (cond b es (remembered k.sender None 0 (or_else p no_packet) ∷ es))) ≤ suc (length (rememberings es))
       go true = omega arith
       go false = omega arith
 

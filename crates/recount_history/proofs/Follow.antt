@@ -1,4 +1,6 @@
 -- THE LINE `followup` OF A GOOD LOG. Assumes nothing.
+use Rattle.std.specs.Prelude.{Option, Some, None, Ok}
+use Rattle.call_types.specs.declared.FollowUpTelemetry.{FollowUpTelemetry}
 use mathlib.Core.Path.{◌≡◌, refl, sym, ap, ◌∙◌}
 use mathlib.Core.Bool.{Bool, true, cond}
 use mathlib.Core.List.{List}
@@ -8,14 +10,11 @@ use lib.Dec.{eqb}
 use lib.IntN.{ℤ}
 use lib.ListN.{length}
 use Rattle.limits.specs.Limits.{capacity}
-use Rattle.call_types.specs.declared.FollowUp.{FollowUp}
-use Rattle.call_types.specs.declared.FollowUp.TheVariants as follow
 use Rattle.history.specs.Counting.{present}
 use Rattle.history.specs.Given.{follow_of}
 use Rattle.history.specs.Ledger.{Event, accepted, copies_of, CallTest, count}
 use Rattle.history.specs.FollowUps.{FollowClass, unavailable, ambiguous, unmatched, repeated, matched, follow_number, is_class_of, has_follow, is_follow}
 use Rattle.log_whole.specs.declared.Settings.{Settings}
-use Rattle.log_whole.specs.declared.Log.TheVariants as log'
 use Rattle.log_whole.specs.Logs.{log_of}
 use Rattle.link_history.specs.Fresh.{Watching}
 use Rattle.report_history.specs.Figures.{watching_by, figures_from, report_from}
@@ -30,10 +29,10 @@ use Rattle.recount_history.proofs.Slots.{class_back}
 use Rattle.recount_history.proofs.Whole.{few_records, timed}
 
 module _ (watched : Bool) (t copies : ℕ) where
-  class_test : (x : FollowClass) (f : FollowUp) (own : ℕ) (offset : ℤ) (es : List Event) → length (accepted es) ≤ capacity
+  class_test : (x : FollowClass) (f : Option FollowUpTelemetry) (own : ℕ) (offset : ℤ) (es : List Event) → length (accepted es) ≤ capacity
       → follow_test (follow_number x) copies f own offset es ≡ is_class_of capacity copies x (follow_of f) own offset es
-  class_test x follow.Absent own offset es l = refl
-  class_test x (follow.Telemetry f) own offset es l = none_five x ∙ ap (eqb (follow_number x)) (sym (class_back capacity copies f own offset es l))
+  class_test x None own offset es l = refl
+  class_test x (Some f) own offset es l = none_five x ∙ ap (eqb (follow_number x)) (sym (class_back capacity copies f own offset es l))
     where
       none_five : {b : Bool} (x : FollowClass) → cond (eqb (follow_number x) 5) true b ≡ b
       none_five unavailable = refl
@@ -47,14 +46,14 @@ module _ (watched : Bool) (t copies : ℕ) where
       observe_agrees watched t (follow_in (follow_number x) copies) (λ es. refl) (λ o es. is_class_of capacity copies x (follow_of o.follow) o.key.reflector o.offset es)
       (λ es la o. class_test x o.follow o.key.reflector o.offset es la)
 
-  any_test : (f : FollowUp) (own : ℕ) (offset : ℤ) (es : List Event) → follow_test 5 copies f own offset es ≡ present (follow_of f)
-  any_test follow.Absent own offset es = refl
-  any_test (follow.Telemetry f) own offset es = refl
+  any_test : (f : Option FollowUpTelemetry) (own : ℕ) (offset : ℤ) (es : List Event) → follow_test 5 copies f own offset es ≡ present (follow_of f)
+  any_test None own offset es = refl
+  any_test (Some f) own offset es = refl
 
   pub any_agrees : Agree watched t (follow_by 5 copies) (has_follow capacity copies)
   any_agrees = observe_agrees watched t (follow_in 5 copies) (λ es. refl) (λ o es. present (follow_of o.follow)) (λ es la o. any_test o.follow o.key.reflector o.offset es)
 
-module _ (log : List ℕ) (s : Settings) (g : log_of log ≡ log'.Good s) (marks : List ℕ) where
+module _ (log : List ℕ) (s : Settings) (g : log_of log ≡ Ok s) (marks : List ℕ) where
   abbrev v : Watching
   v = watching_by s.threshold s.timeout
 

@@ -1,8 +1,8 @@
 -- THE MARKS OF A LOG SAY WHICH CALLS ARE SERVED, AND THEIR EVENTS: for every log of fewer than 4,096 records. Assumes nothing.
+use Rattle.std.specs.Prelude.{Some, None, Option}
 use mathlib.Core.Path.{◌≡◌, refl, sym, ap, ◌∙◌}
 use mathlib.Core.Bool.{Bool, true, false, ◌&&◌, cond}
 use mathlib.Core.List.{List, ◌∷◌}
-use mathlib.Core.Option.{Option}
 use Prim.Native.Nat.{ℕ, zero, suc, ◌≤◌, ◌<◌}
 use native.Mathlib.Omega.{arith}
 use lib.Dec.{eqb}
@@ -16,8 +16,6 @@ use Rattle.ranges.specs.Ranges.{in_range}
 use Rattle.history.specs.Counting.{has, present}
 use Rattle.history.specs.Given.{packet_of}
 use Rattle.history.specs.Ledger.{Event, accepted, has_key, rememberings, awaiting, held, class_by, reply_class, ready, after_reply, events}
-use Rattle.log_whole.specs.declared.PlayedCall.{PlayedCall}
-use Rattle.log_whole.specs.declared.PlayedCall.TheVariants as played
 use Rattle.log_whole.specs.Logs.{call_at}
 use Rattle.link_steps.specs.Steps.{kept_if}
 use Rattle.link_history.specs.Fresh.{Watching}
@@ -57,12 +55,12 @@ module _ (h : List Call) (few : length h < capacity) (watched : Bool) (t : ℕ) 
   abbrev es : List Event
   es = events capacity h
 
-  sent_adds : (b : Bool) (s : Rattle.call_types.specs.declared.SentProbe.SentProbe) → events capacity (cond (eqb (cond b 0 1) 0) h (Sent s ∷ h)) ≡ grow (seen_by (cond b 0 1) (played.Call (Sent s))) es
+  sent_adds : (b : Bool) (s : Rattle.call_types.specs.declared.SentProbe.SentProbe) → events capacity (cond (eqb (cond b 0 1) 0) h (Sent s ∷ h)) ≡ grow (seen_by (cond b 0 1) (Some (Sent s))) es
   unfolding events
   sent_adds true s = refl
   sent_adds false s = refl
 
-  observe_adds : (b : Bool) (o : Rattle.call_types.specs.declared.ReplyObservation.ReplyObservation) → events capacity (cond (eqb (cond b 1 0) 0) h (Observe o ∷ h)) ≡ grow (seen_by (cond b 1 0) (played.Call (Observe o))) es
+  observe_adds : (b : Bool) (o : Rattle.call_types.specs.declared.ReplyObservation.ReplyObservation) → events capacity (cond (eqb (cond b 1 0) 0) h (Observe o ∷ h)) ≡ grow (seen_by (cond b 1 0) (Some (Observe o))) es
   unfolding events
   observe_adds true o = refl
   observe_adds false o = refl
@@ -77,11 +75,11 @@ module _ (h : List Call) (few : length h < capacity) (watched : Bool) (t : ℕ) 
       go false false true = refl
       go false false false = refl
 
-  accept_adds : (a : Reply) → events capacity (Accept a ∷ h) ≡ grow (seen_by (reply_mark es a) (played.Call (Accept a))) es
+  accept_adds : (a : Reply) → events capacity (Accept a ∷ h) ≡ grow (seen_by (reply_mark es a) (Some (Accept a))) es
   unfolding events
   accept_adds a = sym (reply_adds capacity (events capacity h) a (omega (arith, accepted_few capacity h, few)) (omega (arith, remembered_few capacity h, few)))
 
-  pub call_adds : (c : Call) → events capacity (cond (eqb (call_mark watched t es c) 0) h (c ∷ h)) ≡ grow (seen_by (call_mark watched t es c) (played.Call c)) es
+  pub call_adds : (c : Call) → events capacity (cond (eqb (call_mark watched t es c) 0) h (c ∷ h)) ≡ grow (seen_by (call_mark watched t es c) (Some c)) es
   unfolding events observe_mark
   call_adds (Sent s) = sent_adds (late watched t s.packet.time) s
   call_adds (Accept a) = accept-kept a ∙ accept_adds a
@@ -105,15 +103,15 @@ module _ (v : Watching) (t : ℕ) (ok : Timed v t) (log : List ℕ) where
   served_few zero = omega arith
   served_few (suc n) = go (call_at log n) (served_few n)
     where
-      go : (r : PlayedCall) → length (served_in n) ≤ n → length (served_from v (call_then r (log_calls log n))) ≤ suc n
-      go played.Nothing l = omega arith
-      go (played.Call c) l = kept-most (refuses_from v (served_in n) c) c (served_in n) n l
+      go : (r : Option Call) → length (served_in n) ≤ n → length (served_from v (call_then r (log_calls log n))) ≤ suc n
+      go None l = omega arith
+      go (Some c) l = kept-most (refuses_from v (served_in n) c) c (served_in n) n l
 
-  one_record : (r : PlayedCall) (cs : List Call) → length (served_from v cs) < capacity
+  one_record : (r : Option Call) (cs : List Call) → length (served_from v cs) < capacity
       → events capacity (served_from v (call_then r cs)) ≡ grow (seen_by (played_mark (watched_in v) t (events capacity (served_from v cs)) r) r) (events capacity (served_from v cs))
   unfolding served_from
-  one_record played.Nothing cs l = refl
-  one_record (played.Call c) cs l = ap (events capacity) (call_kept (served_from v cs) l v t ok c) ∙ call_adds (served_from v cs) l (watched_in v) t c
+  one_record None cs l = refl
+  one_record (Some c) cs l = ap (events capacity) (call_kept (served_from v cs) l v t ok c) ∙ call_adds (served_from v cs) l (watched_in v) t c
 
   module _ (marks : List ℕ) (n : ℕ) (few : n ≤ capacity) (marked : Marked (watched_in v) t log marks n) where
     -- THE THEOREM: what the marks say of the first j records is what the served calls among them call for

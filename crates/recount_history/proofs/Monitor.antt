@@ -1,4 +1,5 @@
 -- THE LINE `state` OF A LOG: what its moves leave of the plain monitor is the monitor after its served calls. Assumes nothing.
+use Rattle.std.specs.Prelude.{Option, Some, None, Ok}
 use mathlib.Core.Path.{◌≡◌, refl, sym, ap, ◌∙◌}
 use mathlib.Core.Bool.{Bool, true, false, ◌&&◌, cond}
 use mathlib.Core.List.{List, ◌∷◌}
@@ -22,16 +23,13 @@ use Rattle.history.specs.Counting.{has, present}
 use Rattle.history.specs.Given.{packet_of}
 use Rattle.history.specs.Ledger.{Event, accepted, has_key, rememberings, awaiting, held, unique, same_class, class_by, reply_class, events}
 use Rattle.log_whole.specs.declared.Settings.{Settings}
-use Rattle.log_whole.specs.declared.Log.TheVariants as log'
-use Rattle.log_whole.specs.declared.PlayedCall.{PlayedCall}
-use Rattle.log_whole.specs.declared.PlayedCall.TheVariants as played
 use Rattle.log_whole.specs.Logs.{call_at, log_of}
 use Rattle.link_figures.specs.Figures.{session_by}
 use Rattle.link_history.specs.Fresh.{Watching, watching}
 use Rattle.link_history.specs.Monitor.{monitor_from}
 use Rattle.link_history.specs.Link.{served_from}
 use Rattle.report_history.specs.Figures.{call_then, log_calls, watching_by, session_from, figures_from, report_from}
-use Rattle.report.specs.declared.figures.Session.TheVariants.{None}
+use Rattle.report.specs.declared.figures.Session.TheVariants as session
 use Rattle.recount_seen.specs.Seen.{events_of}
 use Rattle.recount_back.specs.Back.{awaits}
 use Rattle.recount_marks.specs.Marks.{late, reply_mark, observe_mark, call_mark, played_mark, Marked}
@@ -51,7 +49,7 @@ module _ (threshold timeout : ℕ) where
   abbrev M : List Call → Plain
   M h = monitor_from threshold timeout h
 
-  sent_move : (h : List Call) (s : SentProbe) (b : Bool) → track.played (move_by (cond b 0 1) (played.Call (Sent s))) (M h) ≡ M (cond (eqb (cond b 0 1) 0) h (Sent s ∷ h))
+  sent_move : (h : List Call) (s : SentProbe) (b : Bool) → track.played (move_by (cond b 0 1) (Some (Sent s))) (M h) ≡ M (cond (eqb (cond b 0 1) 0) h (Sent s ∷ h))
   unfolding monitor_from
   sent_move h s true = refl
   sent_move h s false = refl
@@ -65,7 +63,7 @@ module _ (threshold timeout : ℕ) where
     abbrev es : List Event
     es = events capacity h
 
-    by-mark : (d b q : Bool) → track.played (move_by (cond d 2 (cond b 4 (cond q 5 3))) (played.Call (Accept a))) (M h) ≡ cond (same_class unique (class_by d b q)) (reply (M h) a.key.sender) (M h)
+    by-mark : (d b q : Bool) → track.played (move_by (cond d 2 (cond b 4 (cond q 5 3))) (Some (Accept a))) (M h) ≡ cond (same_class unique (class_by d b q)) (reply (M h) a.key.sender) (M h)
     by-mark true b q = refl
     by-mark false true q = refl
     by-mark false false true = refl
@@ -77,7 +75,7 @@ module _ (threshold timeout : ℕ) where
     kept false false true = refl
     kept false false false = refl
 
-    accept_move : track.played (move_by (reply_mark es a) (played.Call (Accept a))) (M h) ≡ M (cond (eqb (reply_mark es a) 0) h (Accept a ∷ h))
+    accept_move : track.played (move_by (reply_mark es a) (Some (Accept a))) (M h) ≡ M (cond (eqb (reply_mark es a) 0) h (Accept a ∷ h))
     unfolding monitor_from reply_mark reply_class
     accept_move =
         by-mark (has_key (accepted es) a.key) (has (rememberings es) a.key.sender) (present (packet_of a.pending))
@@ -86,7 +84,7 @@ module _ (threshold timeout : ℕ) where
         ∙ kept (has_key (accepted es) a.key) (has (rememberings es) a.key.sender) (present (packet_of a.pending))
 
   call_move : (h : List Call) → length h < capacity → (t : ℕ) (c : Call)
-      → track.played (move_by (call_mark true t (events capacity h) c) (played.Call c)) (M h) ≡ M (cond (eqb (call_mark true t (events capacity h) c) 0) h (c ∷ h))
+      → track.played (move_by (call_mark true t (events capacity h) c) (Some c)) (M h) ≡ M (cond (eqb (call_mark true t (events capacity h) c) 0) h (c ∷ h))
   unfolding observe_mark monitor_from
   call_move h few t (Sent s) = sent_move h s (late true t s.packet.time)
   call_move h few t (Accept a) = accept_move h few a
@@ -98,11 +96,11 @@ module _ (threshold timeout : ℕ) where
   v = watching threshold timeout
 
   module _ (log marks : List ℕ) (n : ℕ) (few : n ≤ capacity) (marked : Marked true timeout log marks n) where
-    one_record : (r : PlayedCall) (cs : List Call) → length (served_from v cs) < capacity
+    one_record : (r : Option Call) (cs : List Call) → length (served_from v cs) < capacity
         → track.played (move_by (played_mark true timeout (events capacity (served_from v cs)) r) r) (M (served_from v cs)) ≡ M (served_from v (call_then r cs))
     unfolding served_from
-    one_record played.Nothing cs l = refl
-    one_record (played.Call c) cs l = call_move (served_from v cs) l timeout c ∙ sym (ap M (call_kept (served_from v cs) l v timeout refl c))
+    one_record None cs l = refl
+    one_record (Some c) cs l = call_move (served_from v cs) l timeout c ∙ sym (ap M (call_kept (served_from v cs) l v timeout refl c))
 
     -- the moves of the first j records leave the monitor of the served calls among them
     pub monitor_says : (j : ℕ) → j ≤ n → plain_in threshold timeout (move_at log marks) j ≡ M (served_in v timeout refl log j)
@@ -131,9 +129,9 @@ module _ (timeout : ℕ) (log marks : List ℕ) (n : ℕ) (few : n ≤ capacity)
   session_says (suc threshold) marked =
       let left = (monitor_from (suc threshold) timeout (served_in (watching (suc threshold) timeout) timeout refl log n)).summary in
       same_state left.state left.consecutive_losses ∙ ap (λ (p : Plain). shown p.summary) (sym (monitor_says (suc threshold) timeout log marks n few marked n (omega arith)))
-      ∙ ap (λ (b : Bool). cond b None (shown (plain_in (suc threshold) timeout (move_at log marks) n).summary)) (sym (ne_eqb (suc threshold) 0 (λ e. omega arith)))
+      ∙ ap (λ (b : Bool). cond b session.None (shown (plain_in (suc threshold) timeout (move_at log marks) n).summary)) (sym (ne_eqb (suc threshold) 0 (λ e. omega arith)))
 
-module _ (log : List ℕ) (s : Settings) (g : log_of log ≡ log'.Good s) (marks : List ℕ) (marked : Marked (watched_in (watching_by s.threshold s.timeout)) s.timeout log marks s.count) where
+module _ (log : List ℕ) (s : Settings) (g : log_of log ≡ Ok s) (marks : List ℕ) (marked : Marked (watched_in (watching_by s.threshold s.timeout)) s.timeout log marks s.count) where
   -- "state S losses N"
   pub session-line : (report_from log s).session ≡ session_in s.threshold s.timeout (move_at log marks) s.count
   unfolding figures_from

@@ -1,8 +1,8 @@
 -- Of few calls: a call is served exactly where its mark is not 0. Refusals 3 and 4 do not happen in a log. Assumes nothing.
+use Rattle.std.specs.Prelude.{Option, None, Some}
 use mathlib.Core.Path.{◌≡◌, refl, sym, ap, ◌∙◌}
 use mathlib.Core.Bool.{Bool, true, false, ◌&&◌, cond}
 use mathlib.Core.List.{List, [], ◌∷◌}
-use mathlib.Core.Option.{Option, none, some}
 use Prim.Native.Nat.{ℕ, suc, ◌+◌, ◌^◌, ◌≤◌, ◌<◌}
 use native.Mathlib.Omega.{arith}
 use lib.Dec.{eqb, leb, ltb}
@@ -121,8 +121,8 @@ module _ (h : List Call) (few : length h < capacity) where
       go false false false = refl
 
   awaits-same : (x : Option ReplyKey) (k : ReplyKey) → awaits_in x k ≡ awaits x k
-  awaits-same none k = refl
-  awaits-same (some a) k = refl
+  awaits-same None k = refl
+  awaits-same (Some a) k = refl
 
   observe-by : (b d : Bool) (c : Call) → kept_if (first_refusal true b true true d true) c h ≡ cond (eqb (cond (b && d) 1 0) 0) h (c ∷ h)
   observe-by true true c = refl

@@ -1,5 +1,6 @@
 -- THE SECOND COUNT OF A LOG IS THE REPORT OF `linkreport`: each number and state, records turned away included, for every log that the reader
 -- accepts, over any rooms of the right size and any words of the hash. Through the definitions of crate history. Assumes nothing.
+use Rattle.std.specs.Prelude.{Err, Ok, Result}
 use mathlib.Core.Path.{◌≡◌, refl, sym, ap, subst, ◌∙◌}
 use mathlib.Core.Bool.{Bool, true, not}
 use mathlib.Core.List.{List}
@@ -12,8 +13,7 @@ use Rattle.probe_queue.specs.declared.QueuedProbe.{QueuedProbe}
 use Rattle.ledger_steps.specs.Rooms.{Rooms}
 use Rattle.reply_history.specs.Stands.{RoomsFit}
 use Rattle.log_whole.specs.declared.Settings.{Settings}
-use Rattle.log_whole.specs.declared.Log.{Log}
-use Rattle.log_whole.specs.declared.Log.TheVariants as log'
+use Rattle.log_whole.specs.declared.Fault.{Fault}
 use Rattle.log_whole.specs.Logs.{log_of}
 use Rattle.report.specs.declared.figures.Figures.{Figures}
 use Rattle.report.specs.Lines.{text_of}
@@ -41,7 +41,7 @@ use Rattle.recount_history.proofs.Monitor.{session-line}
 
 -- ---- the eleven lines
 
-module _ (log : List ℕ) (s : Settings) (g : log_of log ≡ log'.Good s) (marks : List ℕ)
+module _ (log : List ℕ) (s : Settings) (g : log_of log ≡ Ok s) (marks : List ℕ)
     (marked : Marked (watched_in (watching_by s.threshold s.timeout)) s.timeout log marks s.count) where
   lines_say : report_from log s ≡ figures_at s log marks
   unfolding figures_by followup_at direct_at loss_at replies_at probes_at order_at
@@ -65,7 +65,7 @@ watched_is : (n t : ℕ) → watched_by n ≡ watched_in (watching_by n t)
 watched_is zero t = refl
 watched_is (suc n) t = ap not (ne_eqb (suc n) 0 (λ e. omega arith))
 
-module _ (log : List ℕ) (h : BytesIn log) (s : Settings) (g : log_of log ≡ log'.Good s) (marks : List ℕ) (room : length marks ≡ most_records) where
+module _ (log : List ℕ) (h : BytesIn log) (s : Settings) (g : log_of log ≡ Ok s) (marks : List ℕ) (room : length marks ≡ most_records) where
   marked : Marked (watched_in (watching_by s.threshold s.timeout)) s.timeout log (marks_of s log marks) s.count
   marked =
       subst (λ (b : Bool). Marked b s.timeout log (marks_of s log marks) s.count) (watched_is s.threshold s.timeout)
@@ -88,12 +88,10 @@ module _ (log : List ℕ) (h : BytesIn log) (s : Settings) (g : log_of log ≡ l
 
 module _ (log : List ℕ) (h : BytesIn log) (marks fronts buffer : List ℕ) (fit : rooms_fit (length marks) (length fronts) (length buffer) ≡ true)
     (secret : List ℕ) (queue : List QueuedProbe) (long : length queue ≡ capacity) (rooms : Rooms) (sized : RoomsFit capacity rooms) (fit' : fits queue rooms buffer ≡ true) where
-  by_log : (l : Log) → log_of log ≡ l
+  by_log : (l : Result Settings Fault) → log_of log ≡ l
       → (second.recount_by (second.checked_of l) log marks fronts buffer).outcome ≡ (first.report_by (checks.checked_of l) (end_of log secret queue rooms) queue rooms buffer).outcome
-  by_log log'.TooLong e = refl
-  by_log log'.BadTrailer e = refl
-  by_log (log'.BadRecord n) e = refl
-  by_log (log'.Good s) e =
+  by_log (Err f) e = refl
+  by_log (Ok s) e =
       ap (λ (f : Figures). written (text_of f) buffer)
       (same_figures log h s e marks (rooms_are (length marks) (length fronts) (length buffer) fit).0 secret queue long rooms sized)
 

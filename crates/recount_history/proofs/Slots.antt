@@ -1,11 +1,11 @@
 -- THE CLASS OF A FOLLOW-UP THAT LOOKING BACK FINDS IS THAT OF THE HISTORY: of few replies none is evicted. Assumes nothing.
+use Rattle.std.specs.Prelude.{Option, None, slice_get}
 use mathlib.Core.Path.{◌≡◌, refl, ap, ◌∙◌}
 use mathlib.Core.List.{List, [], ◌∷◌}
-use mathlib.Core.Option.{Option, none}
 use Prim.Native.Nat.{ℕ, zero, suc, ◌-◌, ◌≤◌, ◌<◌}
 use native.Mathlib.Omega.{arith}
 use lib.IntN.{ℤ}
-use lib.ListN.{length, get_elem?}
+use lib.ListN.{length}
 use Rattle.call_types.specs.declared.ReplyKey.{ReplyKey}
 use Rattle.call_types.specs.declared.FollowUpTelemetry.{FollowUpTelemetry}
 use Rattle.history.specs.Given.{follow_of}
@@ -15,7 +15,7 @@ use Rattle.recount_follow.specs.Slots.{slot_in}
 use Rattle.recount_follow.specs.Brief.{brief_of, class_of}
 use Rattle.recount_follow.proofs.Laws.{class_is}
 
-past_end : {A : Type 0} (xs : List A) (i : ℕ) → length xs ≤ i → get_elem? xs i ≡ none
+past_end : {A : Type 0} (xs : List A) (i : ℕ) → length xs ≤ i → slice_get xs i ≡ None
 past_end [] i l = refl
 past_end (x ∷ xs) zero l = absurd (omega (arith, l))
 past_end (x ∷ xs) (suc i) l = past_end xs i (omega (arith, l))

@@ -1,7 +1,7 @@
 -- THE LINE `rtt` OF A GOOD LOG. Assumes nothing.
+use Rattle.std.specs.Prelude.{Option, None, Some, Ok}
 use mathlib.Core.Path.{◌≡◌, refl, sym, ap, ◌∙◌}
 use mathlib.Core.List.{List}
-use mathlib.Core.Option.{Option, none, some}
 use Prim.Native.Nat.{ℕ, ◌≤◌}
 use native.Mathlib.Omega.{arith}
 use lib.IntN.{ℤ, pos, negsuc}
@@ -13,7 +13,6 @@ use Rattle.history.specs.Figures.{figures_of, least, greatest}
 use Rattle.observe_history.specs.RoundTrips.{extreme_of, delays_from}
 use Rattle.link_figures.specs.Figures.{time_of, round_trip_of}
 use Rattle.log_whole.specs.declared.Settings.{Settings}
-use Rattle.log_whole.specs.declared.Log.TheVariants as log'
 use Rattle.log_whole.specs.Logs.{log_of}
 use Rattle.link_history.specs.Fresh.{Watching}
 use Rattle.report_history.specs.Figures.{watching_by, figures_from, report_from}
@@ -26,14 +25,14 @@ use Rattle.recount_history.proofs.Whole.{few_records, timed}
 
 -- a least or a greatest, as it is shown of the sums and of the list
 extreme_shown : (x : Option ℤ) → time_of (extreme_of x) ≡ value_of x
-extreme_shown none = refl
-extreme_shown (some (pos n)) = refl
-extreme_shown (some (negsuc n)) = refl
+extreme_shown None = refl
+extreme_shown (Some (pos n)) = refl
+extreme_shown (Some (negsuc n)) = refl
 
 trips-shown : (zs : List ℤ) → round_trip_of (delays_from (figures_of zs)) ≡ trips_of zs
 trips-shown zs = λ i. record { samples = length zs; min = extreme_shown (least zs) i; max = extreme_shown (greatest zs) i }
 
-module _ (log : List ℕ) (s : Settings) (g : log_of log ≡ log'.Good s) (marks : List ℕ) where
+module _ (log : List ℕ) (s : Settings) (g : log_of log ≡ Ok s) (marks : List ℕ) where
   abbrev v : Watching
   v = watching_by s.threshold s.timeout
 

@@ -1,5 +1,6 @@
 -- WHICH RECORDS ARE TURNED AWAY: a record's mark is 0 exactly where its call is refused, after the calls that were served before it.
 -- Assumes nothing.
+use Rattle.std.specs.Prelude.{Option, Some}
 use mathlib.Core.Path.{◌≡◌, refl, sym, ap, ◌∙◌}
 use mathlib.Core.Bool.{Bool, true, false, not, cond}
 use mathlib.Core.List.{List, ◌∷◌}
@@ -11,8 +12,6 @@ use borrow.Author.Tests.{ne_eqb}
 use Rattle.limits.specs.Limits.{capacity}
 use Rattle.call_types.specs.declared.Call.{Call}
 use Rattle.history.specs.Ledger.{Event, events}
-use Rattle.log_whole.specs.declared.PlayedCall.{PlayedCall}
-use Rattle.log_whole.specs.declared.PlayedCall.TheVariants as played
 use Rattle.log_whole.specs.Logs.{call_at}
 use Rattle.link_steps.specs.Steps.{kept_if}
 use Rattle.link_history.specs.Fresh.{Watching}
@@ -32,10 +31,10 @@ same_test (suc n) false c h e = absurd (omega (arith, ap length e))
 
 module _ (v : Watching) (t : ℕ) (ok : Timed v t) (log marks : List ℕ) (n : ℕ) (few : n ≤ capacity) (marked : Marked (watched_in v) t log marks n) where
   -- THE THEOREM
-  pub mark-tells : (j : ℕ) → j < n → (c : Call) → call_at log j ≡ played.Call c → eqb (get_or marks j 0) 0 ≡ not (eqb (refuses_from v (served_in v t ok log j) c) 0)
+  pub mark-tells : (j : ℕ) → j < n → (c : Call) → call_at log j ≡ Some c → eqb (get_or marks j 0) 0 ≡ not (eqb (refuses_from v (served_in v t ok log j) c) 0)
   mark-tells j l c e =
       let h = served_in v t ok log j in
       ap (λ (m : ℕ). eqb m 0) (marked j l)
       ∙ ap (λ (es : List Event). eqb (played_mark (watched_in v) t es (call_at log j)) 0) (marks_say v t ok log marks n few marked j (omega arith))
-      ∙ ap (λ (r : PlayedCall). eqb (played_mark (watched_in v) t (events capacity h) r) 0) e
+      ∙ ap (λ (r : Option Call). eqb (played_mark (watched_in v) t (events capacity h) r) 0) e
       ∙ same_test (refuses_from v h c) (eqb (call_mark (watched_in v) t (events capacity h) c) 0) c h (call_kept h (omega (arith, served_few v t ok log j, few, l)) v t ok c)

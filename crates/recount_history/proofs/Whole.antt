@@ -1,5 +1,6 @@
 -- A GOOD LOG: it has at most 682 records, so that all before is what the last 4,096 are; and the lines of its report that the marks give.
 -- Assumes nothing.
+use Rattle.std.specs.Prelude.{Option, Some, None, Ok}
 use mathlib.Core.Path.{◌≡◌, refl, sym, ap, ◌∙◌}
 use mathlib.Core.Bool.{Bool, true, false, cond}
 use mathlib.Core.List.{List, ◌∷◌}
@@ -12,9 +13,6 @@ use Rattle.call_types.specs.declared.Call.{Call}
 use Rattle.history.specs.Counting.{tally}
 use Rattle.history.specs.Ledger.{Event, copies_of, duplicate, unknown, unique, is_sent, is_class, is_answered, is_additional, is_late, is_satisfying, is_independent, is_reordered, CallTest, count, events, thousandths}
 use Rattle.log_whole.specs.declared.Settings.{Settings}
-use Rattle.log_whole.specs.declared.Log.TheVariants as log'
-use Rattle.log_whole.specs.declared.PlayedCall.{PlayedCall}
-use Rattle.log_whole.specs.declared.PlayedCall.TheVariants as played
 use Rattle.log_whole.specs.Logs.{call_at, log_of}
 use Rattle.record_parts.specs.Parts.{call_of}
 use Rattle.log_whole.proofs.Accepted.{accepted_decodes}
@@ -37,10 +35,10 @@ use Rattle.recount_history.proofs.Counts.{Agree, count_says, sent_agrees, duplic
 
 -- ---- every record says a call
 
-one_longer : (log : List ℕ) (n : ℕ) (r : PlayedCall) (c : Call) → r ≡ played.Call c → length (call_then r (log_calls log n)) ≡ suc (length (log_calls log n))
-one_longer log n r c e = ap (λ (x : PlayedCall). length (call_then x (log_calls log n))) e
+one_longer : (log : List ℕ) (n : ℕ) (r : Option Call) (c : Call) → r ≡ Some c → length (call_then r (log_calls log n)) ≡ suc (length (log_calls log n))
+one_longer log n r c e = ap (λ (x : Option Call). length (call_then x (log_calls log n))) e
 
-pub all_calls : (log : List ℕ) (s : Settings) → log_of log ≡ log'.Good s → (n : ℕ) → n ≤ s.count → length (log_calls log n) ≡ n
+pub all_calls : (log : List ℕ) (s : Settings) → log_of log ≡ Ok s → (n : ℕ) → n ≤ s.count → length (log_calls log n) ≡ n
 unfolding log_calls
 all_calls log s g zero l = refl
 all_calls log s g (suc n) l =
@@ -54,11 +52,11 @@ module _ (v : Watching) (t : ℕ) (ok : Timed v t) (log marks : List ℕ) (n : �
   turned_or_kept true c h turned = omega arith
   turned_or_kept false c h turned = omega arith
 
-  one_more : (r : PlayedCall) (cs : List Call) (turned : ℕ) → length (served_from v cs) < capacity
+  one_more : (r : Option Call) (cs : List Call) (turned : ℕ) → length (served_from v cs) < capacity
       → tally (eqb (played_mark (watched_in v) t (events capacity (served_from v cs)) r) 0) turned + length (served_from v (call_then r cs)) ≡ suc (turned + length (served_from v cs))
   unfolding served_from
-  one_more played.Nothing cs turned l = omega arith
-  one_more (played.Call c) cs turned l =
+  one_more None cs turned l = omega arith
+  one_more (Some c) cs turned l =
       let mark = call_mark (watched_in v) t (events capacity (served_from v cs)) c in
       ap (λ (h : List Call). tally (eqb mark 0) turned + length h) (call_kept (served_from v cs) l v t ok c)
       ∙ turned_or_kept (eqb mark 0) c (served_from v cs) turned
@@ -83,7 +81,7 @@ pub timed : (n t : ℕ) → Timed (watching_by n t) t
 timed zero t = tt
 timed (suc n) t = refl
 
-module _ (log : List ℕ) (s : Settings) (g : log_of log ≡ log'.Good s) (marks : List ℕ) where
+module _ (log : List ℕ) (s : Settings) (g : log_of log ≡ Ok s) (marks : List ℕ) where
   abbrev v : Watching
   v = watching_by s.threshold s.timeout
 

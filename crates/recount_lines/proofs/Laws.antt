@@ -1,4 +1,5 @@
 -- What the figures of loss need. Assumes nothing.
+use Rattle.std.specs.Prelude.{Some}
 use mathlib.Core.Path.{◌≡◌, refl}
 use mathlib.Core.Bool.{Bool}
 use mathlib.Core.List.{List}
@@ -6,13 +7,12 @@ use Prim.Native.Nat.{ℕ, zero, suc, ◌*◌, ◌/◌, ◌^◌, ◌<◌}
 use native.Mathlib.Omega.{arith}
 use native.Mathlib.Nat.{mul-le-mul}
 use Rattle.history.specs.Ledger.{Event}
-use Rattle.report.specs.declared.figures.Value.TheVariants as value
 use Rattle.recount_seen.specs.declared.Seen.{Seen}
 use Rattle.recount_counts.specs.Tests.{passing}
 use Rattle.recount_counts.proofs.Laws.{passing-most}
 use Rattle.recount_lines.specs.Lines.{thousandths_of}
 
-pub known : (requested lost : ℕ) → (requested ≡ 0 → ⊥) → value.Number (1000 * lost / requested) ≡ thousandths_of requested lost
+pub known : (requested lost : ℕ) → (requested ≡ 0 → ⊥) → Some (1000 * lost / requested) ≡ thousandths_of requested lost
 known zero lost h = absurd (h refl)
 known (suc n) lost h = refl
 

@@ -1,7 +1,5 @@
 -- Five lines of the report, from the first n records of a log and their marks. Assumes nothing.
-use Rattle.std.specs.Prelude.{List, ℕ, zero, suc, ◌-◌, ◌*◌, ◌/◌}
-use Rattle.report.specs.declared.figures.Value.{Value}
-use Rattle.report.specs.declared.figures.Value.TheVariants as value
+use Rattle.std.specs.Prelude.{List, ℕ, zero, suc, ◌-◌, ◌*◌, ◌/◌, Option, Some, None}
 use Rattle.report.specs.declared.figures.PlayedRecords.{PlayedRecords}
 use Rattle.report.specs.declared.figures.Loss.{Loss}
 use Rattle.report.specs.declared.figures.Replies.{Replies}
@@ -15,9 +13,9 @@ abbrev pub played_at : List ℕ → ℕ → PlayedRecords
 played_at marks n = record { records = n; turned_away = turned_in marks n }
 
 -- "1,000·unobserved/requested rounded down"; with nothing requested there is no figure (document 02, Q-5)
-abbrev pub thousandths_of : (requested lost : ℕ) → Value
-thousandths_of zero lost = value.Absent
-thousandths_of (suc n) lost = value.Number (1000 * lost / suc n)
+abbrev pub thousandths_of : (requested lost : ℕ) → Option ℕ
+thousandths_of zero lost = None
+thousandths_of (suc n) lost = Some (1000 * lost / suc n)
 
 -- unobserved is requested less satisfied, not below 0
 abbrev pub loss_by : (requested satisfied : ℕ) → Loss

@@ -1,11 +1,11 @@
 // The lines of the report that the counts of records, probes and replies give: `records`, `requested`, `unique`, `answered`, `reordered`.
-ghost use Rattle.std.specs.Prelude.{◌≡◌, ◌-◌, ◌^◌, ◌≤◌, ◌<◌, length};
+ghost use Rattle.std.specs.Prelude.{◌≡◌, ◌^◌, ◌≤◌, ◌<◌, length};
 ghost use Rattle.history.specs.Ledger.{copies_of};
 ghost use Rattle.recount_lines.specs.Lines.{thousandths_of, loss_by, played_at, loss_at, replies_at, probes_at, order_at};
 
-use recount_counts::count;
+use recount_counts::{Test, count};
+use recount_seen::Marked;
 use report::figures;
-use report::figures::Value;
 
 // Copies 0 counts as 1.
 pub fn copies_of(copies: u16) -> u32
@@ -29,30 +29,21 @@ pub fn played(marks: &[u8], n: u32) -> figures::PlayedRecords
 }
 
 // With nothing requested there is no figure of loss.
-fn thousandths_of(requested: u64, lost: u64) -> Value
+fn thousandths_of(requested: u64, lost: u64) -> Option<u64>
     requires { lost < 2 ^ 32 }
     ensures { result ≡ thousandths_of requested lost }
 {
     if requested == 0 {
-        return Value::Absent;
+        return None;
     }
-    Value::Number(1000 * lost / requested)
-}
-
-fn less(requested: u64, satisfied: u64) -> u64
-    ensures { result ≡ requested - satisfied }
-{
-    if satisfied < requested {
-        return requested - satisfied;
-    }
-    0
+    Some(1000 * lost / requested)
 }
 
 fn loss_by(requested: u64, satisfied: u64) -> figures::Loss
     requires { requested < 2 ^ 32 }
     ensures { result ≡ loss_by requested satisfied }
 {
-    let lost = less(requested, satisfied);
+    let lost = requested.saturating_sub(satisfied);
     figures::Loss {
         requested,
         unobserved: lost,
@@ -60,23 +51,23 @@ fn loss_by(requested: u64, satisfied: u64) -> figures::Loss
     }
 }
 
-pub fn loss(copies: u32, log: &[u8], marks: &[u8], n: u32) -> figures::Loss
-    requires { (copies < 65536) × (n ≤ length marks.now) × (n < 65536) }
-    ensures { result ≡ loss_at copies log.now marks.now n }
+pub fn loss(copies: u32, records: Marked, n: u32) -> figures::Loss
+    requires { (copies < 65536) × (n ≤ length records.marks.now) × (n < 65536) }
+    ensures { result ≡ loss_at copies records.entry.log.now records.entry.marks.now n }
 {
-    let sent = count(0, copies, log, marks, n);
-    let satisfied = count(7, copies, log, marks, n);
+    let sent = count(Test::Sent, copies, records, n);
+    let satisfied = count(Test::Satisfying, copies, records, n);
     let requested = (copies as u64) * (sent as u64);
     loss_by(requested, satisfied as u64)
 }
 
-pub fn replies(copies: u32, log: &[u8], marks: &[u8], n: u32) -> figures::Replies
-    requires { (n ≤ length marks.now) × (n < 65536) }
-    ensures { result ≡ replies_at copies log.now marks.now n }
+pub fn replies(copies: u32, records: Marked, n: u32) -> figures::Replies
+    requires { (n ≤ length records.marks.now) × (n < 65536) }
+    ensures { result ≡ replies_at copies records.entry.log.now records.entry.marks.now n }
 {
-    let unique = count(3, copies, log, marks, n);
-    let duplicate = count(1, copies, log, marks, n);
-    let unknown = count(2, copies, log, marks, n);
+    let unique = count(Test::Unique, copies, records, n);
+    let duplicate = count(Test::Duplicate, copies, records, n);
+    let unknown = count(Test::Unknown, copies, records, n);
     figures::Replies {
         unique: unique as u64,
         duplicate: duplicate as u64,
@@ -84,13 +75,13 @@ pub fn replies(copies: u32, log: &[u8], marks: &[u8], n: u32) -> figures::Replie
     }
 }
 
-pub fn probes(copies: u32, log: &[u8], marks: &[u8], n: u32) -> figures::Probes
-    requires { (n ≤ length marks.now) × (n < 65536) }
-    ensures { result ≡ probes_at copies log.now marks.now n }
+pub fn probes(copies: u32, records: Marked, n: u32) -> figures::Probes
+    requires { (n ≤ length records.marks.now) × (n < 65536) }
+    ensures { result ≡ probes_at copies records.entry.log.now records.entry.marks.now n }
 {
-    let answered = count(4, copies, log, marks, n);
-    let additional = count(5, copies, log, marks, n);
-    let late = count(6, copies, log, marks, n);
+    let answered = count(Test::Answered, copies, records, n);
+    let additional = count(Test::Additional, copies, records, n);
+    let late = count(Test::Late, copies, records, n);
     figures::Probes {
         answered: answered as u64,
         additional: additional as u64,
@@ -98,12 +89,12 @@ pub fn probes(copies: u32, log: &[u8], marks: &[u8], n: u32) -> figures::Probes
     }
 }
 
-pub fn order(copies: u32, log: &[u8], marks: &[u8], n: u32) -> figures::Order
-    requires { (n ≤ length marks.now) × (n < 65536) }
-    ensures { result ≡ order_at copies log.now marks.now n }
+pub fn order(copies: u32, records: Marked, n: u32) -> figures::Order
+    requires { (n ≤ length records.marks.now) × (n < 65536) }
+    ensures { result ≡ order_at copies records.entry.log.now records.entry.marks.now n }
 {
-    let reordered = count(9, copies, log, marks, n);
-    let independent = count(8, copies, log, marks, n);
+    let reordered = count(Test::Reordered, copies, records, n);
+    let independent = count(Test::Independent, copies, records, n);
     figures::Order {
         reordered: reordered as u64,
         independent: independent as u64,

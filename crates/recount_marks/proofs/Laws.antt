@@ -8,7 +8,8 @@ use lib.Dec.{eqb}
 use lib.ListN.{length, get_or, set, length-set}
 use lib.Seq.{get_or-set_same, get_or-set_other}
 use borrow.Author.Count.{below_more}
-use Rattle.history.specs.Counting.{tally}
+use Rattle.recount_back.specs.Back.{Counted}
+use Rattle.recount_back.proofs.Laws.{counted_is}
 use Rattle.history.specs.Ledger.{Event}
 use Rattle.log_whole.specs.Logs.{call_at}
 use Rattle.recount_seen.specs.Seen.{seen_by, seen_at, grow, events_of}
@@ -67,12 +68,6 @@ module _ (watched : Bool) (timeout : ℕ) (log marks : List ℕ) where
 
 -- ---- the records turned away
 
-pub turned-start : (marks : List ℕ) → 0 ≡ turned_in marks 0
+pub turned_is : {test : ℕ → Bool → Type 0} {n r : ℕ} (marks : List ℕ) → Counted test n r → ((j : ℕ) (b : Bool) → test j b → b ≡ eqb (get_or marks j 0) 0) → r ≡ turned_in marks n
 unfolding turned_in
-turned-start marks = refl
-
-pub turned_turn : (marks : List ℕ) (n a r : ℕ) → r ≡ tally (eqb (get_or marks n 0) 0) a → a ≡ turned_in marks n → r ≡ turned_in marks (n + 1)
-unfolding turned_in
-turned_turn marks n a r e inv =
-    let one : suc n ≡ n + 1 = omega arith in
-    subst (λ (m : ℕ). r ≡ turned_in marks m) one (e ∙ ap (tally (eqb (get_or marks n 0) 0)) inv)
+turned_is marks h tests = counted_is (turned_in marks) (λ j. eqb (get_or marks j 0) 0) refl (λ j. refl) h tests

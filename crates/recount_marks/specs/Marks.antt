@@ -1,13 +1,11 @@
 -- The mark of a record, from the events of the records before it (document 01's refusals 1, 2 and 6, and the class of a reply).
 -- All that was accepted or remembered before counts: a log has too few records for any to be evicted.
 -- Assumes nothing.
-use Rattle.std.specs.Prelude.{◌≡◌, Bool, List, ℕ, zero, suc, ◌<◌, eqb, get_or, set}
+use Rattle.std.specs.Prelude.{◌≡◌, Bool, List, ℕ, zero, suc, ◌<◌, eqb, get_or, set, Option, Some, None}
 use Rattle.call_types.specs.declared.Call.{Call}
 use Rattle.call_types.specs.declared.Call.TheVariants.{Sent, Accept, Observe, Advance, Idle}
 use Rattle.history.specs.Counting.{tally}
 use Rattle.history.specs.Ledger.{Event}
-use Rattle.log_whole.specs.declared.PlayedCall.{PlayedCall}
-use Rattle.log_whole.specs.declared.PlayedCall.TheVariants as played
 use Rattle.log_whole.specs.Logs.{call_at}
 use Rattle.recount_seen.specs.Seen.{events_of}
 pub use Rattle.recount_call.specs.Mark.{late, probe_mark}
@@ -22,9 +20,9 @@ call_mark watched timeout es (Advance t) = 1
 call_mark watched timeout es Idle = 1
 
 -- what a record says
-abbrev pub played_mark : Bool → ℕ → List Event → PlayedCall → ℕ
-played_mark watched timeout es played.Nothing = 0
-played_mark watched timeout es (played.Call c) = call_mark watched timeout es c
+abbrev pub played_mark : Bool → ℕ → List Event → Option Call → ℕ
+played_mark watched timeout es None = 0
+played_mark watched timeout es (Some c) = call_mark watched timeout es c
 
 -- record j's, from the marks of those before it
 abbrev pub record_mark : Bool → ℕ → List ℕ → List ℕ → ℕ → ℕ

@@ -1,34 +1,31 @@
 // One mark for each record of a log, in order, each from the record and from looking back over the records before it: whether it is
 // served, and the class of a reply.
 ghost use Rattle.std.specs.Prelude.{◌≡◌, ◌≤◌, ◌<◌, length};
-ghost use Rattle.recount_seen.specs.Seen.{events_of};
+ghost use Rattle.recount_seen.specs.Seen.{byte_of, events_of};
 ghost use Rattle.recount_marks.specs.Marks.{call_mark, record_mark, marked_to, turned_in};
 
 use call_types::Call;
-use log_whole::PlayedCall;
-use recount_seen::{SERVED, TURNED};
+use recount_seen::{Mark, Marked};
 
-fn call_mark(log: &[u8], marks: &[u8], n: u32, watched: bool, timeout: u64, call: Call) -> u8
-    requires { n ≤ length marks.now }
-    ensures { result ≡ call_mark watched timeout (events_of log.now marks.now n) call }
+fn call_mark(records: Marked, n: u32, watched: bool, timeout: u64, call: Call) -> Mark
+    requires { n ≤ length records.marks.now }
+    ensures { byte_of result ≡ call_mark watched timeout (events_of records.entry.log.now records.entry.marks.now n) call }
 {
     match call {
         Call::Sent(probe) => recount_call::probe_mark(watched, timeout, probe),
-        Call::Accept(reply) => recount_call::reply_mark(log, marks, n, reply),
-        Call::Observe(o) => recount_call::observe_mark(log, marks, n, o),
-        Call::Advance(_) => SERVED,
-        Call::Idle => SERVED,
+        Call::Accept(reply) => recount_call::reply_mark(records, n, reply),
+        Call::Observe(o) => recount_call::observe_mark(records, n, o),
+        Call::Advance(_) | Call::Idle => Mark::Served,
     }
 }
 
-fn record_mark(log: &[u8], marks: &[u8], n: u32, watched: bool, timeout: u64) -> u8
-    requires { n ≤ length marks.now }
-    ensures { result ≡ record_mark watched timeout log.now marks.now n }
+fn record_mark(records: Marked, n: u32, watched: bool, timeout: u64) -> Mark
+    requires { n ≤ length records.marks.now }
+    ensures { byte_of result ≡ record_mark watched timeout records.entry.log.now records.entry.marks.now n }
 {
-    let played = log_whole::call_at(log, n);
-    match played {
-        PlayedCall::Call(call) => call_mark(log, marks, n, watched, timeout, call),
-        PlayedCall::Nothing => TURNED,
+    match log_whole::call_at(records.log, n) {
+        Some(call) => call_mark(records, n, watched, timeout, call),
+        None => Mark::TurnedAway,
     }
 }
 
@@ -37,12 +34,9 @@ pub fn mark_records(log: &[u8], marks: &mut [u8], n: u32, watched: bool, timeout
     requires { n ≤ length marks.old }
     ensures { marks.new ≡ marked_to watched timeout log.now marks.old n }
 {
-    let mut i: u32 = 0;
-    while i < n {
-        let mark = record_mark(log, marks, i, watched, timeout);
-        let at = i as usize;
-        marks[at] = mark;
-        i += 1;
+    for i in 0..n {
+        let mark = record_mark(Marked { log, marks }, i, watched, timeout);
+        marks[i as usize] = u8::from(mark);
     }
 }
 
@@ -51,12 +45,5 @@ pub fn turned_away(marks: &[u8], n: u32) -> u32
     requires { (n ≤ length marks.now) × (n < 65536) }
     ensures { result ≡ turned_in marks.now n }
 {
-    let mut turned: u32 = 0;
-    let mut j: u32 = 0;
-    while j < n {
-        let at = j as usize;
-        turned = recount_back::one_if(marks[at] == TURNED, turned);
-        j += 1;
-    }
-    turned
+    recount_back::count_where(n, |j| marks[j as usize] == u8::from(Mark::TurnedAway))
 }

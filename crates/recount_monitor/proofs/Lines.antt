@@ -1,4 +1,6 @@
 -- THE LINE BY THE FRONTS IS THE PLAIN MONITOR'S. Assumes nothing.
+use Rattle.std.specs.Prelude.{Option, Some, None}
+use Rattle.call_types.specs.declared.SentProbe.{SentProbe}
 use mathlib.Core.Path.{◌≡◌, refl, sym, ap, subst, ◌∙◌}
 use mathlib.Core.Bool.{Bool, true, false, cond}
 use mathlib.Core.List.{List}
@@ -12,11 +14,10 @@ use Rattle.monitor.specs.declared.Summary.{Summary}
 use Rattle.monitor.specs.States.{most_losses, same, losing, enters, transition, failing, stops}
 use Rattle.monitor_model.specs.Plain.{lose}
 use Rattle.report.specs.declared.figures.Session.{Session}
-use Rattle.report.specs.declared.figures.Session.TheVariants.{None, Idle, Active, Failed}
+use Rattle.report.specs.declared.figures.Session.TheVariants as session
+use Rattle.report.specs.declared.figures.Session.TheVariants.{Idle, Active, Failed}
 use Rattle.recount_queue.specs.declared.Move.{Move}
 use Rattle.recount_queue.specs.declared.Move.TheVariants.{Sends, Hears, Advances, Halts, Rests}
-use Rattle.recount_queue.specs.declared.Queued.{Queued}
-use Rattle.recount_queue.specs.declared.Queued.TheVariants.{Nothing, Probe}
 use Rattle.recount_queue.specs.Moves.{queued_at}
 use Rattle.recount_queue.specs.Queue.{one_if, probes_in, front_by}
 use Rattle.recount_queue.specs.Track.{lost, Track, plain_in, next_of, track_in}
@@ -109,16 +110,16 @@ none-lost : (n : ℕ) (s : Summary) → lost false n s ≡ s
 none-lost zero s = refl
 none-lost (suc n) s = none-lost n s
 
-module _ (threshold : ℕ) (probe : ℕ → Queued) where
+module _ (threshold : ℕ) (probe : ℕ → Option SentProbe) where
   all_lost : (k a : ℕ) (s : Summary) → s.loss_threshold ≡ threshold → shown (lost true (probes_in probe a k) s) ≡ lost_in threshold probe (shown s) a k
   unfolding probes_in lost_in
   all_lost zero a s e = refl
   all_lost (suc k) a s e = go (probe a) (λ s e. all_lost k (suc a) s e)
     where
-      go : (q : Queued) → ((s : Summary) → s.loss_threshold ≡ threshold → shown (lost true (probes_in probe (suc a) k) s) ≡ lost_in threshold probe (shown s) (suc a) k)
+      go : (q : Option SentProbe) → ((s : Summary) → s.loss_threshold ≡ threshold → shown (lost true (probes_in probe (suc a) k) s) ≡ lost_in threshold probe (shown s) (suc a) k)
           → shown (lost true (one_if q (probes_in probe (suc a) k)) s) ≡ lost_in threshold probe (lose_if threshold q (shown s)) (suc a) k
-      go Nothing ih = ih s e
-      go (Probe p) ih = ih (lose true s) (lost_threshold s ∙ e) ∙ ap (λ (x : Session). lost_in threshold probe x (suc a) k) (lost-shown s ∙ ap (λ (t : ℕ). lose_one t (shown s)) e)
+      go None ih = ih s e
+      go (Some p) ih = ih (lose true s) (lost_threshold s ∙ e) ∙ ap (λ (x : Session). lost_in threshold probe x (suc a) k) (lost-shown s ∙ ap (λ (t : ℕ). lose_one t (shown s)) e)
 
   all_threshold : (n : ℕ) (on : Bool) (s : Summary) → (lost on n s).loss_threshold ≡ s.loss_threshold
   all_threshold zero on s = refl
@@ -194,4 +195,4 @@ module _ (threshold timeout : ℕ) (moves : ℕ → Move) (fronts : List ℕ) (a
   line_is n ok =
       sym (lined n ok n (omega arith)).line
       ∙ ap shown (sym (follows threshold timeout moves n).summary)
-      ∙ ap (λ (b : Bool). cond b None (shown (plain_in threshold timeout moves n).summary)) (sym above)
+      ∙ ap (λ (b : Bool). cond b session.None (shown (plain_in threshold timeout moves n).summary)) (sym above)

@@ -1,4 +1,6 @@
 -- A ROOM OF FRONTS FOLLOWS THE MONITOR: what is looked up in it is what is followed without a queue. Assumes nothing.
+use Rattle.std.specs.Prelude.{Option}
+use Rattle.call_types.specs.declared.SentProbe.{SentProbe}
 use mathlib.Core.Path.{◌≡◌, refl, sym, ap, subst, ◌∙◌}
 use mathlib.Core.Bool.{Bool, true, false, not, ◌&&◌, ◌||◌, cond}
 use mathlib.Core.List.{List}
@@ -12,7 +14,6 @@ use Rattle.monitor.specs.declared.State.TheVariants as state
 use Rattle.monitor.specs.States.{losing, transition}
 use Rattle.recount_queue.specs.declared.Move.{Move}
 use Rattle.recount_queue.specs.declared.Move.TheVariants.{Sends, Hears, Advances, Halts, Rests}
-use Rattle.recount_queue.specs.declared.Queued.{Queued}
 use Rattle.recount_queue.specs.Moves.{queued_at}
 use Rattle.recount_queue.specs.Queue.{any_named, front_to, front_by}
 use Rattle.recount_queue.specs.Track.{Track, front_if, unless, next_of, track_in}
@@ -20,7 +21,7 @@ use Rattle.recount_queue.proofs.Follows.{follows}
 use Rattle.recount_monitor.specs.Fronts.{front_at, transmits_next, transmits_in, marked_next, passes, marked_in, reply_front, front_next, fronts_to, Fronted}
 
 module _ (threshold timeout : ℕ) (moves : ℕ → Move) where
-  abbrev probe : ℕ → Queued
+  abbrev probe : ℕ → Option SentProbe
   probe = queued_at timeout moves
 
   module _ (fronts : List ℕ) where

@@ -1,4 +1,6 @@
 -- One turn more of each loop. Assumes nothing.
+use Rattle.std.specs.Prelude.{Option}
+use Rattle.call_types.specs.declared.SentProbe.{SentProbe}
 use mathlib.Core.Path.{◌≡◌, refl, sym, ap, ◌∙◌}
 use mathlib.Core.Bool.{Bool, true, false, ◌&&◌, cond}
 use mathlib.Core.List.{List}
@@ -7,9 +9,9 @@ use native.Mathlib.Omega.{arith}
 use lib.Dec.{eqb}
 use lib.ListN.{length, get_or}
 use Rattle.report.specs.declared.figures.Session.{Session}
-use Rattle.report.specs.declared.figures.Session.TheVariants.{None, Idle}
+use Rattle.report.specs.declared.figures.Session.TheVariants as session
+use Rattle.report.specs.declared.figures.Session.TheVariants.{Idle}
 use Rattle.recount_queue.specs.declared.Move.{Move}
-use Rattle.recount_queue.specs.declared.Queued.{Queued}
 use Rattle.recount_queue.specs.Moves.{queued_at}
 use Rattle.recount_queue.specs.Queue.{any_named, front_to}
 use Rattle.recount_monitor.specs.Fronts.{front_at, transmits_next, transmits_in, marked_next, marked_in, reply_front, front_next, fronts_to, Fronted}
@@ -53,13 +55,13 @@ module _ (timeout : ℕ) (moves : ℕ → Move) where
   pub front_next-within : (fronts : List ℕ) (n j : ℕ) → Fronted timeout moves fronts n → j < n → front_at fronts (j + 1) ≤ j + 1
   front_next-within fronts n j ok l = front-within 0 timeout moves fronts n ok (j + 1) (omega arith)
 
-module _ (threshold : ℕ) (probe : ℕ → Queued) where
-  pub lost-turn : (i n : ℕ) (q : Queued) (x y : Session) → i < n → q ≡ probe i → y ≡ lose_if threshold q x → lost_in threshold probe x i (n - i) ≡ lost_in threshold probe y (i + 1) (n - (i + 1))
+module _ (threshold : ℕ) (probe : ℕ → Option SentProbe) where
+  pub lost-turn : (i n : ℕ) (q : Option SentProbe) (x y : Session) → i < n → q ≡ probe i → y ≡ lose_if threshold q x → lost_in threshold probe x i (n - i) ≡ lost_in threshold probe y (i + 1) (n - (i + 1))
   unfolding lost_in
   lost-turn i n q x y l e step =
       let d : n - i ≡ suc (n - (i + 1)) = omega arith in
       ap (lost_in threshold probe x i) d
-      ∙ ap (λ (z : Session). lost_in threshold probe z (suc i) (n - (i + 1))) (ap (λ (r : Queued). lose_if threshold r x) (sym e) ∙ sym step)
+      ∙ ap (λ (z : Session). lost_in threshold probe z (suc i) (n - (i + 1))) (ap (λ (r : Option SentProbe). lose_if threshold r x) (sym e) ∙ sym step)
       ∙ ap (λ (a : ℕ). lost_in threshold probe y a (n - (i + 1))) (sym (one_more i))
 
   pub lost-none : (i n : ℕ) (x : Session) → n ≤ i → lost_in threshold probe x i (n - i) ≡ x
@@ -116,7 +118,7 @@ module _ (timeout : ℕ) (moves : ℕ → Move) (fronts : List ℕ) (q n : ℕ) 
 -- ---- with and without a monitor
 
 module _ (threshold timeout : ℕ) (moves : ℕ → Move) (fronts : List ℕ) (n : ℕ) where
-  pub no_session : eqb threshold 0 ≡ true → (None ≡ session_in threshold timeout moves n) × (fronts ≡ fronts_after threshold timeout moves fronts n)
+  pub no_session : eqb threshold 0 ≡ true → (session.None ≡ session_in threshold timeout moves n) × (fronts ≡ fronts_after threshold timeout moves fronts n)
   unfolding session_in fronts_after
   no_session e = (rw e, rw e)
 

@@ -1,16 +1,16 @@
 -- The line `state` of a report: state and consecutive losses of the plain monitor (crate monitor_model) after the first n records, and the same
 -- from a room of fronts. Assumes nothing.
-use Rattle.std.specs.Prelude.{Bool, cond, List, ℕ, zero, suc, ◌+◌, ◌-◌, eqb, leb, ltb}
+use Rattle.call_types.specs.declared.SentProbe.{SentProbe}
+use Rattle.std.specs.Prelude.{Bool, cond, List, ℕ, zero, suc, ◌+◌, ◌-◌, eqb, leb, ltb, Option, Some, None}
 use Rattle.monitor.specs.declared.State.{State}
 use Rattle.monitor.specs.declared.State.TheVariants as state
 use Rattle.monitor.specs.declared.Summary.{Summary}
 use Rattle.monitor.specs.States.{most_losses}
 use Rattle.report.specs.declared.figures.Session.{Session}
-use Rattle.report.specs.declared.figures.Session.TheVariants.{None, Idle, Active, Failed}
+use Rattle.report.specs.declared.figures.Session.TheVariants as session
+use Rattle.report.specs.declared.figures.Session.TheVariants.{Idle, Active, Failed}
 use Rattle.recount_queue.specs.declared.Move.{Move}
 use Rattle.recount_queue.specs.declared.Move.TheVariants.{Sends, Hears, Advances, Halts, Rests}
-use Rattle.recount_queue.specs.declared.Queued.{Queued}
-use Rattle.recount_queue.specs.declared.Queued.TheVariants.{Nothing, Probe}
 use Rattle.recount_queue.specs.Moves.{queued_at}
 use Rattle.recount_queue.specs.Track.{plain_in}
 use Rattle.recount_monitor.specs.Fronts.{front_at, transmits_in, fronts_to}
@@ -28,7 +28,7 @@ shown s = state_by s.state s.consecutive_losses
 module _ (threshold timeout : ℕ) (moves : ℕ → Move) where
   -- WHAT IS SHOWN after n records: none where there is no monitor, and otherwise the plain monitor's
   unfoldable pub session_in : ℕ → Session
-  session_in n = cond (eqb threshold 0) None (shown (plain_in threshold timeout moves n).summary)
+  session_in n = cond (eqb threshold 0) session.None (shown (plain_in threshold timeout moves n).summary)
 
   -- what is left in the room of fronts: without a monitor nothing is put into it
   unfoldable pub fronts_after : List ℕ → ℕ → List ℕ
@@ -42,18 +42,18 @@ loss_more losses = cond (ltb losses most_losses) (losses + 1) most_losses
 
 -- a probe is lost: failed at the threshold
 abbrev pub lose_one : ℕ → Session → Session
-lose_one threshold None = None
+lose_one threshold session.None = session.None
 lose_one threshold (Idle n) = cond (leb threshold (loss_more n)) (Failed (loss_more n)) (Idle (loss_more n))
 lose_one threshold (Active n) = cond (leb threshold (loss_more n)) (Failed (loss_more n)) (Active (loss_more n))
 lose_one threshold (Failed n) = Failed (loss_more n)
 
 -- where there is one
-abbrev pub lose_if : ℕ → Queued → Session → Session
-lose_if threshold Nothing x = x
-lose_if threshold (Probe s) x = lose_one threshold x
+abbrev pub lose_if : ℕ → Option SentProbe → Session → Session
+lose_if threshold None x = x
+lose_if threshold (Some s) x = lose_one threshold x
 
 -- the probes of k records from a on are lost
-unfoldable pub lost_in : ℕ → (ℕ → Queued) → Session → ℕ → ℕ → Session
+unfoldable pub lost_in : ℕ → (ℕ → Option SentProbe) → Session → ℕ → ℕ → Session
 lost_in threshold probe x a zero = x
 lost_in threshold probe x a (suc k) = lost_in threshold probe (lose_if threshold (probe a) x) (suc a) k
 
@@ -63,7 +63,7 @@ heard on x = cond on (Active 0) x
 
 -- an idle: losses are kept in Idle
 abbrev pub halted : Session → Session
-halted None = None
+halted session.None = session.None
 halted (Idle n) = Idle n
 halted (Active n) = Idle 0
 halted (Failed n) = Idle 0

@@ -5,11 +5,13 @@ ghost use Rattle.recount_queue.specs.Moves.{move_at, queued_at};
 ghost use Rattle.recount_monitor.specs.Fronts.{front_at, transmits_next, transmits_in, marked_next, marked_in, reply_front, front_next, fronts_to, Fronted};
 ghost use Rattle.recount_monitor.specs.Session.{loss_more, lose_one, lose_if, lost_in, heard, halted, line_next, line_in, session_in, fronts_after};
 
-use recount_queue::{Move, Queued};
+use call_types::SentProbe;
+use recount_queue::Move;
+use recount_seen::Marked;
 use report::figures::Session;
 
 // Losses saturate here.
-const MOST_LOSSES: u32 = 4294967295;
+const MOST_LOSSES: u32 = u32::MAX;
 
 // ---- looking back
 
@@ -18,24 +20,20 @@ fn transmits_next(step: Move, before: bool) -> bool
 {
     match step {
         Move::Sends(_) => true,
-        Move::Hears(_) => before,
-        Move::Advances(_) => before,
         Move::Halts => false,
-        Move::Rests => before,
+        Move::Hears(_) | Move::Advances(_) | Move::Rests => before,
     }
 }
 
 // Whether the monitor transmits after n records.
-fn transmits(log: &[u8], marks: &[u8], n: u32) -> bool
-    requires { n ≤ length marks.now }
-    ensures { result ≡ transmits_in (move_at log.now marks.now) n }
+fn transmits(records: Marked, n: u32) -> bool
+    requires { n ≤ length records.marks.now }
+    ensures { result ≡ transmits_in (move_at records.entry.log.now records.entry.marks.now) n }
 {
     let mut on = false;
-    let mut j: u32 = 0;
-    while j < n {
-        let step = recount_queue::move_at(log, marks, j);
+    for j in 0..n {
+        let step = recount_queue::move_at(records, j);
         on = transmits_next(step, on);
-        j += 1;
     }
     on
 }
@@ -57,71 +55,65 @@ fn marked_next(timeout: u64, step: Move, sequence: u32, passed: bool, before: bo
 {
     match step {
         Move::Sends(probe) => ((timeout > 0) & (probe.sequence == sequence)) | before,
-        Move::Hears(_) => !passed & before,
-        Move::Advances(_) => !passed & before,
+        Move::Hears(_) | Move::Advances(_) => !passed & before,
         Move::Halts => false,
         Move::Rests => before,
     }
 }
 
 // Whether a sequence is marked after n records: since a probe with it was queued, the front has passed none that has it.
-fn is_marked(log: &[u8], marks: &[u8], fronts: &[u32], timeout: u64, sequence: u32, n: u32) -> bool
-    requires { (n ≤ length marks.now) × (n ≤ length fronts.now) × Fronted timeout (move_at log.now marks.now) fronts.now n }
-    ensures { result ≡ marked_in timeout (move_at log.now marks.now) fronts.now sequence n }
+fn is_marked(records: Marked, fronts: &[u32], timeout: u64, sequence: u32, n: u32) -> bool
+    requires { (n ≤ length records.marks.now) × (n ≤ length fronts.now) × Fronted timeout (move_at records.log.now records.marks.now) fronts.now n }
+    ensures { result ≡ marked_in timeout (move_at records.entry.log.now records.entry.marks.now) fronts.now sequence n }
 {
     let mut found = false;
-    let mut j: u32 = 0;
-    while j < n {
-        let step = recount_queue::move_at(log, marks, j);
+    for j in 0..n {
+        let step = recount_queue::move_at(records, j);
         let from = front_at(fronts, j);
         let to = front_at(fronts, j + 1);
-        let passed = recount_queue::any_named(log, marks, timeout, sequence, from, to);
+        let passed = recount_queue::any_named(records, timeout, sequence, from, to);
         found = marked_next(timeout, step, sequence, passed, found);
-        j += 1;
     }
     found
 }
 
 // ---- the front after each record
 
-fn reply_front(log: &[u8], marks: &[u8], fronts: &[u32], timeout: u64, sequence: u32, n: u32) -> u32
-    requires { (n ≤ length marks.now) × (n ≤ length fronts.now) × Fronted timeout (move_at log.now marks.now) fronts.now n }
-    ensures { result ≡ reply_front timeout (move_at log.now marks.now) fronts.now sequence n }
+fn reply_front(records: Marked, fronts: &[u32], timeout: u64, sequence: u32, n: u32) -> u32
+    requires { (n ≤ length records.marks.now) × (n ≤ length fronts.now) × Fronted timeout (move_at records.log.now records.marks.now) fronts.now n }
+    ensures { result ≡ reply_front timeout (move_at records.entry.log.now records.entry.marks.now) fronts.now sequence n }
 {
     let front = front_at(fronts, n);
-    let on = transmits(log, marks, n);
-    let marked = is_marked(log, marks, fronts, timeout, sequence, n);
+    let on = transmits(records, n);
+    let marked = is_marked(records, fronts, timeout, sequence, n);
     if on & marked {
-        return recount_queue::front_to(log, marks, timeout, sequence, front, n);
+        return recount_queue::front_to(records, timeout, sequence, front, n);
     }
     front
 }
 
-fn front_next(log: &[u8], marks: &[u8], fronts: &[u32], timeout: u64, n: u32) -> u32
-    requires { (n < length marks.now) × (n ≤ length fronts.now) × (n + 1 < 2 ^ 32) × Fronted timeout (move_at log.now marks.now) fronts.now n }
-    ensures { result ≡ front_next timeout (move_at log.now marks.now) (move_at log.now marks.now n) fronts.now n }
+fn front_next(records: Marked, fronts: &[u32], timeout: u64, n: u32) -> u32
+    requires { (n < length records.marks.now) × (n ≤ length fronts.now) × (n + 1 < 2 ^ 32) × Fronted timeout (move_at records.log.now records.marks.now) fronts.now n }
+    ensures { result ≡ front_next timeout (move_at records.entry.log.now records.entry.marks.now) (move_at records.entry.log.now records.entry.marks.now n) fronts.now n }
 {
-    let step = recount_queue::move_at(log, marks, n);
+    let step = recount_queue::move_at(records, n);
     let front = front_at(fronts, n);
     match step {
         Move::Sends(_) => front,
-        Move::Hears(sequence) => reply_front(log, marks, fronts, timeout, sequence, n),
-        Move::Advances(time) => recount_queue::front_by(log, marks, timeout, time, front, n),
+        Move::Hears(sequence) => reply_front(records, fronts, timeout, sequence, n),
+        Move::Advances(time) => recount_queue::front_by(records, timeout, time, front, n),
         Move::Halts => n + 1,
         Move::Rests => front,
     }
 }
 
-fn front_records(log: &[u8], marks: &[u8], fronts: &mut [u32], timeout: u64, n: u32)
-    requires { (n ≤ length marks.now) × (n ≤ length fronts.old) }
-    ensures { fronts.new ≡ fronts_to timeout (move_at log.now marks.now) fronts.old n }
+fn front_records(records: Marked, fronts: &mut [u32], timeout: u64, n: u32)
+    requires { (n ≤ length records.marks.now) × (n ≤ length fronts.old) }
+    ensures { fronts.new ≡ fronts_to timeout (move_at records.entry.log.now records.entry.marks.now) fronts.old n }
 {
-    let mut i: u32 = 0;
-    while i < n {
-        let front = front_next(log, marks, fronts, timeout, i);
-        let at = i as usize;
-        fronts[at] = front;
-        i += 1;
+    for i in 0..n {
+        let front = front_next(records, fronts, timeout, i);
+        fronts[i as usize] = front;
     }
 }
 
@@ -160,34 +152,31 @@ fn lose_one(threshold: u16, session: Session) -> Session
     }
 }
 
-fn lose_if(threshold: u16, queued: Queued, session: Session) -> Session
+fn lose_if(threshold: u16, queued: Option<SentProbe>, session: Session) -> Session
     ensures { result ≡ lose_if threshold queued session }
 {
     match queued {
-        Queued::Nothing => session,
-        Queued::Probe(_) => lose_one(threshold, session),
+        None => session,
+        Some(_) => lose_one(threshold, session),
     }
 }
 
 // Each probe of the records from `from` to before `to` is lost.
 fn lost(
-    log: &[u8],
-    marks: &[u8],
+    records: Marked,
     threshold: u16,
     timeout: u64,
     session: Session,
     from: u32,
     to: u32,
 ) -> Session
-    requires { to ≤ length marks.now }
-    ensures { result ≡ lost_in threshold (queued_at timeout (move_at log.now marks.now)) session from (to - from) }
+    requires { to ≤ length records.marks.now }
+    ensures { result ≡ lost_in threshold (queued_at timeout (move_at records.entry.log.now records.entry.marks.now)) session from (to - from) }
 {
     let mut left = session;
-    let mut i = from;
-    while i < to {
-        let queued = recount_queue::queued_at(log, marks, timeout, i);
+    for i in from..to {
+        let queued = recount_queue::queued_at(records, timeout, i);
         left = lose_if(threshold, queued, left);
-        i += 1;
     }
     left
 }
@@ -213,29 +202,28 @@ fn halted(session: Session) -> Session
 }
 
 fn line_next(
-    log: &[u8],
-    marks: &[u8],
+    records: Marked,
     fronts: &[u32],
     threshold: u16,
     timeout: u64,
     n: u32,
     session: Session,
 ) -> Session
-    requires { (n < length marks.now) × (n < length fronts.now) × (n + 1 < 2 ^ 32) × (front_at fronts.now (n + 1) ≤ length marks.now) }
-    ensures { result ≡ line_next threshold timeout (move_at log.now marks.now) fronts.now n (move_at log.now marks.now n) session }
+    requires { (n < length records.marks.now) × (n < length fronts.now) × (n + 1 < 2 ^ 32) × (front_at fronts.now (n + 1) ≤ length records.marks.now) }
+    ensures { result ≡ line_next threshold timeout (move_at records.entry.log.now records.entry.marks.now) fronts.now n (move_at records.entry.log.now records.entry.marks.now n) session }
 {
-    let step = recount_queue::move_at(log, marks, n);
+    let step = recount_queue::move_at(records, n);
     match step {
         Move::Sends(_) => session,
         Move::Hears(_) => {
-            let on = transmits(log, marks, n);
+            let on = transmits(records, n);
             heard(on, session)
         }
         Move::Advances(_) => {
             let from = front_at(fronts, n);
             let to = front_at(fronts, n + 1);
-            if transmits(log, marks, n) {
-                return lost(log, marks, threshold, timeout, session, from, to);
+            if transmits(records, n) {
+                return lost(records, threshold, timeout, session, from, to);
             }
             session
         }
@@ -244,34 +232,25 @@ fn line_next(
     }
 }
 
-fn line(log: &[u8], marks: &[u8], fronts: &[u32], threshold: u16, timeout: u64, n: u32) -> Session
-    requires { (n ≤ length marks.now) × (n ≤ length fronts.now) × Fronted timeout (move_at log.now marks.now) fronts.now n }
-    ensures { result ≡ line_in threshold timeout (move_at log.now marks.now) fronts.now n }
+fn line(records: Marked, fronts: &[u32], threshold: u16, timeout: u64, n: u32) -> Session
+    requires { (n ≤ length records.marks.now) × (n ≤ length fronts.now) × Fronted timeout (move_at records.log.now records.marks.now) fronts.now n }
+    ensures { result ≡ line_in threshold timeout (move_at records.entry.log.now records.entry.marks.now) fronts.now n }
 {
     let mut session = Session::Idle(0);
-    let mut j: u32 = 0;
-    while j < n {
-        session = line_next(log, marks, fronts, threshold, timeout, j, session);
-        j += 1;
+    for j in 0..n {
+        session = line_next(records, fronts, threshold, timeout, j, session);
     }
     session
 }
 
 // The state and its consecutive losses after the first n records of a marked log; none where the threshold is 0.
-pub fn session(
-    log: &[u8],
-    marks: &[u8],
-    fronts: &mut [u32],
-    n: u32,
-    threshold: u16,
-    timeout: u64,
-) -> Session
-    requires { (n ≤ length marks.now) × (n ≤ length fronts.old) }
-    ensures { (result ≡ session_in threshold timeout (move_at log.now marks.now) n) × (fronts.new ≡ fronts_after threshold timeout (move_at log.now marks.now) fronts.old n) }
+pub fn session(records: Marked, fronts: &mut [u32], n: u32, threshold: u16, timeout: u64) -> Session
+    requires { (n ≤ length records.marks.now) × (n ≤ length fronts.old) }
+    ensures { (result ≡ session_in threshold timeout (move_at records.entry.log.now records.entry.marks.now) n) × (fronts.new ≡ fronts_after threshold timeout (move_at records.entry.log.now records.entry.marks.now) fronts.old n) }
 {
     if threshold == 0 {
         return Session::None;
     }
-    front_records(log, marks, fronts, timeout, n);
-    line(log, marks, fronts, threshold, timeout, n)
+    front_records(records, fronts, timeout, n);
+    line(records, fronts, threshold, timeout, n)
 }

@@ -1,4 +1,5 @@
 -- THE PLAIN MONITOR IS FOLLOWED WITHOUT ITS QUEUE: what is queued are the probes of the records from the front on. Assumes nothing.
+use Rattle.std.specs.Prelude.{Option, Some, None}
 use mathlib.Core.Path.{◌≡◌, refl, sym, ap, subst, ◌∙◌}
 use mathlib.Core.Bool.{Bool, true, false, cond}
 use mathlib.Core.List.{List, [], ◌∷◌, ◌++◌}
@@ -13,8 +14,6 @@ use Rattle.monitor.specs.States.{losing, transition, stops}
 use Rattle.monitor_model.specs.Plain.{Sent, Plain, insert, pop_to, hear, reply, advancing}
 use Rattle.recount_queue.specs.declared.Move.{Move}
 use Rattle.recount_queue.specs.declared.Move.TheVariants.{Sends, Hears, Advances, Halts, Rests}
-use Rattle.recount_queue.specs.declared.Queued.{Queued}
-use Rattle.recount_queue.specs.declared.Queued.TheVariants.{Nothing, Probe}
 use Rattle.recount_queue.specs.Moves.{sent_by, queued_at}
 use Rattle.recount_queue.specs.Queue.{put, named, goes, queue_from, any_named, passed_to, passed_by, probes_in}
 use Rattle.recount_queue.specs.Track.{played, lost, Track, plain_in, front_if, unless, next_of, track_in}
@@ -25,7 +24,7 @@ append-nil [] = refl
 append-nil (x ∷ xs) = ap (λ (l : List Sent). x ∷ l) (append-nil xs)
 
 module _ (threshold timeout : ℕ) (moves : ℕ → Move) where
-  abbrev probe : ℕ → Queued
+  abbrev probe : ℕ → Option SentProbe
   probe = queued_at timeout moves
 
   abbrev run : ℕ → ℕ → List Sent
@@ -59,13 +58,13 @@ module _ (threshold timeout : ℕ) (moves : ℕ → Move) where
       let f : a + (n - a) ≡ n = omega arith in
       ap (run a) e ∙ queue_more timeout probe a (n - a) ∙ ap (λ (i : ℕ). run a (n - a) ++ put timeout (probe i) []) f
 
-  run_same : (a n : ℕ) → a ≤ n → probe n ≡ Nothing → run a (suc n - a) ≡ run a (n - a)
-  run_same a n l e = run_more a n l ∙ ap (λ (x : Queued). run a (n - a) ++ put timeout x []) e ∙ append-nil (run a (n - a))
+  run_same : (a n : ℕ) → a ≤ n → probe n ≡ None → run a (suc n - a) ≡ run a (n - a)
+  run_same a n l e = run_more a n l ∙ ap (λ (x : Option SentProbe). run a (n - a) ++ put timeout x []) e ∙ append-nil (run a (n - a))
 
-  no_probe : (n : ℕ) → sent_by (moves n) ≡ Nothing → probe n ≡ Nothing
+  no_probe : (n : ℕ) → sent_by (moves n) ≡ None → probe n ≡ None
   no_probe n e = go (ltb 0 timeout) ∙ refl
     where
-      go : (b : Bool) → cond b (sent_by (moves n)) Nothing ≡ Nothing
+      go : (b : Bool) → cond b (sent_by (moves n)) None ≡ None
       go true = e
       go false = refl
 
@@ -83,8 +82,8 @@ module _ (threshold timeout : ℕ) (moves : ℕ → Move) where
     unfolding insert
     sends_on s e = go (ltb 0 timeout) refl
       where
-        at : (b : Bool) → ltb 0 timeout ≡ b → probe n ≡ cond b (Probe s) Nothing
-        at b q = ap (λ (d : Bool). cond d (sent_by (moves n)) Nothing) q ∙ ap (λ (m : Move). cond b (sent_by m) Nothing) e
+        at : (b : Bool) → ltb 0 timeout ≡ b → probe n ≡ cond b (Some s) None
+        at b q = ap (λ (d : Bool). cond d (sent_by (moves n)) None) q ∙ ap (λ (m : Move). cond b (sent_by m) None) e
 
         marked : (x : ℕ) (b : Bool) → choose b true (p.received x) ≡ cond b true (t.heard x)
         marked x true = refl
@@ -97,7 +96,7 @@ module _ (threshold timeout : ℕ) (moves : ℕ → Move) where
               probes =
                   ap (λ (xs : List Sent). xs ++ record { sequence = s.sequence; deadline = s.packet.time + p.timeout } ∷ []) ok.probes
                   ∙ ap (λ (d : ℕ). run t.front (n - t.front) ++ record { sequence = s.sequence; deadline = s.packet.time + d } ∷ []) ok.timeout_is
-                  ∙ sym (run_more t.front n ok.within ∙ ap (λ (x : Queued). run t.front (n - t.front) ++ put timeout x []) (at true q));
+                  ∙ sym (run_more t.front n ok.within ∙ ap (λ (x : Option SentProbe). run t.front (n - t.front) ++ put timeout x []) (at true q));
               received = λ x. marked x (eqb s.sequence x);
               on = refl;
               summary = ok.summary;
@@ -115,7 +114,7 @@ module _ (threshold timeout : ℕ) (moves : ℕ → Move) where
               within = omega (arith, ok.within);
             })
 
-    rests_on : sent_by (moves n) ≡ Nothing → Follows p t (suc n)
+    rests_on : sent_by (moves n) ≡ None → Follows p t (suc n)
     rests_on e = record {
       probes = ok.probes ∙ sym (run_same t.front n ok.within (no_probe n e));
       received = ok.received;
@@ -140,7 +139,7 @@ module _ (threshold timeout : ℕ) (moves : ℕ → Move) where
         gone k e = ap (run (suc n)) e
 
     -- the front after passing k records
-    front_moves : (k : ℕ) → k ≤ n - t.front → probe n ≡ Nothing → run (t.front + k) (n - t.front - k) ≡ run (t.front + k) (suc n - (t.front + k))
+    front_moves : (k : ℕ) → k ≤ n - t.front → probe n ≡ None → run (t.front + k) (n - t.front - k) ≡ run (t.front + k) (suc n - (t.front + k))
     front_moves k l e =
         let w = ok.within in
         let d : n - t.front - k ≡ n - (t.front + k) = omega arith in
@@ -155,7 +154,7 @@ module _ (threshold timeout : ℕ) (moves : ℕ → Move) where
         let d : 0 ≡ t.front - t.front = omega arith in
         ap (λ (k : ℕ). cond (any_named probe x t.front k) false (t.heard x)) d
 
-    module _ (none_here : probe n ≡ Nothing) where
+    module _ (none_here : probe n ≡ None) where
       -- a reply that is heard
       abbrev heard_by : Bool → ℕ → Plain
       heard_by d q = hear p (choose d (pop_to q p.probes p.received) (record { probes = p.probes; received = p.received }))
@@ -193,11 +192,11 @@ module _ (threshold timeout : ℕ) (moves : ℕ → Move) where
         within = omega (arith, ok.within);
       }
 
-      hears-by : (b : Bool) (q : ℕ) → sent_by (moves n) ≡ Nothing → Follows (choose b (heard_by (t.heard q) q) p) (cond b (track_by (t.heard q) q) t) (suc n)
+      hears-by : (b : Bool) (q : ℕ) → sent_by (moves n) ≡ None → Follows (choose b (heard_by (t.heard q) q) p) (cond b (track_by (t.heard q) q) t) (suc n)
       hears-by true q e = heard_on (t.heard q) q
       hears-by false q e = rests_on e
 
-      hears_on : (q : ℕ) → sent_by (moves n) ≡ Nothing → Follows (played (Hears q) p) (next_of threshold timeout moves (Hears q) n t) (suc n)
+      hears_on : (q : ℕ) → sent_by (moves n) ≡ None → Follows (played (Hears q) p) (next_of threshold timeout moves (Hears q) n t) (suc n)
       hears_on q e =
           subst (λ (d : Bool). Follows (choose p.transmitting (heard_by d q) p) (next_of threshold timeout moves (Hears q) n t) (suc n)) (sym (ok.received q))
           (subst (λ (b : Bool). Follows (choose b (heard_by (t.heard q) q) p) (next_of threshold timeout moves (Hears q) n t) (suc n)) (sym ok.on) (hears-by t.on q e))

@@ -1,11 +1,15 @@
 -- One record further in a loop over the records from a front on. Assumes nothing.
+use Rattle.std.specs.Prelude.{Option, Some, None}
+use Rattle.call_types.specs.declared.SentProbe.{SentProbe}
 use mathlib.Core.Path.{◌≡◌, refl, sym, ap, ◌∙◌}
 use mathlib.Core.Bool.{Bool, true, false, ◌||◌, cond}
 use Prim.Native.Nat.{ℕ, suc, ◌+◌, ◌-◌, ◌≤◌, ◌<◌}
 use native.Mathlib.Omega.{arith}
 use lib.Dec.{leb}
-use borrow.Author.Tests.{le-leb, lt-leb, leb-true, leb-false}
-use Rattle.recount_queue.specs.declared.Queued.{Queued}
+use borrow.Author.Tests.{ne_eqb, le-leb, lt-leb, leb-true, leb-false}
+use Rattle.call_types.specs.declared.Call.{Call}
+use Rattle.call_types.specs.declared.Call.TheVariants as call
+use Rattle.recount_queue.specs.Moves.{move_by}
 use Rattle.recount_queue.specs.Queue.{named, goes, any_named, passed_to, front_to, passed_by, front_by}
 
 -- a function of a front and of how many records there are, at the front i before record n: the first record, and the rest
@@ -26,14 +30,14 @@ due_is sent timeout time l = go (leb timeout (time - sent)) refl
     go true e = sym (le-leb (sent + timeout) time (omega (arith, leb-true timeout (time - sent) e)))
     go false e = sym (lt-leb (sent + timeout) time (omega (arith, leb-false timeout (time - sent) e)))
 
-module _ (probe : ℕ → Queued) where
+module _ (probe : ℕ → Option SentProbe) where
   -- ---- is one of them named so?
 
-  pub any_here : (x i n : ℕ) (q : Queued) → i < n → q ≡ probe i → named x q ≡ true → true ≡ any_named probe x i (n - i)
+  pub any_here : (x i n : ℕ) (q : Option SentProbe) → i < n → q ≡ probe i → named x q ≡ true → true ≡ any_named probe x i (n - i)
   unfolding any_named
   any_here x i n q l e h = sym (from_next (any_named probe x) i n l ∙ ap (λ (b : Bool). b || any_named probe x (suc i) (n - (i + 1))) (ap (named x) (sym e) ∙ h))
 
-  pub any_next : (x i n : ℕ) (q : Queued) → i < n → q ≡ probe i → named x q ≡ false → any_named probe x i (n - i) ≡ any_named probe x (i + 1) (n - (i + 1))
+  pub any_next : (x i n : ℕ) (q : Option SentProbe) → i < n → q ≡ probe i → named x q ≡ false → any_named probe x i (n - i) ≡ any_named probe x (i + 1) (n - (i + 1))
   unfolding any_named
   any_next x i n q l e h =
       from_next (any_named probe x) i n l
@@ -46,12 +50,12 @@ module _ (probe : ℕ → Queued) where
 
   -- ---- a reply
 
-  pub to_here : (x i n : ℕ) (q : Queued) → i < n → q ≡ probe i → named x q ≡ true → i + 1 ≡ front_to probe x i n
+  pub to_here : (x i n : ℕ) (q : Option SentProbe) → i < n → q ≡ probe i → named x q ≡ true → i + 1 ≡ front_to probe x i n
   unfolding passed_to
   to_here x i n q l e h =
       sym (ap (λ (k : ℕ). i + k) (from_next (passed_to probe x) i n l ∙ ap (λ (b : Bool). cond b 1 (suc (passed_to probe x (suc i) (n - (i + 1))))) (ap (named x) (sym e) ∙ h)))
 
-  pub to_next : (x i n : ℕ) (q : Queued) → i < n → q ≡ probe i → named x q ≡ false → front_to probe x i n ≡ front_to probe x (i + 1) n
+  pub to_next : (x i n : ℕ) (q : Option SentProbe) → i < n → q ≡ probe i → named x q ≡ false → front_to probe x i n ≡ front_to probe x (i + 1) n
   unfolding passed_to
   to_next x i n q l e h =
       let k = passed_to probe x (suc i) (n - (i + 1)) in
@@ -67,10 +71,10 @@ module _ (probe : ℕ → Queued) where
       plus_none : n + 0 ≡ n
       plus_none = omega arith
 
-module _ (timeout : ℕ) (probe : ℕ → Queued) where
+module _ (timeout : ℕ) (probe : ℕ → Option SentProbe) where
   -- ---- an advance
 
-  pub by_here : (t i n : ℕ) (q : Queued) → i < n → q ≡ probe i → goes timeout t q ≡ false → i ≡ front_by timeout probe t i n
+  pub by_here : (t i n : ℕ) (q : Option SentProbe) → i < n → q ≡ probe i → goes timeout t q ≡ false → i ≡ front_by timeout probe t i n
   unfolding passed_by
   by_here t i n q l e h =
       sym (ap (λ (k : ℕ). i + k) (from_next (passed_by timeout probe t) i n l ∙ ap (λ (b : Bool). cond b (suc (passed_by timeout probe t (suc i) (n - (i + 1)))) 0) (ap (goes timeout t) (sym e) ∙ h)) ∙ plus_none)
@@ -78,7 +82,7 @@ module _ (timeout : ℕ) (probe : ℕ → Queued) where
       plus_none : i + 0 ≡ i
       plus_none = omega arith
 
-  pub by_next : (t i n : ℕ) (q : Queued) → i < n → q ≡ probe i → goes timeout t q ≡ true → front_by timeout probe t i n ≡ front_by timeout probe t (i + 1) n
+  pub by_next : (t i n : ℕ) (q : Option SentProbe) → i < n → q ≡ probe i → goes timeout t q ≡ true → front_by timeout probe t i n ≡ front_by timeout probe t (i + 1) n
   unfolding passed_by
   by_next t i n q l e h =
       let one : i + suc (passed_by timeout probe t (suc i) (n - (i + 1))) ≡ i + 1 + passed_by timeout probe t (suc i) (n - (i + 1)) = omega arith in
@@ -92,3 +96,13 @@ module _ (timeout : ℕ) (probe : ℕ → Queued) where
     where
       plus_none : n + 0 ≡ n
       plus_none = omega arith
+
+-- ---- a byte that is no mark is as that of a record that was turned away
+
+pub no_mark : (n : ℕ) (x : Option Call) → 5 < n → move_by 0 x ≡ move_by n x
+no_mark n None far = refl
+no_mark n (Some (call.Sent s)) far = simp (ne_eqb n 1 (omega arith))
+no_mark n (Some (call.Accept a)) far = simp (ne_eqb n 4 (omega arith), ne_eqb n 5 (omega arith))
+no_mark n (Some (call.Observe o)) far = refl
+no_mark n (Some (call.Advance t)) far = refl
+no_mark n (Some call.Idle) far = refl

@@ -1,4 +1,6 @@
 -- What `sent`, `reply` and `advance` of the plain monitor do to a queue that is a run of records. Assumes nothing.
+use Rattle.std.specs.Prelude.{Option, Some, None}
+use Rattle.call_types.specs.declared.SentProbe.{SentProbe}
 use mathlib.Core.Path.{◌≡◌, refl, ap, ◌∙◌}
 use mathlib.Core.Bool.{Bool, true, false, ◌||◌, cond}
 use mathlib.Core.List.{List, [], ◌∷◌, ◌++◌}
@@ -9,16 +11,14 @@ use Rattle.probe_queue.specs.Queue.{choose}
 use Rattle.monitor.specs.declared.Summary.{Summary}
 use Rattle.monitor_model.specs.Plain.{Sent, Marks, remove, pop_to, lose, advancing}
 use Rattle.recount_queue.specs.Track.{lost}
-use Rattle.recount_queue.specs.declared.Queued.{Queued}
-use Rattle.recount_queue.specs.declared.Queued.TheVariants.{Nothing, Probe}
 use Rattle.recount_queue.specs.Queue.{entry, put, named, queue_from, any_named, passed_to, goes, passed_by, probes_in}
 
-module _ (timeout : ℕ) (probe : ℕ → Queued) where
+module _ (timeout : ℕ) (probe : ℕ → Option SentProbe) where
   -- ---- one record more at the end
 
-  put_end : (x : Queued) (xs ys : List Sent) → put timeout x (xs ++ ys) ≡ put timeout x xs ++ ys
-  put_end Nothing xs ys = refl
-  put_end (Probe s) xs ys = refl
+  put_end : (x : Option SentProbe) (xs ys : List Sent) → put timeout x (xs ++ ys) ≡ put timeout x xs ++ ys
+  put_end None xs ys = refl
+  put_end (Some s) xs ys = refl
 
   pub queue_more : (a k : ℕ) → queue_from timeout probe a (suc k) ≡ queue_from timeout probe a k ++ put timeout (probe (a + k)) []
   unfolding queue_from
@@ -46,11 +46,11 @@ module _ (timeout : ℕ) (probe : ℕ → Queued) where
   popped-probes q a zero m = refl
   popped-probes q a (suc k) m = go (probe a) (λ m. popped-probes q (suc a) k m)
     where
-      go : (x : Queued) → ((m : Marks) → (pop_to q (queue_from timeout probe (suc a) k) m).probes ≡ rest_to q (suc a) k)
+      go : (x : Option SentProbe) → ((m : Marks) → (pop_to q (queue_from timeout probe (suc a) k) m).probes ≡ rest_to q (suc a) k)
           → (pop_to q (put timeout x (queue_from timeout probe (suc a) k)) m).probes
           ≡ queue_from timeout probe (a + cond (named q x) 1 (suc (passed_to probe q (suc a) k))) (suc k - cond (named q x) 1 (suc (passed_to probe q (suc a) k)))
-      go Nothing ih = ih m ∙ step a k (passed_to probe q (suc a) k)
-      go (Probe s) ih = by (eqb s.sequence q)
+      go None ih = ih m ∙ step a k (passed_to probe q (suc a) k)
+      go (Some s) ih = by (eqb s.sequence q)
         where
           by : (b : Bool) → (choose b (record { probes = queue_from timeout probe (suc a) k; received = remove s.sequence m }) (pop_to q (queue_from timeout probe (suc a) k) (remove s.sequence m))).probes
               ≡ queue_from timeout probe (a + cond b 1 (suc (passed_to probe q (suc a) k))) (suc k - cond b 1 (suc (passed_to probe q (suc a) k)))
@@ -63,11 +63,11 @@ module _ (timeout : ℕ) (probe : ℕ → Queued) where
   popped_marks q a zero m x = refl
   popped_marks q a (suc k) m x = go (probe a) refl (λ m. popped_marks q (suc a) k m x)
     where
-      go : (y : Queued) → probe a ≡ y → ((m : Marks) → (pop_to q (queue_from timeout probe (suc a) k) m).received x ≡ cond (any_named probe x (suc a) (passed_to probe q (suc a) k)) false (m x))
+      go : (y : Option SentProbe) → probe a ≡ y → ((m : Marks) → (pop_to q (queue_from timeout probe (suc a) k) m).received x ≡ cond (any_named probe x (suc a) (passed_to probe q (suc a) k)) false (m x))
           → (pop_to q (put timeout y (queue_from timeout probe (suc a) k)) m).received x
           ≡ cond (any_named probe x a (cond (named q y) 1 (suc (passed_to probe q (suc a) k)))) false (m x)
-      go Nothing e ih = rw e (ih m)
-      go (Probe s) e ih = by (eqb s.sequence q)
+      go None e ih = rw e (ih m)
+      go (Some s) e ih = by (eqb s.sequence q)
         where
           last : (d : Bool) → choose d false (m x) ≡ cond (d || false) false (m x)
           last true = refl
@@ -92,12 +92,12 @@ module _ (timeout : ℕ) (probe : ℕ → Queued) where
   advanced-probes b t a zero s m = refl
   advanced-probes b t a (suc k) s m = go (probe a) refl (λ s m. advanced-probes b t (suc a) k s m)
     where
-      go : (y : Queued) → probe a ≡ y
+      go : (y : Option SentProbe) → probe a ≡ y
           → ((s : Summary) (m : Marks) → (advancing b t s (queue_from timeout probe (suc a) k) m).probes ≡ queue_from timeout probe (suc a + passed_by timeout probe t (suc a) k) (k - passed_by timeout probe t (suc a) k))
           → (advancing b t s (put timeout y (queue_from timeout probe (suc a) k)) m).probes
           ≡ queue_from timeout probe (a + cond (goes timeout t y) (suc (passed_by timeout probe t (suc a) k)) 0) (suc k - cond (goes timeout t y) (suc (passed_by timeout probe t (suc a) k)) 0)
-      go Nothing e ih = ih s m ∙ step a k (passed_by timeout probe t (suc a) k)
-      go (Probe p) e ih = by (leb (p.packet.time + timeout) t)
+      go None e ih = ih s m ∙ step a k (passed_by timeout probe t (suc a) k)
+      go (Some p) e ih = by (leb (p.packet.time + timeout) t)
         where
           by : (d : Bool) → (choose d (advancing b t (lose b s) (queue_from timeout probe (suc a) k) (remove p.sequence m)) (record { summary = s; probes = entry timeout p ∷ queue_from timeout probe (suc a) k; received = m })).probes
               ≡ queue_from timeout probe (a + cond d (suc (passed_by timeout probe t (suc a) k)) 0) (suc k - cond d (suc (passed_by timeout probe t (suc a) k)) 0)
@@ -111,12 +111,12 @@ module _ (timeout : ℕ) (probe : ℕ → Queued) where
   advanced-summary b t a zero s m = refl
   advanced-summary b t a (suc k) s m = go (probe a) refl (λ s m. advanced-summary b t (suc a) k s m)
     where
-      go : (y : Queued) → probe a ≡ y
+      go : (y : Option SentProbe) → probe a ≡ y
           → ((s : Summary) (m : Marks) → (advancing b t s (queue_from timeout probe (suc a) k) m).summary ≡ lost b (probes_in probe (suc a) (passed_by timeout probe t (suc a) k)) s)
           → (advancing b t s (put timeout y (queue_from timeout probe (suc a) k)) m).summary
           ≡ lost b (probes_in probe a (cond (goes timeout t y) (suc (passed_by timeout probe t (suc a) k)) 0)) s
-      go Nothing e ih = rw e (ih s m)
-      go (Probe p) e ih = by (leb (p.packet.time + timeout) t)
+      go None e ih = rw e (ih s m)
+      go (Some p) e ih = by (leb (p.packet.time + timeout) t)
         where
           by : (d : Bool) → (choose d (advancing b t (lose b s) (queue_from timeout probe (suc a) k) (remove p.sequence m)) (record { summary = s; probes = entry timeout p ∷ queue_from timeout probe (suc a) k; received = m })).summary
               ≡ lost b (probes_in probe a (cond d (suc (passed_by timeout probe t (suc a) k)) 0)) s
@@ -129,12 +129,12 @@ module _ (timeout : ℕ) (probe : ℕ → Queued) where
   advanced_marks b t a zero s m x = refl
   advanced_marks b t a (suc k) s m x = go (probe a) refl (λ s m. advanced_marks b t (suc a) k s m x)
     where
-      go : (y : Queued) → probe a ≡ y
+      go : (y : Option SentProbe) → probe a ≡ y
           → ((s : Summary) (m : Marks) → (advancing b t s (queue_from timeout probe (suc a) k) m).received x ≡ cond (any_named probe x (suc a) (passed_by timeout probe t (suc a) k)) false (m x))
           → (advancing b t s (put timeout y (queue_from timeout probe (suc a) k)) m).received x
           ≡ cond (any_named probe x a (cond (goes timeout t y) (suc (passed_by timeout probe t (suc a) k)) 0)) false (m x)
-      go Nothing e ih = rw e (ih s m)
-      go (Probe p) e ih = by (leb (p.packet.time + timeout) t)
+      go None e ih = rw e (ih s m)
+      go (Some p) e ih = by (leb (p.packet.time + timeout) t)
         where
           more : (c d : Bool) → cond c false (choose d false (m x)) ≡ cond (d || c) false (m x)
           more true true = refl

@@ -1,10 +1,8 @@
 -- The monitor's queue, from the records alone: the probes among k records from a front on, oldest first. `probe i` is the probe that record i
 -- queues, if it does. A reply and an advance only move the front. Assumes nothing.
-use Rattle.std.specs.Prelude.{Bool, true, false, ◌||◌, cond, List, [], ◌∷◌, ℕ, zero, suc, ◌+◌, ◌-◌, eqb, leb}
+use Rattle.std.specs.Prelude.{Bool, true, false, ◌||◌, cond, List, [], ◌∷◌, ℕ, zero, suc, ◌+◌, ◌-◌, eqb, leb, Option, Some, None}
 use Rattle.call_types.specs.declared.SentProbe.{SentProbe}
 use Rattle.monitor_model.specs.Plain.{Sent}
-use Rattle.recount_queue.specs.declared.Queued.{Queued}
-use Rattle.recount_queue.specs.declared.Queued.TheVariants.{Nothing, Probe}
 
 module _ (timeout : ℕ) where
   -- the probe as it is queued
@@ -12,26 +10,26 @@ module _ (timeout : ℕ) where
   entry s = record { sequence = s.sequence; deadline = s.packet.time + timeout }
 
   -- before others
-  abbrev pub put : Queued → List Sent → List Sent
-  put Nothing xs = xs
-  put (Probe s) xs = entry s ∷ xs
+  abbrev pub put : Option SentProbe → List Sent → List Sent
+  put None xs = xs
+  put (Some s) xs = entry s ∷ xs
 
   -- it does not stay in the queue at the time t
-  abbrev pub goes : ℕ → Queued → Bool
-  goes t Nothing = true
-  goes t (Probe s) = leb (s.packet.time + timeout) t
+  abbrev pub goes : ℕ → Option SentProbe → Bool
+  goes t None = true
+  goes t (Some s) = leb (s.packet.time + timeout) t
 
 -- it has the sequence x
-abbrev pub named : ℕ → Queued → Bool
-named x Nothing = false
-named x (Probe s) = eqb s.sequence x
+abbrev pub named : ℕ → Option SentProbe → Bool
+named x None = false
+named x (Some s) = eqb s.sequence x
 
 -- one more where there is a probe
-abbrev pub one_if : Queued → ℕ → ℕ
-one_if Nothing n = n
-one_if (Probe s) n = suc n
+abbrev pub one_if : Option SentProbe → ℕ → ℕ
+one_if None n = n
+one_if (Some s) n = suc n
 
-module _ (probe : ℕ → Queued) where
+module _ (probe : ℕ → Option SentProbe) where
   -- whether one of k records from a on has the sequence x
   unfoldable pub any_named : ℕ → ℕ → ℕ → Bool
   any_named x a zero = false
@@ -51,7 +49,7 @@ module _ (probe : ℕ → Queued) where
   abbrev pub front_to : ℕ → ℕ → ℕ → ℕ
   front_to q a n = a + passed_to q a (n - a)
 
-module _ (timeout : ℕ) (probe : ℕ → Queued) where
+module _ (timeout : ℕ) (probe : ℕ → Option SentProbe) where
   -- the probes of k records from a on
   unfoldable pub queue_from : ℕ → ℕ → List Sent
   queue_from a zero = []

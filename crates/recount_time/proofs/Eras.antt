@@ -1,7 +1,7 @@
 -- A timestamp says a time exactly where one of three eras has it. Assumes nothing.
+use Rattle.std.specs.Prelude.{Option, None, Some}
 use mathlib.Core.Path.{◌≡◌, refl, sym, ap, subst, ◌∙◌}
 use mathlib.Core.Bool.{Bool, true, false, ◌&&◌, ◌||◌}
-use mathlib.Core.Option.{Option, none, some}
 use Prim.Native.Nat.{ℕ, zero, suc, ◌+◌, ◌*◌, ◌≤◌, ◌<◌}
 use native.Mathlib.Omega.{arith}
 use lib.Dec.{T, ltb}
@@ -151,7 +151,7 @@ module _ (x r : ℤ) (ns : ℕ) (short : ns < billion) (low : down x ≤ up x + 
   there false t = refl
 
   -- THE CONVERSION HAS AN OUTCOME where one of the three eras fits
-  pub says_some_era : (f : ClockFormat) (w : ℕ) → wire_second f w ≡ x → wire_nanoseconds f w ≡ some ns → in_some_era r x ns ≡ says_time f w r
+  pub says_some_era : (f : ClockFormat) (w : ℕ) → wire_second f w ≡ x → wire_nanoseconds f w ≡ Some ns → in_some_era r x ns ≡ says_time f w r
   unfolding converted
   says_some_era f w e n =
       some_era
@@ -159,6 +159,6 @@ module _ (x r : ℤ) (ns : ℕ) (short : ns < billion) (low : down x ≤ up x + 
       ∙ sym (λ i. present (time_of (time_by (n i) (second_near (e i) r))))
 
 -- and none where the wire says no ns
-pub says_none : (f : ClockFormat) (w : ℕ) (r : ℤ) → wire_nanoseconds f w ≡ none → false ≡ says_time f w r
+pub says_none : (f : ClockFormat) (w : ℕ) (r : ℤ) → wire_nanoseconds f w ≡ None → false ≡ says_time f w r
 unfolding converted
 says_none f w r n = sym (ap (λ (o : Option ℕ). present (time_of (time_by o (second_near (wire_second f w) r)))) n)

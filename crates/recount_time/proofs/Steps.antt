@@ -1,7 +1,7 @@
 -- The numbers of the code, each read through its bits. Assumes nothing.
+use Rattle.std.specs.Prelude.{Some}
 use mathlib.Core.Path.{◌≡◌, refl, sym, ap, subst, ◌∙◌}
 use mathlib.Core.Bool.{Bool, true, false, ◌&&◌, ◌||◌}
-use mathlib.Core.Option.{some}
 use Prim.Native.Nat.{ℕ, ◌+◌, ◌*◌, ◌/◌, ◌%◌, ◌^◌, ◌≤◌, ◌<◌}
 use native.Mathlib.Omega.{arith}
 use lib.Dec.{T}
@@ -224,7 +224,7 @@ module _ (z : ℤ) (fz : SFits w64 z) (near : nat_abs z ≤ 4294967296) where
 
 module _ (reference offset : ℤ) (fr : SFits w64 reference) (fo : SFits w32 offset) (w ns : ℕ) (short : ns < billion) where
   -- the answer for a second as the code reads it
-  says_is : (f : ClockFormat) (x read : ℤ) (b : Bool) → read ≡ x → wire_second f w ≡ x → wire_nanoseconds f w ≡ some ns → down x ≤ up x + 2208988800 → up x < down x + 4294967296
+  says_is : (f : ClockFormat) (x read : ℤ) (b : Bool) → read ≡ x → wire_second f w ≡ x → wire_nanoseconds f w ≡ Some ns → down x ≤ up x + 2208988800 → up x < down x + 4294967296
       → b ≡ in_some_era (r_read reference offset) read ns → b ≡ says_time f w (reference +ℤ offset)
   says_is f x read b e p q low high h =
       h

@@ -4,33 +4,34 @@ ghost use Rattle.history.specs.FollowUps.{round_trips};
 ghost use Rattle.recount_seen.specs.Seen.{events_of};
 ghost use Rattle.recount_trips.specs.Trips.{shorter, longer, trips_with, trips_next, trips_of};
 
-use recount_observed::Observation;
-use report::figures::{RoundTrip, Value};
+use call_types::ReplyObservation;
+use recount_seen::Marked;
+use report::figures::RoundTrip;
 
-fn shorter(least: Value, ns: u64) -> Value
+fn shorter(least: Option<u64>, ns: u64) -> Option<u64>
     ensures { result ≡ shorter least ns }
 {
     match least {
-        Value::Absent => Value::Number(ns),
-        Value::Number(old) => {
+        None => Some(ns),
+        Some(old) => {
             if ns < old {
-                return Value::Number(ns);
+                return Some(ns);
             }
-            Value::Number(old)
+            Some(old)
         }
     }
 }
 
-fn longer(most: Value, ns: u64) -> Value
+fn longer(most: Option<u64>, ns: u64) -> Option<u64>
     ensures { result ≡ longer most ns }
 {
     match most {
-        Value::Absent => Value::Number(ns),
-        Value::Number(old) => {
+        None => Some(ns),
+        Some(old) => {
             if old < ns {
-                return Value::Number(ns);
+                return Some(ns);
             }
-            Value::Number(old)
+            Some(old)
         }
     }
 }
@@ -48,31 +49,28 @@ fn trips_with(ns: u64, t: RoundTrip) -> RoundTrip
     }
 }
 
-fn trips_next(x: Observation, t: RoundTrip) -> RoundTrip
+fn trips_next(x: Option<ReplyObservation>, t: RoundTrip) -> RoundTrip
     requires { t.samples + 1 < 2 ^ 64 }
     ensures { result ≡ trips_next x t }
 {
     match x {
-        Observation::Absent => t,
-        Observation::Made(o) => trips_with(o.rtt, t),
+        None => t,
+        Some(o) => trips_with(o.rtt, t),
     }
 }
 
 // Of the first n records.
-pub fn round_trips(log: &[u8], marks: &[u8], n: u32) -> RoundTrip
-    requires { (n ≤ length marks.now) × (n < 65536) }
-    ensures { result ≡ trips_of (round_trips (events_of log.now marks.now n)) }
+pub fn round_trips(records: Marked, n: u32) -> RoundTrip
+    requires { (n ≤ length records.marks.now) × (n < 65536) }
+    ensures { result ≡ trips_of (round_trips (events_of records.entry.log.now records.entry.marks.now n)) }
 {
     let mut t = RoundTrip {
         samples: 0,
-        min: Value::Absent,
-        max: Value::Absent,
+        min: None,
+        max: None,
     };
-    let mut j: u32 = 0;
-    while j < n {
-        let x = recount_observed::observation_at(log, marks, j);
-        t = trips_next(x, t);
-        j += 1;
+    for j in 0..n {
+        t = trips_next(recount_observed::observation_at(records, j), t);
     }
     t
 }

@@ -1,8 +1,9 @@
 -- THE WINDOW OF THE HISTORY IS THE RUN OF RECORDS SINCE THE LAST THAT CLEARED IT. Assumes nothing.
+use Rattle.std.specs.Prelude.{Option, None, Some}
+use Rattle.call_types.specs.declared.ReplyObservation.{ReplyObservation}
 use mathlib.Core.Path.{◌≡◌, refl, sym, ap, ◌∙◌}
 use mathlib.Core.Bool.{Bool, true, false, cond, ◌&&◌}
 use mathlib.Core.List.{List, [], ◌∷◌}
-use mathlib.Core.Option.{Option, none, some}
 use Prim.Native.Nat.{ℕ, zero, suc, ◌+◌, ◌-◌, ◌≤◌}
 use native.Mathlib.Omega.{arith}
 use lib.Dec.{eqb, ltb}
@@ -12,7 +13,6 @@ use Rattle.history.specs.Counting.{has}
 use Rattle.history.specs.Given.{ordinal_of, counters_of}
 use Rattle.history.specs.DirectLoss.{mismatch, zeros, anchors, jumps, within, anchor_of, seen, transmit_offset, highest, on_window, direct_class, next_window, with_counters, window}
 use Rattle.recount_seen.specs.Seen.{seen_at, events_of}
-use Rattle.recount_observed.specs.declared.Observation.{Observation}
 use Rattle.recount_observed.specs.Observed.{observation_at}
 use Rattle.recount_observed.proofs.Laws.{grows}
 use Rattle.recount_window.specs.Window.{point_by, point_of, join, clears, clears_at, clears_by, points_from, start_of, window_in}
@@ -40,16 +40,16 @@ module _ (N : ℕ) where
 
   next_is : (n : Option ℕ) (x : Option CounterPoint) (w : List CounterPoint) → with_counters N n x w ≡ cond (clears_at N n x w) [] (join (point_by n x) w)
   unfolding direct_class
-  next_is n none w = refl
-  next_is none (some c) w = refl
-  next_is (some n) (some c) w = go (eqb c.sender.0 n)
+  next_is n None w = refl
+  next_is None (Some c) w = refl
+  next_is (Some n) (Some c) w = go (eqb c.sender.0 n)
     where
-      go : (b : Bool) → next_window N (cond b (on_window N c w) mismatch) c w ≡ cond (clears (cond b (on_window N c w) mismatch)) [] (join (cond b (some c) none) w)
+      go : (b : Bool) → next_window N (cond b (on_window N c w) mismatch) c w ≡ cond (clears (cond b (on_window N c w) mismatch)) [] (join (cond b (Some c) None) w)
       go true = on_window_lem c w
       go false = refl
 
   -- a window after one record more
-  abbrev window_next : Observation → List CounterPoint → List CounterPoint
+  abbrev window_next : Option ReplyObservation → List CounterPoint → List CounterPoint
   window_next x w = cond (clears_by N x w) [] (join (point_of x) w)
 
   window_grows : (log marks : List ℕ) (n : ℕ) → window N (events_of log marks (suc n)) ≡ window_next (observation_at log marks n) (window N (events_of log marks n))
@@ -60,7 +60,7 @@ module _ (N : ℕ) where
 
 -- ---- the run
 
-module _ (at : ℕ → Observation) (N : ℕ) where
+module _ (at : ℕ → Option ReplyObservation) (N : ℕ) where
   pub start-most : (n : ℕ) → start_of at N n ≤ n
   unfolding start_of
   start-most zero = omega arith

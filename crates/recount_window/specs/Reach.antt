@@ -1,6 +1,5 @@
 -- What one record more changes in an answer about a run of counters. Assumes nothing.
-use Rattle.std.specs.Prelude.{Bool, false, not, cond, List, ℕ, ◌+◌, max, eqb, ltb, length}
-use Rattle.std.proofs.Math.Option.{Option, none, some}
+use Rattle.std.specs.Prelude.{Bool, false, not, cond, List, ℕ, ◌+◌, max, eqb, ltb, length, Option, None, Some}
 use Rattle.call_types.specs.declared.CounterPoint.{CounterPoint}
 use Rattle.history.specs.Counting.{tally}
 use Rattle.history.specs.DirectLoss.{sender_offset, received_offset, transmit_offset, seen, highest, sender_maximum, received_maximum, above0}
@@ -8,13 +7,13 @@ use Rattle.recount_window.specs.declared.Reach.{Reach}
 
 -- the anchor stays; without one the record's counters become it
 abbrev pub first_of : Option CounterPoint → Option CounterPoint → Option CounterPoint
-first_of none point = point
-first_of (some first) point = some first
+first_of None point = point
+first_of (Some first) point = Some first
 
 -- the record has counters at this transmit offset from a
 abbrev pub is_seen : CounterPoint → Option CounterPoint → (wanted : ℕ) → Bool
-is_seen a none wanted = false
-is_seen a (some c) wanted = eqb wanted (transmit_offset a c)
+is_seen a None wanted = false
+is_seen a (Some c) wanted = eqb wanted (transmit_offset a c)
 
 -- how far the run w reaches from a
 abbrev pub reach_of : CounterPoint → List CounterPoint → Reach
@@ -36,5 +35,5 @@ reach_with a c r = record {
 
 -- where the record has counters
 abbrev pub reach_next : CounterPoint → Option CounterPoint → Reach → Reach
-reach_next a none r = r
-reach_next a (some c) r = reach_with a c r
+reach_next a None r = r
+reach_next a (Some c) r = reach_with a c r

@@ -1,27 +1,25 @@
 -- The window of direct loss (crate history) from the records alone: one number says where it starts. Assumes nothing.
-use Rattle.std.specs.Prelude.{Bool, true, false, cond, List, [], ◌∷◌, ℕ, zero, suc, ◌+◌, ◌-◌, eqb}
-use Rattle.std.proofs.Math.Option.{Option, none, some}
+use Rattle.call_types.specs.declared.ReplyObservation.{ReplyObservation}
+use Rattle.std.specs.Prelude.{Bool, true, false, cond, List, [], ◌∷◌, ℕ, zero, suc, ◌+◌, ◌-◌, eqb, Some, None, Option}
 use Rattle.call_types.specs.declared.CounterPoint.{CounterPoint}
 use Rattle.history.specs.Given.{ordinal_of, counters_of}
 use Rattle.history.specs.DirectLoss.{DirectClass, mismatch, zeros, anchors, jump, again, exceeded, reordered, advanced, direct_class}
-use Rattle.recount_observed.specs.declared.Observation.{Observation}
-use Rattle.recount_observed.specs.declared.Observation.TheVariants.{Absent, Made}
 
 -- counters whose sender count is the ordinal
 abbrev pub point_by : Option ℕ → Option CounterPoint → Option CounterPoint
-point_by n none = none
-point_by none (some c) = none
-point_by (some n) (some c) = cond (eqb c.sender.0 n) (some c) none
+point_by n None = None
+point_by None (Some c) = None
+point_by (Some n) (Some c) = cond (eqb c.sender.0 n) (Some c) None
 
 -- of a record
-abbrev pub point_of : Observation → Option CounterPoint
-point_of Absent = none
-point_of (Made o) = point_by (ordinal_of o.ordinal) (counters_of o.counters)
+abbrev pub point_of : Option ReplyObservation → Option CounterPoint
+point_of None = None
+point_of (Some o) = point_by (ordinal_of o.ordinal) (counters_of o.counters)
 
 -- before others
 abbrev pub join : Option CounterPoint → List CounterPoint → List CounterPoint
-join none w = w
-join (some c) w = c ∷ w
+join None w = w
+join (Some c) w = c ∷ w
 
 -- whether a class leaves an empty window
 abbrev pub clears : DirectClass → Bool
@@ -38,16 +36,16 @@ clears advanced = false
 module _ (N : ℕ) where
   -- whether counters clear a window; a record without any clears nothing
   abbrev pub clears_at : Option ℕ → Option CounterPoint → List CounterPoint → Bool
-  clears_at n none w = false
-  clears_at n (some c) w = clears (direct_class N n c w)
+  clears_at n None w = false
+  clears_at n (Some c) w = clears (direct_class N n c w)
 
   -- of a record
-  abbrev pub clears_by : Observation → List CounterPoint → Bool
-  clears_by Absent w = false
-  clears_by (Made o) w = clears_at (ordinal_of o.ordinal) (counters_of o.counters) w
+  abbrev pub clears_by : Option ReplyObservation → List CounterPoint → Bool
+  clears_by None w = false
+  clears_by (Some o) w = clears_at (ordinal_of o.ordinal) (counters_of o.counters) w
 
 -- at: the observation of each record
-module _ (at : ℕ → Observation) where
+module _ (at : ℕ → Option ReplyObservation) where
   -- the points of k records from a on, newest first
   unfoldable pub points_from : ℕ → ℕ → List CounterPoint
   points_from a zero = []

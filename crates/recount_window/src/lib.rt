@@ -8,102 +8,86 @@ ghost use Rattle.recount_observed.specs.Observed.{observation_at};
 ghost use Rattle.recount_window.specs.Window.{point_by, point_of, points_from};
 ghost use Rattle.recount_window.specs.Reach.{first_of, is_seen, reach_of, received_next, reach_with, reach_next};
 
-use call_types::{CounterPoint, Counters, Ordinal, ReplyObservation};
-use recount_observed::Observation;
+use call_types::{CounterPoint, ReplyObservation};
+use recount_seen::Marked;
 
 // ---- the counters of a record
 
 // Those whose sender count is the ordinal.
-fn matching(ordinal: Ordinal, point: CounterPoint) -> Counters
-    ensures { counters_of result ≡ point_by (ordinal_of ordinal) (counters_of (Counters.Point point)) }
+fn matching(ordinal: Option<u32>, point: CounterPoint) -> Option<CounterPoint>
+    ensures { counters_of result ≡ point_by (ordinal_of ordinal) (counters_of (Some point)) }
 {
-    match ordinal {
-        Ordinal::Absent => Counters::Absent,
-        Ordinal::Number(n) => {
-            if point.sender.0 == n {
-                return Counters::Point(point);
-            }
-            Counters::Absent
-        }
+    let Some(n) = ordinal else {
+        return None;
+    };
+    if point.sender.0 == n {
+        return Some(point);
+    }
+    None
+}
+
+fn point_in(o: ReplyObservation) -> Option<CounterPoint>
+    ensures { counters_of result ≡ point_of (Some o) }
+{
+    match o.counters {
+        None => None,
+        Some(point) => matching(o.ordinal, point),
     }
 }
 
-fn point_in(o: ReplyObservation) -> Counters
-    ensures { counters_of result ≡ point_of (Observation.Made o) }
+fn point_at(records: Marked, j: u32) -> Option<CounterPoint>
+    requires { j < length records.marks.now }
+    ensures { counters_of result ≡ point_of (observation_at records.entry.log.now records.entry.marks.now j) }
 {
-    let ordinal = o.ordinal;
-    let counters = o.counters;
-    match counters {
-        Counters::Absent => Counters::Absent,
-        Counters::Point(point) => matching(ordinal, point),
-    }
-}
-
-fn point_at(log: &[u8], marks: &[u8], j: u32) -> Counters
-    requires { j < length marks.now }
-    ensures { counters_of result ≡ point_of (observation_at log.now marks.now j) }
-{
-    let x = recount_observed::observation_at(log, marks, j);
-    match x {
-        Observation::Absent => Counters::Absent,
-        Observation::Made(o) => point_in(o),
+    match recount_observed::observation_at(records, j) {
+        None => None,
+        Some(o) => point_in(o),
     }
 }
 
 // ---- the anchor: the first of a run
 
-fn first_of(found: Counters, point: Counters) -> Counters
+fn first_of(found: Option<CounterPoint>, point: Option<CounterPoint>) -> Option<CounterPoint>
     ensures { counters_of result ≡ first_of (counters_of found) (counters_of point) }
 {
     match found {
-        Counters::Absent => point,
-        Counters::Point(first) => Counters::Point(first),
+        None => point,
+        Some(first) => Some(first),
     }
 }
 
 // Of the records from `start` up to but not including n.
-pub fn anchor(log: &[u8], marks: &[u8], start: u32, n: u32) -> Counters
-    requires { (start ≤ n) × (n ≤ length marks.now) }
-    ensures { counters_of result ≡ anchor (points_from (observation_at log.now marks.now) start (n - start)) }
+pub fn anchor(records: Marked, start: u32, n: u32) -> Option<CounterPoint>
+    requires { (start ≤ n) × (n ≤ length records.marks.now) }
+    ensures { counters_of result ≡ anchor (points_from (observation_at records.entry.log.now records.entry.marks.now) start (n - start)) }
 {
-    let mut found = Counters::Absent;
-    let mut j = start;
-    while j < n {
-        let point = point_at(log, marks, j);
+    let mut found = None;
+    for j in start..n {
+        let point = point_at(records, j);
         found = first_of(found, point);
-        j += 1;
     }
     found
 }
 
 // ---- is this transmit offset one of a run?
 
-fn is_seen(anchor: CounterPoint, point: Counters, wanted: u32) -> bool
+fn is_seen(anchor: CounterPoint, point: Option<CounterPoint>, wanted: u32) -> bool
     ensures { result ≡ is_seen anchor (counters_of point) wanted }
 {
     match point {
-        Counters::Absent => false,
-        Counters::Point(c) => wanted == recount_back::step(anchor.transmitted.0, c.transmitted.0),
+        None => false,
+        Some(c) => wanted == recount_back::step(anchor.transmitted.0, c.transmitted.0),
     }
 }
 
-pub fn was_seen(
-    log: &[u8],
-    marks: &[u8],
-    start: u32,
-    n: u32,
-    anchor: CounterPoint,
-    wanted: u32,
-) -> bool
-    requires { (start ≤ n) × (n ≤ length marks.now) }
-    ensures { result ≡ has (seen anchor (points_from (observation_at log.now marks.now) start (n - start))) wanted }
+pub fn was_seen(records: Marked, start: u32, n: u32, anchor: CounterPoint, wanted: u32) -> bool
+    requires { (start ≤ n) × (n ≤ length records.marks.now) }
+    ensures { result ≡ has (seen anchor (points_from (observation_at records.entry.log.now records.entry.marks.now) start (n - start))) wanted }
 {
     let mut found = false;
-    let mut j = start;
-    while j < n {
-        let point = point_at(log, marks, j);
+    for j in start..n {
+        let point = point_at(records, j);
         found = is_seen(anchor, point, wanted) | found;
-        j += 1;
     }
     found
 }
@@ -155,19 +139,19 @@ fn reach_with(anchor: CounterPoint, c: CounterPoint, r: Reach) -> Reach
     }
 }
 
-fn reach_next(anchor: CounterPoint, point: Counters, r: Reach) -> Reach
+fn reach_next(anchor: CounterPoint, point: Option<CounterPoint>, r: Reach) -> Reach
     requires { (r.points + 1 < 2 ^ 32) × (r.above + 1 < 2 ^ 32) }
     ensures { result ≡ reach_next anchor (counters_of point) r }
 {
     match point {
-        Counters::Absent => r,
-        Counters::Point(c) => reach_with(anchor, c, r),
+        None => r,
+        Some(c) => reach_with(anchor, c, r),
     }
 }
 
-pub fn reach_of(log: &[u8], marks: &[u8], start: u32, n: u32, anchor: CounterPoint) -> Reach
-    requires { (start ≤ n) × (n ≤ length marks.now) × (n < 65536) }
-    ensures { result ≡ reach_of anchor (points_from (observation_at log.now marks.now) start (n - start)) }
+pub fn reach_of(records: Marked, start: u32, n: u32, anchor: CounterPoint) -> Reach
+    requires { (start ≤ n) × (n ≤ length records.marks.now) × (n < 65536) }
+    ensures { result ≡ reach_of anchor (points_from (observation_at records.entry.log.now records.entry.marks.now) start (n - start)) }
 {
     let mut r = Reach {
         points: 0,
@@ -176,11 +160,9 @@ pub fn reach_of(log: &[u8], marks: &[u8], start: u32, n: u32, anchor: CounterPoi
         sender: 0,
         received: 0,
     };
-    let mut j = start;
-    while j < n {
-        let point = point_at(log, marks, j);
+    for j in start..n {
+        let point = point_at(records, j);
         r = reach_next(anchor, point, r);
-        j += 1;
     }
     r
 }

@@ -1,7 +1,5 @@
 -- What one call makes of the counts of replies (document 01, 'Ledger'), by value: what the rooms found is an argument.
-use Rattle.std.specs.Prelude.{Bool, true, false, ◌&&◌, not, ℕ, ◌+◌, ◌-◌, ◌%◌, ◌^◌, eqb, ltb}
-use Rattle.replies.specs.declared.Reflector.{Reflector}
-use Rattle.replies.specs.declared.Reflector.TheVariants.{Absent, Number}
+use Rattle.std.specs.Prelude.{Bool, true, false, ◌&&◌, not, ℕ, ◌+◌, ◌-◌, ◌%◌, ◌^◌, eqb, ltb, Option, Some, None}
 use Rattle.replies.specs.declared.Answers.{Answers}
 use Rattle.replies.specs.declared.Numbers.{Numbers}
 use Rattle.replies.specs.declared.Totals.{Totals}
@@ -40,25 +38,25 @@ unfoldable pub step_from : ℕ → ℕ → ℕ
 step_from high reflector = (reflector + 2 ^ 32 - high) % 2 ^ 32
 
 -- "0 nothing; below 2^31 a new highest; else reordered"
-abbrev pub highest_by : Bool → Bool → ℕ → ℕ → Reflector
-highest_by true back high reflector = Number high
-highest_by false true high reflector = Number high
-highest_by false false high reflector = Number reflector
+abbrev pub highest_by : Bool → Bool → ℕ → ℕ → Option ℕ
+highest_by true back high reflector = Some high
+highest_by false true high reflector = Some high
+highest_by false false high reflector = Some reflector
 
 -- "The first sets it."
-abbrev pub highest_after : Reflector → ℕ → Reflector
-highest_after Absent reflector = Number reflector
-highest_after (Number high) reflector = highest_by (eqb (step_from high reflector) 0) (not (ltb (step_from high reflector) (2 ^ 31))) high reflector
+abbrev pub highest_after : Option ℕ → ℕ → Option ℕ
+highest_after None reflector = Some reflector
+highest_after (Some high) reflector = highest_by (eqb (step_from high reflector) 0) (not (ltb (step_from high reflector) (2 ^ 31))) high reflector
 
 -- the step from the highest is 2^31 or more; the first reply is never reordered
-abbrev pub is_reordered : Reflector → ℕ → Bool
-is_reordered Absent reflector = false
-is_reordered (Number high) reflector = not (ltb (step_from high reflector) (2 ^ 31))
+abbrev pub is_reordered : Option ℕ → ℕ → Bool
+is_reordered None reflector = false
+is_reordered (Some high) reflector = not (ltb (step_from high reflector) (2 ^ 31))
 
 -- "Reflector other than sender: independent observation."
 abbrev pub numbered_by : ℕ → ℕ → Numbers → Numbers
 numbered_by sender reflector n = record {
-  last = Number reflector;
+  last = Some reflector;
   highest = highest_after n.highest reflector;
   reordered = tally (is_reordered n.highest reflector) n.reordered;
   independent = tally (not (eqb reflector sender)) n.independent;
@@ -127,6 +125,6 @@ abbrev pub fresh_replies : Replies
 fresh_replies = record {
   totals = record { requested = 0; unique = 0; duplicate = 0; unknown = 0 };
   answers = record { answered = 0; additional = 0; late = 0; satisfied = 0 };
-  numbers = record { last = Absent; highest = Absent; reordered = 0; independent = 0 };
+  numbers = record { last = None; highest = None; reordered = 0; independent = 0 };
   evicted = record { probes = 0; replies = 0; unanswered = 0 };
 }

@@ -4,13 +4,6 @@ ghost use Rattle.std.specs.Prelude.{◌≡◌, ◌^◌, ◌<◌};
 ghost use Rattle.replies.specs.Served.{tally, evicted_by, requested_by, after_sent, unobserved, needs_burst_wait, fresh_replies};
 ghost use Rattle.replies.specs.Bounds.{TotalsIn, EvictedIn, InBounds};
 
-// A reflector's sequence number, or none.
-#[derive(Clone, Copy)]
-pub enum Reflector {
-    Absent,
-    Number(u32),
-}
-
 // `answered_probes`, `additional_replies`, `late_replies`, `satisfied`.
 #[derive(Clone, Copy)]
 pub struct Answers {
@@ -23,8 +16,8 @@ pub struct Answers {
 // `last_reflector_sequence`, `highest_reflector`, `reordered_replies`, `independent_sequence_observations`.
 #[derive(Clone, Copy)]
 pub struct Numbers {
-    pub last: Reflector,
-    pub highest: Reflector,
+    pub last: Option<u32>,
+    pub highest: Option<u32>,
     pub reordered: u64,
     pub independent: u64,
 }
@@ -66,10 +59,7 @@ fn one_more_if(test: bool, count: u64) -> u64
     requires { count < 2 ^ 63 }
     ensures { result ≡ tally test count }
 {
-    if test {
-        return count + 1;
-    }
-    count
+    if test { count + 1 } else { count }
 }
 
 fn evict(probe: bool, lost: bool, key: bool, evicted: Evicted) -> Evicted
@@ -87,7 +77,7 @@ fn request(copies: u16, mut totals: Totals) -> Totals
     requires { TotalsIn totals }
     ensures { result ≡ requested_by copies totals }
 {
-    totals.requested = totals.requested + (copies as u64);
+    totals.requested += copies as u64;
     totals
 }
 
@@ -109,8 +99,8 @@ impl Replies {
                 satisfied: 0,
             },
             numbers: Numbers {
-                last: Reflector::Absent,
-                highest: Reflector::Absent,
+                last: None,
+                highest: None,
                 reordered: 0,
                 independent: 0,
             },
@@ -123,19 +113,15 @@ impl Replies {
     }
 
     // The counts of `sent`.
+    #[tactic(auto, unfolding(crate::specs::Served::after_sent))]
     pub fn sent(self, copies: u16, probe: bool, lost: bool) -> Replies
         requires { InBounds self }
         ensures { result ≡ after_sent copies probe lost self }
     {
-        let totals = self.totals;
-        let answers = self.answers;
-        let numbers = self.numbers;
-        let evicted = self.evicted;
         Replies {
-            totals: request(copies, totals),
-            answers,
-            numbers,
-            evicted: evict(probe, lost, false, evicted),
+            totals: request(copies, self.totals),
+            evicted: evict(probe, lost, false, self.evicted),
+            ..self
         }
     }
 
@@ -143,19 +129,12 @@ impl Replies {
     pub fn unobserved_replies(self) -> u64
         ensures { result ≡ unobserved self }
     {
-        let totals = self.totals;
-        let answers = self.answers;
-        if totals.requested < answers.satisfied {
-            return 0;
-        }
-        totals.requested - answers.satisfied
+        self.totals.requested.saturating_sub(self.answers.satisfied)
     }
 
     pub fn needs_burst_wait(self, copies: u16) -> bool
         ensures { result ≡ needs_burst_wait copies self }
     {
-        let totals = self.totals;
-        let answers = self.answers;
-        (1 < copies) & (answers.satisfied < totals.requested)
+        copies > 1 && self.answers.satisfied < self.totals.requested
     }
 }

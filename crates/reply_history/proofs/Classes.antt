@@ -1,9 +1,9 @@
 -- The class of a reply over the rooms is that over the history; a duplicate and an unknown leave all but one count.
 -- Assumes nothing.
+use Rattle.std.specs.Prelude.{Option}
 use mathlib.Core.Path.{◌≡◌, refl, ap, ◌∙◌}
 use mathlib.Core.Bool.{Bool, true, false}
 use mathlib.Core.List.{List, ◌∷◌, map}
-use mathlib.Core.Option.{Option}
 use Prim.Native.Nat.{ℕ, ◌<◌}
 use lib.Dec.{ltb}
 use Rattle.call_types.specs.declared.ReplyKey.{ReplyKey}

@@ -1,5 +1,7 @@
 -- The counts of replies: what each served call adds to them is what it adds to the history's.
 -- Assumes nothing.
+use Rattle.std.specs.Prelude.{Option, Some, None}
+use Rattle.call_types.specs.declared.PendingPacket.{PendingPacket}
 use mathlib.Core.Path.{◌≡◌, refl}
 use mathlib.Core.Bool.{Bool, true, false, not, ◌&&◌}
 use mathlib.Core.List.{List, ◌∷◌}
@@ -8,15 +10,12 @@ use native.Mathlib.Nat.{mul-suc}
 use native.Mathlib.Omega.{arith}
 use lib.Dec.{eqb, ltb}
 use lib.ListN.{length}
-use Rattle.call_types.specs.declared.Pending.{Pending}
-use Rattle.call_types.specs.declared.Pending.TheVariants as pending
 use Rattle.call_types.specs.declared.ReplyObservation.{ReplyObservation}
 use Rattle.call_types.specs.declared.SentProbe.{SentProbe}
 use Rattle.call_types.specs.declared.Reply.{Reply}
 use Rattle.call_types.specs.declared.Call.TheVariants.{Sent, Accept, Observe, Advance, Idle}
 use Rattle.call_types.specs.declared.Call.{Call}
 use Rattle.probe_ring.specs.Row.{most_replies}
-use Rattle.replies.specs.declared.Reflector.TheVariants.{Number}
 use Rattle.replies.specs.Served as served
 use Rattle.replies.specs.Served.{after_sent, after_duplicate, after_unknown, after_unique, highest_after, is_reordered}
 use Rattle.history.specs.Counting.{tally, has, present}
@@ -35,9 +34,9 @@ tally-same false n = refl
 one : (n : ℕ) → n + 1 ≡ suc n
 one n = omega arith
 
-pub pending_same : (p : Pending) → is_pending p ≡ present (packet_of p)
-pending_same pending.Absent = refl
-pending_same (pending.Held q) = refl
+pub pending_same : (p : Option PendingPacket) → is_pending p ≡ present (packet_of p)
+pending_same None = refl
+pending_same (Some q) = refl
 
 module _ (N copies : ℕ) (h : List Call) where
   -- ---- `sent`
@@ -149,7 +148,7 @@ module _ (N copies : ℕ) (h : List Call) where
       replies_evicted_more : served.tally key (length (accepted es) - N) ≡ length (accepted (events N (Accept a ∷ h))) - N
       replies_evicted_more = rw accepted_more key-is
 
-      last_is : Number a.key.reflector ≡ as_reflector (last_reflector (accepted (events N (Accept a ∷ h))))
+      last_is : Some a.key.reflector ≡ as_reflector (last_reflector (accepted (events N (Accept a ∷ h))))
       last_is = rw accepted_more
 
       highest_is : highest_after (as_reflector (highest_reflector (accepted es))) a.key.reflector ≡ as_reflector (highest_reflector (accepted (events N (Accept a ∷ h))))

@@ -1,5 +1,7 @@
 -- The lanes of the links do not meet: 0 to 3 are the keys', 4 and 5 the probes', 6 and 7 the offsets'. What changes one leaves the others whole.
 -- Assumes nothing.
+use Rattle.std.specs.Prelude.{Option, Some, None}
+use Rattle.call_types.specs.declared.CounterPoint.{CounterPoint}
 use mathlib.Core.Path.{◌≡◌, refl, ◌∙◌}
 use mathlib.Core.List.{List}
 use Prim.Native.Nat.{ℕ, ◌+◌, ◌<◌}
@@ -13,9 +15,6 @@ use Rattle.chains.proofs.Tests.{Test, holds, fails, lt_test}
 use Rattle.chains.proofs.Places.{push-below}
 use Rattle.chains.proofs.Lanes.{linked-fits, linked_elsewhere}
 use Rattle.call_types.specs.declared.ReplyKey.{ReplyKey}
-use Rattle.call_types.specs.declared.Counters.{Counters}
-use Rattle.call_types.specs.declared.Counters.TheVariants as counters
-use Rattle.call_types.specs.declared.Ordinal.{Ordinal}
 use Rattle.call_types.specs.declared.ReplyObservation.{ReplyObservation}
 use Rattle.direct.specs.declared.Direct.{Direct}
 use Rattle.direct.specs.declared.Offsets.{Offsets}
@@ -134,9 +133,9 @@ module _ (N : ℕ) (by_number : ℕ → ℕ) (number-below : (r : ℕ) → by_nu
   after-lane (Added n) s fit = added-lane s n fit
   after-lane Cleared s fit = record { links_fit = fit; elsewhere = λ i j m. refl }
 
-  by-lane : (c : Counters) (d : Direct) (s : OffsetSet) (o : Ordinal) → Rows N 8 s.links → OffsetLane N s.links (direct_by N by_number c d s o).links
-  by-lane counters.Absent d s o fit = record { links_fit = fit; elsewhere = λ i j m. refl }
-  by-lane (counters.Point c) d s o fit = after-lane (recorded N d c o (contains N by_number s (sought_in d.window c))).offsets s fit
+  by-lane : (c : Option CounterPoint) (d : Direct) (s : OffsetSet) (o : Option ℕ) → Rows N 8 s.links → OffsetLane N s.links (direct_by N by_number c d s o).links
+  by-lane None d s o fit = record { links_fit = fit; elsewhere = λ i j m. refl }
+  by-lane (Some c) d s o fit = after-lane (recorded N d c o (contains N by_number s (sought_in d.window c))).offsets s fit
 
   pub direct-lane : (d : Direct) (offsets : List ℕ) (links : List (List ℕ)) (o : ReplyObservation) → Rows N 8 links → OffsetLane N links (direct_in N by_number d offsets links o).links
   unfolding direct_in

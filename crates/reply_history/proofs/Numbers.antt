@@ -1,9 +1,9 @@
 -- The reflector numbers of the accepted keys: they fit 32 bits, and the highest moves as the history says.
 -- Assumes nothing.
+use Rattle.std.specs.Prelude.{Option, None, Some}
 use mathlib.Core.Path.{◌≡◌, refl, sym, ap}
 use mathlib.Core.Bool.{Bool, true, false, not, cond}
 use mathlib.Core.List.{List, [], ◌∷◌}
-use mathlib.Core.Option.{Option, none, some}
 use Prim.Native.Nat.{ℕ, ◌+◌, ◌-◌, ◌%◌, ◌^◌, ◌<◌}
 use native.Mathlib.Omega.{arith}
 use borrow.Author.Tests.{lt-leb, le-leb}
@@ -31,7 +31,7 @@ pub ready-accepted : (N : ℕ) (es : List Event) (k : ReplyKey) (p : Option Pend
 unfolding ready accepted
 ready-accepted N es k p = go (has (held N es) k.sender)
   where
-    go : (b : Bool) → accepted (cond b es (remembered k.sender none 0 (or_else p no_packet) ∷ es)) ≡ accepted es
+    go : (b : Bool) → accepted (cond b es (remembered k.sender None 0 (or_else p no_packet) ∷ es)) ≡ accepted es
     go true = refl
     go false = refl
 
@@ -55,14 +55,14 @@ module _ (N : ℕ) where
 -- ---- the highest
 
 abbrev pub HighestFits : Option ℕ → Type 0
-HighestFits none = Unit
-HighestFits (some n) = n < 2 ^ 32
+HighestFits None = Unit
+HighestFits (Some n) = n < 2 ^ 32
 
 higher_fits : (r : ℕ) (o : Option ℕ) → r < 2 ^ 32 → HighestFits o → HighestFits (new_highest r o)
-higher_fits r none l f = l
-higher_fits r (some h) l f = go (ltb (offset h r) (2 ^ 31))
+higher_fits r None l f = l
+higher_fits r (Some h) l f = go (ltb (offset h r) (2 ^ 31))
   where
-    go : (b : Bool) → HighestFits (cond b (some r) (some h))
+    go : (b : Bool) → HighestFits (cond b (Some r) (Some h))
     go true = l
     go false = f
 
@@ -84,12 +84,12 @@ unfolding offset
 step_zero h r l m e = same_number h r l m e
 
 pub highest-same : (r : ℕ) (o : Option ℕ) → r < 2 ^ 32 → HighestFits o → highest_after (as_reflector o) r ≡ as_reflector (new_highest r o)
-highest-same r none l f = refl
-highest-same r (some h) l f = rw (step_is h r) (go (eq_test (offset h r) 0) (lt_test (offset h r) (2 ^ 31)))
+highest-same r None l f = refl
+highest-same r (Some h) l f = rw (step_is h r) (go (eq_test (offset h r) 0) (lt_test (offset h r) (2 ^ 31)))
   where
     go : Test (offset h r ≡ 0) (eqb (offset h r) 0) → Test (offset h r < 2 ^ 31) (ltb (offset h r) (2 ^ 31))
-        → highest_by (eqb (offset h r) 0) (not (ltb (offset h r) (2 ^ 31))) h r ≡ as_reflector (cond (ltb (offset h r) (2 ^ 31)) (some r) (some h))
-    go (holds e t) (holds m u) = rw (t, u) (ap (λ (n : ℕ). as_reflector (some n)) (sym (step_zero h r f l e)))
+        → highest_by (eqb (offset h r) 0) (not (ltb (offset h r) (2 ^ 31))) h r ≡ as_reflector (cond (ltb (offset h r) (2 ^ 31)) (Some r) (Some h))
+    go (holds e t) (holds m u) = rw (t, u) (ap (λ (n : ℕ). as_reflector (Some n)) (sym (step_zero h r f l e)))
     go (holds e t) (fails m u) = absurd (m (rw e (omega arith)))
     go (fails e t) (holds m u) = rw (t, u)
     go (fails e t) (fails m u) = rw (t, u)
@@ -102,5 +102,5 @@ not_below a b = go (lt_test a b)
     go (fails l t) = rw (t, le-leb b a (omega arith))
 
 pub behind-same : (r : ℕ) (o : Option ℕ) → is_reordered (as_reflector o) r ≡ behind r o
-behind-same r none = refl
-behind-same r (some h) = rw (step_is h r) (not_below (offset h r) (2 ^ 31))
+behind-same r None = refl
+behind-same r (Some h) = rw (step_is h r) (not_below (offset h r) (2 ^ 31))

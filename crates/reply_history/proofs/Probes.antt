@@ -1,9 +1,9 @@
 -- The held probes as the history has them: what remembering one and a reply to one do to the list.
 -- Assumes nothing.
+use Rattle.std.specs.Prelude.{Some, None, Option}
 use mathlib.Core.Path.{◌≡◌, refl, sym, ap, ap₂, ◌∙◌}
 use mathlib.Core.Bool.{Bool, true, false, not, ◌||◌, ◌&&◌, cond}
 use mathlib.Core.List.{List, [], ◌∷◌, map}
-use mathlib.Core.Option.{Option}
 use Prim.Native.Nat.{ℕ, zero, suc, ◌≤◌, ◌<◌}
 use native.Mathlib.Omega.{arith}
 use lib.Dec.{eqb, leb}
@@ -12,8 +12,6 @@ use lib.ListN.{length, take}
 use Rattle.chains.specs.Walk.{first_of}
 use Rattle.chains.proofs.Tests.{Test, holds, fails, eq_test, eq_false, true_not_false}
 use Rattle.call_types.specs.declared.PendingPacket.{PendingPacket}
-use Rattle.call_types.specs.declared.Pending.{Pending}
-use Rattle.call_types.specs.declared.Pending.TheVariants as pending
 use Rattle.call_types.specs.declared.ReplyKey.{ReplyKey}
 use Rattle.probe_ring.specs.declared.HeldProbe.{HeldProbe}
 use Rattle.probe_ring.specs.Row.{unanswered, packet_after, after_reply}
@@ -98,12 +96,12 @@ module _ (es : List Event) where
       ∙ ap (take n) (sym (rows_kept (remembered s o t p) (distinct (rememberings es)) s (other_row s o t p)))
       ∙ take-map (probe_in (remembered s o t p ∷ es)) n (without s (distinct (rememberings es))))
 
-  pub packet-after : (p : Pending) (q : PendingPacket) → packet_after p q ≡ or_else (packet_of p) q
-  packet-after pending.Absent q = refl
-  packet-after (pending.Held x) q = refl
+  pub packet-after : (p : Option PendingPacket) (q : PendingPacket) → packet_after p q ≡ or_else (packet_of p) q
+  packet-after None q = refl
+  packet-after (Some x) q = refl
 
   -- the row of its own sequence after a reply
-  pub replied_row : (k : ReplyKey) (p : Pending) → after_reply p (probe_in es k.sender) ≡ probe_in (replied k (packet_of p) ∷ es) k.sender
+  pub replied_row : (k : ReplyKey) (p : Option PendingPacket) → after_reply p (probe_in es k.sender) ≡ probe_in (replied k (packet_of p) ∷ es) k.sender
   unfolding after_reply replies history.ordinal history.train packet
   replied_row k p = rw (eqb_same k.sender, packet-after p (packet k.sender es), one_more_lem (replies k.sender es))
 
@@ -111,7 +109,7 @@ module _ (es : List Event) where
   unfolding replies history.ordinal history.train packet
   unreplied_row k p x e = rw (eqb_flip x k.sender, e)
 
-  each_row : (k : ReplyKey) (p : Pending) (x : ℕ) → cond (eqb k.sender x) (after_reply p (probe_in es k.sender)) (probe_in es x) ≡ probe_in (replied k (packet_of p) ∷ es) x
+  each_row : (k : ReplyKey) (p : Option PendingPacket) (x : ℕ) → cond (eqb k.sender x) (after_reply p (probe_in es k.sender)) (probe_in es x) ≡ probe_in (replied k (packet_of p) ∷ es) x
   each_row k p x = go (eq_test k.sender x)
     where
       go : Test (k.sender ≡ x) (eqb k.sender x) → cond (eqb k.sender x) (after_reply p (probe_in es k.sender)) (probe_in es x) ≡ probe_in (replied k (packet_of p) ∷ es) x
@@ -119,7 +117,7 @@ module _ (es : List Event) where
       go (fails q t) = rw t (unreplied_row k (packet_of p) x t)
 
   -- A REPLY AMONG THE HELD ONES.
-  pub rows_replied : (k : ReplyKey) (p : Pending) (ss : List ℕ) → replacing (after_reply p (probe_in es k.sender)) (map (probe_in es) ss) ≡ map (probe_in (replied k (packet_of p) ∷ es)) ss
+  pub rows_replied : (k : ReplyKey) (p : Option PendingPacket) (ss : List ℕ) → replacing (after_reply p (probe_in es k.sender)) (map (probe_in es) ss) ≡ map (probe_in (replied k (packet_of p) ∷ es)) ss
   unfolding replacing after_reply
   rows_replied k p [] = refl
   rows_replied k p (x ∷ ss) =

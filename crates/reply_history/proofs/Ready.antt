@@ -1,10 +1,11 @@
 -- Before a unique reply counts, its probe is held: as it was, or remembered without ordinal. What the rooms then hold, and where its row stands.
 -- Assumes nothing.
+use Rattle.std.specs.Prelude.{Option, None}
+use Rattle.call_types.specs.declared.PendingPacket.{PendingPacket}
 use mathlib.Core.Path.{◌≡◌, refl, ap, ◌∙◌}
 use mathlib.Core.Bool.{Bool, true, false, not, ◌&&◌}
 use mathlib.Core.Logic.{◌≢◌}
 use mathlib.Core.List.{List, map}
-use mathlib.Core.Option.{none}
 use Prim.Native.Nat.{ℕ, ◌<◌}
 use native.Mathlib.Omega.{arith}
 use borrow.Author.Tests.{ltb-true}
@@ -12,8 +13,6 @@ use lib.Dec.{eqb, ltb}
 use lib.ListN.{length}
 use Rattle.chains.specs.Links.{word_of}
 use Rattle.call_types.specs.declared.ReplyKey.{ReplyKey}
-use Rattle.call_types.specs.declared.Pending.{Pending}
-use Rattle.call_types.specs.declared.Ordinal.TheVariants as ordinal
 use Rattle.probe_ring.specs.declared.HeldProbe.{HeldProbe}
 use Rattle.probe_ring.specs.Row.{unanswered, packet_after, ProbeFits}
 use Rattle.probe_ring.specs.Held as list
@@ -33,7 +32,7 @@ use Rattle.reply_history.proofs.Probes.{rows_has, rows_first, rows_remember, pac
 use Rattle.reply_history.proofs.Counts.{tally-same}
 
 module _ (N : ℕ) (some-room : 0 < N) (by_key : ReplyKey → ℕ) (by_number : ℕ → ℕ) (es : List Event) (r : Rooms) (sound : Sound N by_number r)
-    (are : probe_ring.held N r ≡ map (probe_in es) (held N es)) (k : ReplyKey) (fits : KeyFits k) (p : Pending) where
+    (are : probe_ring.held N r ≡ map (probe_in es) (held N es)) (k : ReplyKey) (fits : KeyFits k) (p : Option PendingPacket) where
   -- the events once the probe is held
   abbrev es' : List Event
   es' = ready N es k (packet_of p)
@@ -53,7 +52,7 @@ module _ (N : ℕ) (some-room : 0 < N) (by_key : ReplyKey → ℕ) (by_number : 
 
   -- the probe as it is remembered where it is not held
   abbrev new : HeldProbe
-  new = unanswered k.sender (packet_after p no_packet) ordinal.Absent 0
+  new = unanswered k.sender (packet_after p no_packet) None 0
 
   new-fits : ProbeFits new
   new-fits = record { sequence_in = fits.sender_in; replies_in = omega arith; ordinal_in = tt; train_in = omega arith }
@@ -81,8 +80,8 @@ module _ (N : ℕ) (some-room : 0 < N) (by_key : ReplyKey → ℕ) (by_number : 
       rem.after-lost ∙ ap (loses N new) are ∙ loses_is N some-room es new in
       rw (found_is k.sender, e) (record {
         after_sound = rem.after_sound;
-        after_are = rw e (rem.after-held ∙ ap (remembering N new) are ∙ rw (packet-after es p no_packet) (rows_remember es N k.sender none 0 (or_else (packet_of p) no_packet)));
-        after-has = rw e (held_new es N k.sender none 0 (or_else (packet_of p) no_packet) some-room);
+        after_are = rw e (rem.after-held ∙ ap (remembering N new) are ∙ rw (packet-after es p no_packet) (rows_remember es N k.sender None 0 (or_else (packet_of p) no_packet)));
+        after-has = rw e (held_new es N k.sender None 0 (or_else (packet_of p) no_packet) some-room);
         after-found = rem.after-found;
         after-evicted = rw (e, told) (tally-same (eqb (length (held N es)) N && not (has (held N es) k.sender)) (probes_evicted N es));
         after-lost = rw (e, loss) (tally-same (eqb (length (held N es)) N && not (has (held N es) k.sender) && eqb (replies (oldest k.sender (held N es)) es) 0) (evicted_unanswered N es));

@@ -1,12 +1,11 @@
 -- A served `sent` keeps what the ledger shows of replies.
 -- Assumes nothing.
+use Rattle.std.specs.Prelude.{Some}
 use mathlib.Core.Path.{◌≡◌, refl, ap, ◌∙◌}
 use mathlib.Core.List.{List, ◌∷◌}
-use mathlib.Core.Option.{some}
 use Prim.Native.Nat.{ℕ, ◌<◌}
 use native.Mathlib.Omega.{arith}
 use Rattle.call_types.specs.declared.ReplyKey.{ReplyKey}
-use Rattle.call_types.specs.declared.Ordinal.TheVariants as ordinal
 use Rattle.call_types.specs.declared.SentProbe.{SentProbe}
 use Rattle.call_types.specs.declared.Call.{Call}
 use Rattle.call_types.specs.declared.Call.TheVariants.{Sent}
@@ -29,7 +28,7 @@ module _ (N : ℕ) (some-room : 0 < N) (by_key : ReplyKey → ℕ) (by_number : 
     (f : RepliesFollow N by_key by_number copies h s) where
   -- the probe as it is remembered
   abbrev new : HeldProbe
-  new = unanswered p.sequence p.packet (ordinal.Number p.ordinal) p.train
+  new = unanswered p.sequence p.packet (Some p.ordinal) p.train
 
   new-fits : ProbeFits new
   new-fits = record { sequence_in = fits.sequence_in; replies_in = omega arith; ordinal_in = fits.ordinal_in; train_in = fits.train_in }
@@ -49,7 +48,7 @@ module _ (N : ℕ) (some-room : 0 < N) (by_key : ReplyKey → ℕ) (by_number : 
         (λ i j l. rem.after_elsewhere i j (λ e. omega (arith, e)) (λ e. omega (arith, e))) f.keys_sound;
     keys_are = keys_alike N s.rooms.keys s.rooms.slots s.rooms.slots s.rooms.links _ s.ledger.tables.keys ∙ f.keys_are ∙ keys_same;
     probes_sound = rem.after_sound;
-    probes_are = rem.after-held ∙ ap (remembering N new) f.probes_are ∙ rows_remember (events N h) N p.sequence (some p.ordinal) p.train p.packet;
+    probes_are = rem.after-held ∙ ap (remembering N new) f.probes_are ∙ rows_remember (events N h) N p.sequence (Some p.ordinal) p.train p.packet;
     awaits_is = f.awaits_is;
     copies_are = f.copies_are;
     replies_are =

@@ -1,19 +1,18 @@
 -- The rows of words beside the keys keep their width through an observation, so the keys' rooms stay sound.
 -- Assumes nothing.
+use Rattle.correlation.specs.Class.{Class}
+use Rattle.std.specs.Prelude.{Option, Some, None, Ok, Err}
+use Rattle.call_types.specs.declared.FollowUpTelemetry.{FollowUpTelemetry}
+use Rattle.correlation.specs.declared.ReplyRecord.{ReplyRecord}
 use mathlib.Core.Path.{◌≡◌, refl}
 use mathlib.Core.List.{List}
 use Prim.Native.Nat.{ℕ}
 use lib.ListN.{length}
 use Rattle.call_types.specs.declared.ReplyKey.{ReplyKey}
-use Rattle.call_types.specs.declared.FollowUp.{FollowUp}
-use Rattle.call_types.specs.declared.FollowUp.TheVariants as follow
 use Rattle.call_types.specs.declared.ReplyObservation.{ReplyObservation}
 use Rattle.chains.specs.declared.Ring.{Ring}
 use Rattle.correlation.specs.declared.Slot.{Slot}
-use Rattle.correlation.specs.declared.Unique.{Unique}
-use Rattle.correlation.specs.declared.Unique.TheVariants as unique
-use Rattle.correlation.specs.declared.follow.Class.{Class}
-use Rattle.correlation.specs.declared.follow.Class.TheVariants as class
+use Rattle.correlation.specs.declared.follow.Miss.TheVariants as miss
 use Rattle.correlation.specs.Words.{slot_of, words_by, words_of, slot_flags}
 use Rattle.correlation.specs.Slots.{raised, corrected_slot}
 use Rattle.follow_ups.specs.declared.FollowUps.{FollowUps}
@@ -21,9 +20,9 @@ use Rattle.key_ring.specs.Table.{table_of, words_at, newest_slot, Sound}
 use Rattle.key_ring.proofs.Tables.{store_sound}
 use Rattle.ledger_steps.specs.Observe.{corrected_at, class_at, own_words, follow_by, follow_in, holder_of, own_in}
 
-by_three : (count own : ℕ) (u : Unique) → length (words_by count own u) ≡ 3
-by_three count own unique.Absent = refl
-by_three count own (unique.Record r) = refl
+by_three : (count own : ℕ) (u : Option ReplyRecord) → length (words_by count own u) ≡ 3
+by_three count own None = refl
+by_three count own (Some r) = refl
 
 -- a slot has three words
 pub words_three : (s : Slot) → length (words_of s) ≡ 3
@@ -33,16 +32,13 @@ words_three s = by_three s.count (slot_flags s) s.unique
 module _ (N : ℕ) (by_key : ReplyKey → ℕ) (by_number : ℕ → ℕ) (keys slots links : List (List ℕ)) (ring : Ring)
     (s : Sound N by_key by_number (table_of keys slots links ring)) where
   corrected_sound : (x : Class) (p : ℕ) → Sound N by_key by_number (table_of keys (corrected_at x N slots p) links ring)
-  corrected_sound class.Unavailable p = s
-  corrected_sound class.Ambiguous p = s
-  corrected_sound class.Unmatched p = s
-  corrected_sound class.Repeated p = s
-  corrected_sound (class.Matched m) p =
+  corrected_sound (Err why) p = s
+  corrected_sound (Ok m) p =
       store_sound N by_key by_number (table_of keys slots links ring) s p (words_of (corrected_slot (slot_of (words_at N slots p)))) (words_three (corrected_slot (slot_of (words_at N slots p))))
 
-  by_sound : (x : FollowUp) (fs : FollowUps) (o : ReplyObservation) → Sound N by_key by_number (table_of keys (follow_by N by_key by_number x fs ring keys slots links o).slots links ring)
-  by_sound follow.Absent fs o = s
-  by_sound (follow.Telemetry f) fs o =
+  by_sound : (x : Option FollowUpTelemetry) (fs : FollowUps) (o : ReplyObservation) → Sound N by_key by_number (table_of keys (follow_by N by_key by_number x fs ring keys slots links o).slots links ring)
+  by_sound None fs o = s
+  by_sound (Some f) fs o =
       corrected_sound (class_at N slots (holder_of N by_key by_number ring keys slots links f.sequence) o.key.reflector o.offset f) (holder_of N by_key by_number ring keys slots links f.sequence)
 
   -- a follow-up corrects at most one slot

@@ -1,5 +1,6 @@
 -- A unique reply: its key is the newest of the accepted ones, its probe has one reply more, and every count is the history's.
 -- Assumes nothing.
+use Rattle.std.specs.Prelude.{Some, None}
 use mathlib.Core.Path.{◌≡◌, refl, sym, ap, ◌∙◌, subst}
 use mathlib.Core.Bool.{Bool, true, false, cond}
 use mathlib.Core.List.{List, [], ◌∷◌, map}
@@ -8,7 +9,6 @@ use native.Mathlib.Omega.{arith}
 use lib.Dec.{leb, eqb}
 use lib.ListN.{take, get_or, set}
 use Rattle.call_types.specs.declared.ReplyKey.{ReplyKey}
-use Rattle.call_types.specs.declared.Ordinal.TheVariants as ordinal
 use Rattle.call_types.specs.declared.Reply.{Reply}
 use Rattle.call_types.specs.declared.Call.{Call}
 use Rattle.call_types.specs.declared.Call.TheVariants.{Accept}
@@ -49,7 +49,7 @@ word-ordinal : (known number : ℕ) → number < 2 ^ 32 → OrdinalFits (row.ord
 unfolding row.ordinal_of
 word-ordinal known number l = go (eqb known 0)
   where
-    go : (b : Bool) → OrdinalFits (cond b ordinal.Absent (ordinal.Number number))
+    go : (b : Bool) → OrdinalFits (cond b None (Some number))
     go true = tt
     go false = l
 

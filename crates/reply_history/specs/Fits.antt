@@ -1,14 +1,8 @@
 -- What the types of a call's numbers say: each fits its bits. Assumes nothing.
-use Rattle.std.specs.Prelude.{List, [], ◌∷◌, ◌^◌, ◌<◌}
+use Rattle.std.specs.Prelude.{List, [], ◌∷◌, ◌^◌, ◌<◌, Option, Some, None, ℕ}
 use Rattle.call_types.specs.declared.ReplyKey.{ReplyKey}
 use Rattle.call_types.specs.declared.CounterPoint.{CounterPoint}
-use Rattle.call_types.specs.declared.Counters.{Counters}
-use Rattle.call_types.specs.declared.Counters.TheVariants as counters
-use Rattle.call_types.specs.declared.Ordinal.{Ordinal}
-use Rattle.call_types.specs.declared.Ordinal.TheVariants as ordinal
 use Rattle.call_types.specs.declared.FollowUpTelemetry.{FollowUpTelemetry}
-use Rattle.call_types.specs.declared.FollowUp.{FollowUp}
-use Rattle.call_types.specs.declared.FollowUp.TheVariants as follow
 use Rattle.call_types.specs.declared.SentProbe.{SentProbe}
 use Rattle.call_types.specs.declared.ReplyObservation.{ReplyObservation}
 use Rattle.call_types.specs.declared.Call.{Call}
@@ -27,9 +21,9 @@ pub record SentFits (s : SentProbe) : Type 0 where
   pub train_in : s.train < 2 ^ 32
 
 -- an ordinal, where there is one
-abbrev pub OrdinalFits : Ordinal → Type 0
-OrdinalFits ordinal.Absent = Unit
-OrdinalFits (ordinal.Number n) = n < 2 ^ 32
+abbrev pub OrdinalFits : Option ℕ → Type 0
+OrdinalFits None = Unit
+OrdinalFits (Some n) = n < 2 ^ 32
 
 -- the three counters
 pub record PointFits (c : CounterPoint) : Type 0 where
@@ -38,9 +32,9 @@ pub record PointFits (c : CounterPoint) : Type 0 where
   pub transmitted_in : c.transmitted.0 < 2 ^ 32
 
 -- the counters, where there are any
-abbrev pub CountersFit : Counters → Type 0
-CountersFit counters.Absent = Unit
-CountersFit (counters.Point c) = PointFits c
+abbrev pub CountersFit : Option CounterPoint → Type 0
+CountersFit None = Unit
+CountersFit (Some c) = PointFits c
 
 -- a follow-up's numbers
 pub record TelemetryFits (f : FollowUpTelemetry) : Type 0 where
@@ -48,9 +42,9 @@ pub record TelemetryFits (f : FollowUpTelemetry) : Type 0 where
   pub timestamp_in : f.timestamp < 2 ^ 64
 
 -- a follow-up, where there is one
-abbrev pub FollowFits : FollowUp → Type 0
-FollowFits follow.Absent = Unit
-FollowFits (follow.Telemetry f) = TelemetryFits f
+abbrev pub FollowFits : Option FollowUpTelemetry → Type 0
+FollowFits None = Unit
+FollowFits (Some f) = TelemetryFits f
 
 -- what `observe` is told
 pub record ObserveFits (o : ReplyObservation) : Type 0 where

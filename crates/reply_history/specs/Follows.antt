@@ -1,10 +1,7 @@
 -- What the ledger shows of replies, from the plain list of served calls, newest first: the accepted keys, the held probes, the awaiting key
 -- and every count. N is how many keys and probes are held. Assumes nothing.
-use Rattle.std.specs.Prelude.{◌≡◌, Bool, false, List, map, ℕ, min}
-use Rattle.std.proofs.Math.Option.{Option, none, some}
+use Rattle.std.specs.Prelude.{◌≡◌, Bool, false, List, map, ℕ, min, Some, None, Option}
 use Rattle.call_types.specs.declared.ReplyKey.{ReplyKey}
-use Rattle.call_types.specs.declared.Ordinal.{Ordinal}
-use Rattle.call_types.specs.declared.Ordinal.TheVariants as ordinal
 use Rattle.call_types.specs.declared.Call.{Call}
 use Rattle.probe_ring.specs.declared.HeldProbe.{HeldProbe}
 use Rattle.probe_ring.specs.Row.{most_replies}
@@ -12,8 +9,6 @@ use Rattle.probe_ring.specs.Rooms as probe_ring
 use Rattle.probe_ring.specs.Sound as probe_laws
 use Rattle.key_ring.specs.Table as key_ring
 use Rattle.key_ring.specs.Table.{Table, table_of, keys_of}
-use Rattle.replies.specs.declared.Reflector.{Reflector}
-use Rattle.replies.specs.declared.Reflector.TheVariants as reflector
 use Rattle.replies.specs.declared.Replies.{Replies}
 use Rattle.history.specs.Counting.{present}
 use Rattle.history.specs.Ledger.{Event, accepted, last_accepted, held, replies, packet, awaiting, events, same_key, ReplyCounts, reply_counts, last_reflector, highest_reflector}
@@ -25,14 +20,14 @@ use Rattle.ledger_steps.specs.Rooms.{LedgerStand}
 -- ---- the history's words in the code's types
 
 -- a probe's ordinal, or none
-abbrev pub as_ordinal : Option ℕ → Ordinal
-as_ordinal none = ordinal.Absent
-as_ordinal (some n) = ordinal.Number n
+abbrev pub as_ordinal : Option ℕ → Option ℕ
+as_ordinal None = None
+as_ordinal (Some n) = Some n
 
 -- the last or the highest reflector number, or none before the first unique reply
-abbrev pub as_reflector : Option ℕ → Reflector
-as_reflector none = reflector.Absent
-as_reflector (some n) = reflector.Number n
+abbrev pub as_reflector : Option ℕ → Option ℕ
+as_reflector None = None
+as_reflector (Some n) = Some n
 
 -- the probe s after these events; its replies are counted up to 65,535
 abbrev pub probe_in : List Event → ℕ → HeldProbe
@@ -53,8 +48,8 @@ replies_in N copies h = replies_by (reply_counts N copies h) (accepted (events N
 
 -- this key awaits its observe
 abbrev pub awaits_in : Option ReplyKey → ReplyKey → Bool
-awaits_in none k = false
-awaits_in (some a) k = same_key k a
+awaits_in None k = false
+awaits_in (Some a) k = same_key k a
 
 -- the answer of an accept
 abbrev pub as_accepted : history.Answer → Accepted

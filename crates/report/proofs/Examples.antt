@@ -1,4 +1,5 @@
 -- Worked examples: that of document 01, a long one, a session without a monitor, and a link that sent nothing. Assumes nothing.
+use Rattle.std.specs.Prelude.{Some, None}
 use mathlib.Core.List.{[], ◌∷◌, ◌++◌}
 use mathlib.Core.Path.{◌≡◌, refl}
 use Prim.Native.Nat.{ℕ}
@@ -7,9 +8,9 @@ use Rattle.decimal.specs.Decimal.{decimal, digits_within}
 use Rattle.template.specs.Text.{bytes}
 use Rattle.template.specs.Filled.{filled}
 use Rattle.template.specs.declared.Shown.TheVariants as shown
-use Rattle.report.specs.declared.figures.Value.TheVariants.{Absent, Number}
 use Rattle.report.specs.declared.figures.Session.{Session}
-use Rattle.report.specs.declared.figures.Session.TheVariants.{None, Active, Failed}
+use Rattle.report.specs.declared.figures.Session.TheVariants as state
+use Rattle.report.specs.declared.figures.Session.TheVariants.{Active, Failed}
 use Rattle.report.specs.declared.figures.Figures.{Figures}
 use Rattle.report.specs.Lines.{shown_of, state_of, losses_of, values_of, text_of}
 
@@ -18,15 +19,15 @@ abbrev pub documented : Figures
 documented =
     record {
       played = record { records = 4; turned_away = 0 };
-      loss = record { requested = 1; unobserved = 0; thousandths = Number 0 };
+      loss = record { requested = 1; unobserved = 0; thousandths = Some 0 };
       replies = record { unique = 1; duplicate = 1; unknown = 0 };
       probes = record { answered = 1; additional = 0; late = 0 };
       order = record { reordered = 0; independent = 0 };
       followup = record { observations = 0; matched = 0; repeated = 0; unmatched = 0; ambiguous = 0; unavailable = 0 };
       direct = record { observations = 0; unavailable = 0; discontinuities = 0; reordered = 0 };
-      missing = record { forward = Absent; reverse = Absent };
+      missing = record { forward = None; reverse = None };
       session = Active 0;
-      rtt = record { samples = 1; min = Number 50; max = Number 50 };
+      rtt = record { samples = 1; min = Some 50; max = Some 50 };
       evicted = record { unanswered = 0 };
     }
 
@@ -52,15 +53,15 @@ abbrev alike : ℕ → Session → Figures
 alike n s =
     record {
       played = record { records = n; turned_away = n };
-      loss = record { requested = n; unobserved = n; thousandths = Number n };
+      loss = record { requested = n; unobserved = n; thousandths = Some n };
       replies = record { unique = n; duplicate = n; unknown = n };
       probes = record { answered = n; additional = n; late = n };
       order = record { reordered = n; independent = n };
       followup = record { observations = n; matched = n; repeated = n; unmatched = n; ambiguous = n; unavailable = n };
       direct = record { observations = n; unavailable = n; discontinuities = n; reordered = n };
-      missing = record { forward = Number n; reverse = Number n };
+      missing = record { forward = Some n; reverse = Some n };
       session = s;
-      rtt = record { samples = n; min = Number n; max = Number n };
+      rtt = record { samples = n; min = Some n; max = Some n };
       evicted = record { unanswered = n };
     }
 
@@ -70,11 +71,11 @@ unfolding text_of values_of filled decimal digits_within
 longest = refl
 
 -- Without a monitor the state is `none` and the losses are 0.
-pub without_monitor : filled (bytes "state # losses #\n") (state_of None ∷ shown.Number (losses_of None) ∷ []) ≡ bytes "state none losses 0\n"
+pub without_monitor : filled (bytes "state # losses #\n") (state_of state.None ∷ shown.Number (losses_of state.None) ∷ []) ≡ bytes "state none losses 0\n"
 unfolding filled decimal digits_within
 without_monitor = refl
 
 -- With nothing requested there is no figure of loss, and no 0 that reads as one.
-pub silent : filled (bytes "requested # unobserved # thousandths #\n") (shown.Number 0 ∷ shown.Number 0 ∷ shown_of Absent ∷ []) ≡ bytes "requested 0 unobserved 0 thousandths -\n"
+pub silent : filled (bytes "requested # unobserved # thousandths #\n") (shown.Number 0 ∷ shown.Number 0 ∷ shown_of None ∷ []) ≡ bytes "requested 0 unobserved 0 thousandths -\n"
 unfolding filled decimal digits_within
 silent = refl

@@ -1,13 +1,12 @@
 -- The report (document 01, 'Log and program'): its lines with a place for each value, and the values in that order. Assumes nothing.
-use Rattle.std.specs.Prelude.{List, [], ◌∷◌, ◌++◌, ℕ}
+use Rattle.std.specs.Prelude.{List, [], ◌∷◌, ◌++◌, ℕ, Option, Some, None}
 use Rattle.template.specs.Text.{bytes}
 use Rattle.template.specs.Filled.{filled}
 use Rattle.template.specs.declared.Shown.{Shown}
 use Rattle.template.specs.declared.Shown.TheVariants as shown
-use Rattle.report.specs.declared.figures.Value.{Value}
-use Rattle.report.specs.declared.figures.Value.TheVariants.{Absent, Number}
 use Rattle.report.specs.declared.figures.Session.{Session}
-use Rattle.report.specs.declared.figures.Session.TheVariants.{None, Idle, Active, Failed}
+use Rattle.report.specs.declared.figures.Session.TheVariants as state
+use Rattle.report.specs.declared.figures.Session.TheVariants.{Idle, Active, Failed}
 use Rattle.report.specs.declared.figures.Figures.{Figures}
 
 -- the end of a line
@@ -30,20 +29,20 @@ template =
     ++ bytes "evicted unanswered #\n"
 
 -- a value as it is: a number, or absent
-abbrev pub shown_of : Value → Shown
-shown_of Absent = shown.Absent
-shown_of (Number n) = shown.Number n
+abbrev pub shown_of : Option ℕ → Shown
+shown_of None = shown.Absent
+shown_of (Some n) = shown.Number n
 
 -- the word of a session's state; without a monitor it is `none`
 abbrev pub state_of : Session → Shown
-state_of None = shown.None
+state_of state.None = shown.None
 state_of (Idle losses) = shown.Idle
 state_of (Active losses) = shown.Active
 state_of (Failed losses) = shown.Failed
 
 -- its consecutive losses; without a monitor they are 0
 abbrev pub losses_of : Session → ℕ
-losses_of None = 0
+losses_of state.None = 0
 losses_of (Idle losses) = losses
 losses_of (Active losses) = losses
 losses_of (Failed losses) = losses

@@ -1,8 +1,6 @@
 -- What the call of the report answers and leaves in the lent buffer. Assumes nothing.
-use Rattle.std.specs.Prelude.{Bool, true, false, List, [], ◌∷◌, ◌++◌, ℕ, eqb, length, drop}
+use Rattle.std.specs.Prelude.{Bool, true, false, List, [], ◌∷◌, ◌++◌, ℕ, eqb, length, drop, Result, Ok, Err}
 use Rattle.limits.specs.Refusals.{wrong_room}
-use Rattle.report.specs.declared.ReportAnswer.{ReportAnswer}
-use Rattle.report.specs.declared.ReportAnswer.TheVariants.{Written, Refused}
 use Rattle.report.specs.declared.figures.Figures.{Figures}
 use Rattle.report.specs.Lines.{text_of}
 
@@ -17,9 +15,9 @@ pub record Outcome : Type 0 where
   pub buffer : List ℕ
 
 -- the number and the values of each case of the answer
-unfoldable pub outcome : ReportAnswer → List ℕ → Outcome
-outcome (Written n) buffer = record { number = 0; values = n ∷ []; buffer = buffer }
-outcome (Refused n) buffer = record { number = n; values = []; buffer = buffer }
+unfoldable pub outcome : Result ℕ ℕ → List ℕ → Outcome
+outcome (Ok n) buffer = record { number = 0; values = n ∷ []; buffer = buffer }
+outcome (Err n) buffer = record { number = n; values = []; buffer = buffer }
 
 -- the first where the test holds, else the second
 abbrev pub pick_outcome : Bool → Outcome → Outcome → Outcome

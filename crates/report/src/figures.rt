@@ -12,7 +12,7 @@ pub struct PlayedRecords {
 pub struct Loss {
     pub requested: u64,
     pub unobserved: u64,
-    pub thousandths: Value,
+    pub thousandths: Option<u64>,
 }
 
 // `unique`, `duplicate`, `unknown`.
@@ -58,21 +58,15 @@ pub struct Direct {
     pub reordered: u64,
 }
 
-// A number that may be absent.
-#[derive(Clone, Copy)]
-pub enum Value {
-    Absent,
-    Number(u64),
-}
-
 // `missing forward`, `reverse`.
 #[derive(Clone, Copy)]
 pub struct Missing {
-    pub forward: Value,
-    pub reverse: Value,
+    pub forward: Option<u64>,
+    pub reverse: Option<u64>,
 }
 
-// `state` with its consecutive losses. Without a monitor there are none to be given: the report shows 0.
+// `state` with its consecutive losses. Without a monitor there are none to be given: the report shows 0, and a word of its own, as for each state,
+// so it is a fourth case beside them.
 #[derive(Clone, Copy)]
 pub enum Session {
     None,
@@ -85,8 +79,8 @@ pub enum Session {
 #[derive(Clone, Copy)]
 pub struct RoundTrip {
     pub samples: u64,
-    pub min: Value,
-    pub max: Value,
+    pub min: Option<u64>,
+    pub max: Option<u64>,
 }
 
 // `evicted unanswered` (document 02, Q-3).

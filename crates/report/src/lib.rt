@@ -3,27 +3,22 @@ pub mod figures;
 mod values;
 
 ghost use Rattle.std.specs.Prelude.{◌≡◌};
+ghost use Rattle.limits.specs.Numbers.{numbered};
 ghost use Rattle.report.specs.Report.{outcome, report_of};
 
 use crate::figures::Figures;
+use limits::Refusal;
 pub use template::words;
 
 // The size of the buffer: the template with the greatest number at each place fits it.
 pub const REPORT_ROOM: usize = 1024;
 
-// The length of the text, or the refusal's number.
-#[derive(Clone, Copy)]
-pub enum ReportAnswer {
-    Written(usize),
-    Refused(u8),
-}
-
-// Writes the report at the start of the buffer and leaves all bytes behind it as they are. A buffer of another size is refused.
-pub fn report(buffer: &mut [u8], figures: Figures) -> ReportAnswer
-    ensures { outcome result buffer.new ≡ report_of buffer.old figures }
+// Writes the report at the start of the buffer and leaves all bytes behind it as they are: the length of the text. A buffer of another size is refused.
+pub fn report(buffer: &mut [u8], figures: Figures) -> Result<usize, Refusal>
+    ensures { outcome (numbered result) buffer.new ≡ report_of buffer.old figures }
 {
     if buffer.len() != REPORT_ROOM {
-        return ReportAnswer::Refused(limits::WRONG_ROOM);
+        return Err(Refusal::WrongRoom);
     }
     let values = values::values_of(figures);
     let end = template::fill(
@@ -41,5 +36,5 @@ pub fn report(buffer: &mut [u8], figures: Figures) -> ReportAnswer
         evicted unanswered #\n",
         values,
     );
-    ReportAnswer::Written(end)
+    Ok(end)
 }

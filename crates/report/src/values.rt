@@ -2,15 +2,15 @@
 ghost use Rattle.std.specs.Prelude.{◌≡◌};
 ghost use Rattle.report.specs.Lines.{shown_of, state_of, losses_of, values_of};
 
-use crate::figures::{Figures, Session, Value};
+use crate::figures::{Figures, Session};
 use template::{PLACES, Shown};
 
-fn shown_of(value: Value) -> Shown
+fn shown_of(value: Option<u64>) -> Shown
     ensures { result ≡ shown_of value }
 {
     match value {
-        Value::Absent => Shown::Absent,
-        Value::Number(n) => Shown::Number(n),
+        None => Shown::Absent,
+        Some(n) => Shown::Number(n),
     }
 }
 

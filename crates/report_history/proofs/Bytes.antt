@@ -1,4 +1,5 @@
 -- The numbers of a call that is read from a log fit their types. Assumes nothing.
+use Rattle.std.specs.Prelude.{Option, Some, None, Err, Ok, Result}
 use mathlib.Core.Path.{◌≡◌, ap, subst}
 use mathlib.Core.Bool.{Bool, true, false, cond}
 use mathlib.Core.List.{List}
@@ -14,12 +15,10 @@ use Rattle.observe_history.specs.FollowUps.{QualityFits}
 use Rattle.record_parts.specs.declared.Entry.{Entry}
 use Rattle.record_parts.specs.declared.Entry.TheVariants as entry
 use Rattle.record_parts.specs.Parts.{call_of, flag, ordinal_by, counters_by, follow_by, estimates_by}
-use Rattle.log_record.specs.Records.{key_at, sent_at, accept_at, observe_at, converted_at, entry_of, answer, bad_record, read_number, read_of}
+use Rattle.log_record.specs.Records.{key_at, sent_at, accept_at, observe_at, converted_at, entry_of, good, answer, bad_record, read_of}
 use Rattle.log_whole.specs.declared.Settings.{Settings}
-use Rattle.log_whole.specs.declared.Log.{Log}
-use Rattle.log_whole.specs.declared.Log.TheVariants as log'
-use Rattle.log_whole.specs.declared.PlayedCall.{PlayedCall}
-use Rattle.log_whole.specs.declared.PlayedCall.TheVariants as read
+use Rattle.log_whole.specs.declared.Fault.{Fault}
+use Rattle.log_whole.specs.declared.Fault.TheVariants as fault
 use Rattle.log_whole.specs.Logs.{trailer_at, count_of, settings_of, most_bytes, trailer_good, record_at, played_by, call_at, log_of, number_by, records_number, first_of, bad_trailer}
 use Rattle.link_history.specs.Fresh.{Fits, AllFits}
 use Rattle.log_play_parts.proofs.Bytes.{bytes_drop, bytes_take, two_bytes, four_bytes, eight_bytes}
@@ -76,19 +75,20 @@ module _ (r : List ℕ) (h : BytesIn r) where
 
 -- ---- the calls of a log
 
-abbrev PlayedFits : PlayedCall → Type 0
-PlayedFits read.Nothing = Unit
-PlayedFits (read.Call c) = Fits c
+abbrev PlayedFits : Option Call → Type 0
+PlayedFits None = Unit
+PlayedFits (Some c) = Fits c
 
-answer-fits : (n : ℕ) (e : Entry) → Fits (call_of e) → PlayedFits (played_by (answer n e))
-answer-fits zero e f = f
-answer-fits (suc n) e f = tt
+answer-fits : (sized kept : Bool) (e : Entry) → Fits (call_of e) → PlayedFits (played_by (answer sized kept e))
+answer-fits true true e f = f
+answer-fits true false e f = tt
+answer-fits false kept e f = tt
 
 read_fits : (r : List ℕ) → BytesIn r → PlayedFits (played_by (read_of r))
 unfolding read_of
-read_fits r h = answer-fits (read_number r) (entry_of r) (call_fits r h)
+read_fits r h = answer-fits (eqb (length r) 96) (good r) (entry_of r) (call_fits r h)
 
-picked_fits : (a b c : Bool) (p : PlayedCall) → PlayedFits p → PlayedFits (cond a read.Nothing (cond b (cond c p read.Nothing) read.Nothing))
+picked_fits : (a b c : Bool) (p : Option Call) → PlayedFits p → PlayedFits (cond a None (cond b (cond c p None) None))
 picked_fits true b c p f = tt
 picked_fits false true true p f = f
 picked_fits false true false p f = tt
@@ -100,10 +100,10 @@ played-fits log h i =
     picked_fits (ltb most_bytes (length log)) (trailer_good log) (ltb i (count_of log)) (played_by (read_of (record_at log (settings_of log).start i)))
     (read_fits (record_at log (settings_of log).start i) (bytes_take 96 (drop ((settings_of log).start + 96 * i) log) (bytes_drop ((settings_of log).start + 96 * i) log h)))
 
-then-fits : (p : PlayedCall) (cs : List Call) → PlayedFits p → AllFits cs → AllFits (call_then p cs)
+then-fits : (p : Option Call) (cs : List Call) → PlayedFits p → AllFits cs → AllFits (call_then p cs)
 unfolding AllFits
-then-fits read.Nothing cs f w = w
-then-fits (read.Call c) cs f w = (f, w)
+then-fits None cs f w = w
+then-fits (Some c) cs f w = (f, w)
 
 pub log_fits : (log : List ℕ) → BytesIn log → (n : ℕ) → AllFits (log_calls log n)
 unfolding AllFits log_calls
@@ -112,25 +112,21 @@ log_fits log h (suc n) = then-fits (call_at log n) (log_calls log n) (played-fit
 
 -- ---- the settings of a good log
 
-abbrev NotGood : Log → Type 0
-NotGood (log'.Good s) = ⊥
-NotGood log'.TooLong = Unit
-NotGood log'.BadTrailer = Unit
-NotGood (log'.BadRecord n) = Unit
+abbrev NotGood : Result Settings Fault → Type 0
+NotGood (Ok s) = ⊥
+NotGood (Err f) = Unit
 
-abbrev settings_in : Settings → Log → Settings
-settings_in d (log'.Good s) = s
-settings_in d log'.TooLong = d
-settings_in d log'.BadTrailer = d
-settings_in d (log'.BadRecord n) = d
+abbrev settings_in : Settings → Result Settings Fault → Settings
+settings_in d (Ok s) = s
+settings_in d (Err f) = d
 
-good_is : (a b c : Bool) (first : ℕ) (t s : Settings) → cond a (log'.Good t) (cond b (log'.BadRecord first) (cond c log'.BadTrailer log'.TooLong)) ≡ log'.Good s → t ≡ s
+good_is : (a b c : Bool) (first : ℕ) (t s : Settings) → cond a (Ok t) (cond b (Err (fault.BadRecord first)) (cond c (Err fault.BadTrailer) (Err fault.TooLong))) ≡ Ok s → t ≡ s
 good_is true b c first t s e = ap (settings_in t) e
 good_is false true c first t s e = absurd (subst NotGood e tt)
 good_is false false true first t s e = absurd (subst NotGood e tt)
 good_is false false false first t s e = absurd (subst NotGood e tt)
 
-pub good_settings : (log : List ℕ) (s : Settings) → log_of log ≡ log'.Good s → settings_of log ≡ s
+pub good_settings : (log : List ℕ) (s : Settings) → log_of log ≡ Ok s → settings_of log ≡ s
 unfolding log_of
 good_settings log s e =
     let n = number_by (ltb most_bytes (length log)) (trailer_good log) (records_number (first_of log) (settings_of log).count) in

@@ -1,4 +1,6 @@
 -- EACH NUMBER OF A LOG'S REPORT IS WHAT ITS SERVED CALLS CALL FOR. Assumes nothing.
+use Rattle.std.specs.Prelude.{Option, Some, None, Ok}
+use Rattle.monitor.specs.declared.Monitor.{Monitor}
 use mathlib.Core.Path.{◌≡◌, refl, ap, ◌∙◌}
 use mathlib.Core.Bool.{true}
 use mathlib.Core.List.{List}
@@ -12,17 +14,12 @@ use Rattle.history.specs.Ledger.{copies_of}
 use Rattle.ledger_state.specs.State.{fresh_ledger}
 use Rattle.ledger_snapshot.specs.Snapshot.{snapshot_of}
 use Rattle.ledger_steps.specs.Rooms.{Rooms}
-use Rattle.link_steps.specs.declared.Watch.{Watch}
-use Rattle.link_steps.specs.declared.Watch.TheVariants.{Absent, Present}
 use Rattle.link_steps.specs.Steps.{LinkStand, played, served, turned_away}
 use Rattle.link_history.specs.Fresh.{Watching, alone, watching, Making, MakingFits, fresh_watch, fresh_link, AllFits}
 use Rattle.link_history.specs.Monitor.{WatchShows}
 use Rattle.link_history.specs.Link.{served_from, LinkShows}
 use Rattle.link_history.proofs.Link.{served_is, made-calls-show, turned_away_adds_up}
 use Rattle.log_whole.specs.declared.Settings.{Settings}
-use Rattle.log_whole.specs.declared.Log.TheVariants as log'
-use Rattle.log_whole.specs.declared.PlayedCall.{PlayedCall}
-use Rattle.log_whole.specs.declared.PlayedCall.TheVariants as read
 use Rattle.log_whole.specs.Logs.{call_at, log_of}
 use Rattle.log_play.specs.Tally.{Tallied, recorded, tallied}
 use Rattle.report.specs.Lines.{text_of}
@@ -38,10 +35,10 @@ use Rattle.report_history.specs.Figures.{call_then, log_calls, watching_by, maki
 abbrev left_by : LinkStand → List Call → Tallied
 left_by k cs = record { standing = played k cs; turned = turned_away k cs }
 
-one_record : (k : LinkStand) (cs : List Call) (r : PlayedCall) → recorded (left_by k cs) r ≡ left_by k (call_then r cs)
+one_record : (k : LinkStand) (cs : List Call) (r : Option Call) → recorded (left_by k cs) r ≡ left_by k (call_then r cs)
 unfolding played turned_away
-one_record k cs read.Nothing = refl
-one_record k cs (read.Call c) = refl
+one_record k cs None = refl
+one_record k cs (Some c) = refl
 
 pub tallied_is : (log : List ℕ) (k : LinkStand) (n : ℕ) → tallied log (record { standing = k; turned = 0 }) n ≡ left_by k (log_calls log n)
 unfolding tallied played turned_away log_calls
@@ -62,11 +59,11 @@ start_is s secret queue rooms = λ i. record {
 
 -- ---- the figures of a link that shows what its served calls call for
 
-session_is : (v : Watching) (h : List Call) (w : Watch) (queue : List QueuedProbe) → WatchShows v h w queue → session_of w ≡ session_from v h
-session_is alone h Absent queue s = refl
-session_is alone h (Present m) queue s = absurd s
-session_is (watching threshold timeout) h Absent queue s = absurd s
-session_is (watching threshold timeout) h (Present m) queue s = ap (λ (x : Summary). session_by x.state x.consecutive_losses) s.state.summary
+session_is : (v : Watching) (h : List Call) (w : Option Monitor) (queue : List QueuedProbe) → WatchShows v h w queue → session_of w ≡ session_from v h
+session_is alone h None queue s = refl
+session_is alone h (Some m) queue s = absurd s
+session_is (watching threshold timeout) h None queue s = absurd s
+session_is (watching threshold timeout) h (Some m) queue s = ap (λ (x : Summary). session_by x.state x.consecutive_losses) s.state.summary
 
 pub figures_are : (copies : ℕ) (v : Watching) (h : List Call) (k : LinkStand) (records turned : ℕ) → LinkShows copies v h k
     → figures_of k.link records turned ≡ figures_from copies v h records turned
@@ -121,7 +118,7 @@ module _ (log : List ℕ) (s : Settings) (secret : List ℕ) (queue : List Queue
     report_is_history = ap text_of figures_are_history
 
     -- So is what the call of `report_log` leaves in the buffer, and what it answers.
-    pub buffer_is_history : (buffer : List ℕ) → fits queue rooms buffer ≡ true → log_of log ≡ log'.Good s → (report_of_log log secret queue rooms buffer).outcome ≡ written (text_of (report_from log s)) buffer
+    pub buffer_is_history : (buffer : List ℕ) → fits queue rooms buffer ≡ true → log_of log ≡ Ok s → (report_of_log log secret queue rooms buffer).outcome ≡ written (text_of (report_from log s)) buffer
     unfolding report_of_log
     buffer_is_history buffer f g =
         (λ j. (report_of_case (checked_by (f j) (g j)) (end_of log secret queue rooms) queue rooms buffer).outcome)

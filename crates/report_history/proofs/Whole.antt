@@ -1,5 +1,6 @@
 -- WHAT IS PRINTED OF A GOOD LOG IS THE REPORT OF ITS SERVED CALLS, whatever the bytes of the log are and whatever the rooms held.
 -- Assumes nothing.
+use Rattle.std.specs.Prelude.{Ok}
 use mathlib.Core.Path.{◌≡◌, subst}
 use mathlib.Core.Bool.{true}
 use mathlib.Core.List.{List}
@@ -11,7 +12,6 @@ use Rattle.ledger_steps.specs.Rooms.{Rooms}
 use Rattle.reply_history.specs.Stands.{RoomsFit}
 use Rattle.link_history.specs.Fresh.{QueueFits, MakingFits}
 use Rattle.log_whole.specs.declared.Settings.{Settings}
-use Rattle.log_whole.specs.declared.Log.TheVariants as log'
 use Rattle.log_whole.specs.Logs.{log_of}
 use Rattle.report.specs.Lines.{text_of}
 use Rattle.report.specs.Report.{written}
@@ -26,7 +26,7 @@ queue-fits : (n t : ℕ) (queue : List QueuedProbe) → length queue ≡ capacit
 queue-fits zero t queue long = tt
 queue-fits (suc n) t queue long = long
 
-module _ (log : List ℕ) (h : BytesIn log) (s : Settings) (g : log_of log ≡ log'.Good s) where
+module _ (log : List ℕ) (h : BytesIn log) (s : Settings) (g : log_of log ≡ Ok s) where
   module _ (secret : List ℕ) (queue : List QueuedProbe) (long : length queue ≡ capacity) (rooms : Rooms) (sized : RoomsFit capacity rooms) where
     making_fits : MakingFits (making_by s secret queue rooms)
     making_fits = record {

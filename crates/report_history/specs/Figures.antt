@@ -1,6 +1,6 @@
 -- The report of a log from the plain list of its served calls: each number by the definitions of crate history, and none from the code's state.
 -- Assumes nothing.
-use Rattle.std.specs.Prelude.{List, [], ◌∷◌, ℕ, zero, suc, ◌-◌, length}
+use Rattle.std.specs.Prelude.{List, [], ◌∷◌, ℕ, zero, suc, ◌-◌, length, Option, Some, None}
 use Rattle.limits.specs.Limits.{capacity}
 use Rattle.call_types.specs.declared.Call.{Call}
 use Rattle.probe_queue.specs.declared.QueuedProbe.{QueuedProbe}
@@ -17,8 +17,6 @@ use Rattle.link_history.specs.Shows.{lost_of, thousandths_from}
 use Rattle.link_history.specs.Monitor.{monitor_from}
 use Rattle.link_history.specs.Link.{served_from}
 use Rattle.log_whole.specs.declared.Settings.{Settings}
-use Rattle.log_whole.specs.declared.PlayedCall.{PlayedCall}
-use Rattle.log_whole.specs.declared.PlayedCall.TheVariants as read
 use Rattle.log_whole.specs.Logs.{call_at}
 use Rattle.report.specs.declared.figures.Session.{Session}
 use Rattle.report.specs.declared.figures.Session.TheVariants as session
@@ -28,9 +26,9 @@ use Rattle.link_figures.specs.Figures.{session_by, figure_of, followup_of, direc
 -- ---- the calls of a log
 
 -- what one record says, before the calls of the earlier ones; nothing adds no call
-abbrev pub call_then : PlayedCall → List Call → List Call
-call_then read.Nothing cs = cs
-call_then (read.Call c) cs = c ∷ cs
+abbrev pub call_then : Option Call → List Call → List Call
+call_then None cs = cs
+call_then (Some c) cs = c ∷ cs
 
 -- those of its first n records, newest first
 unfoldable pub log_calls : List ℕ → ℕ → List Call

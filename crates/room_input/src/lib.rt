@@ -14,6 +14,7 @@ pub fn fill<R: Read>(input: &mut R, room: &mut [u8]) -> io::Result<usize>
     ensures bytes { IfOk result (λ n. Consumes (R.remaining input.old) (R.remaining input.new) (take n room.new)) }
     ensures end { IfOk result (λ n. n < length room.new → IsAtEnd (R.remaining input.new)) }
 {
+    // A loop over reads and not over the room's bytes: a read puts as many as it likes.
     let mut done = 0;
     while done < room.len() {
         let got = input.read(&mut room[done..])?;

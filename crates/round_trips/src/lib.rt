@@ -8,7 +8,7 @@ ghost use Rattle.delays.specs.Sums.{nanoseconds_of, value_of, total_of, sum_of};
 ghost use Rattle.delays.specs.Delays.{lesser, greater, recorded_of};
 ghost use Rattle.delays.specs.Bounds.{Bounded};
 
-use delays::{Delays, Extreme, Nanoseconds, Sum};
+use delays::{Delays, Nanoseconds, Sum};
 
 const MOST: u64 = 18446744073709551615;
 
@@ -106,31 +106,31 @@ fn over(ns: u64, sample: Nanoseconds) -> bool
     sample.magnitude < ns
 }
 
-fn lesser_of(extreme: Extreme, ns: u64) -> Extreme
+fn lesser_of(extreme: Option<Nanoseconds>, ns: u64) -> Option<Nanoseconds>
     ensures { result ≡ lesser extreme (nanoseconds_of (pos ns)) }
 {
     match extreme {
-        Extreme::At(least) => {
+        Some(least) => {
             if under(ns, least) {
-                return Extreme::At(delays::from_u64(ns));
+                return Some(delays::from_u64(ns));
             }
-            Extreme::At(least)
+            Some(least)
         }
-        Extreme::Absent => Extreme::At(delays::from_u64(ns)),
+        None => Some(delays::from_u64(ns)),
     }
 }
 
-fn greater_of(extreme: Extreme, ns: u64) -> Extreme
+fn greater_of(extreme: Option<Nanoseconds>, ns: u64) -> Option<Nanoseconds>
     ensures { result ≡ greater extreme (nanoseconds_of (pos ns)) }
 {
     match extreme {
-        Extreme::At(most) => {
+        Some(most) => {
             if over(ns, most) {
-                return Extreme::At(delays::from_u64(ns));
+                return Some(delays::from_u64(ns));
             }
-            Extreme::At(most)
+            Some(most)
         }
-        Extreme::Absent => Extreme::At(delays::from_u64(ns)),
+        None => Some(delays::from_u64(ns)),
     }
 }
 

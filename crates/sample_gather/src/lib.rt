@@ -1,4 +1,6 @@
 // The keys of a range that few samples have, gathered in one pass (`sample_passes` has the other passes): a crate of its own for the edit of its store.
+#![tactic(auto)]
+
 ghost use Rattle.std.specs.Prelude.{◌≡◌, ◌≤◌, length, take};
 ghost use Rattle.sample_passes.specs.Keys.{shifted};
 ghost use Rattle.sample_passes.specs.Passes.{Gathered};
@@ -11,13 +13,11 @@ pub fn gather(samples: &[u64], count: usize, bias: u64, low: u64, high: u64, key
 {
     let span = high - low;
     let mut n: usize = 0;
-    let mut i = 0;
-    while i < count {
+    for i in 0..count {
         let d = sample_passes::past(samples[i], bias, low);
         if d <= span {
             keys[n % 256] = low + d;
             n += 1;
         }
-        i += 1;
     }
 }

@@ -1,5 +1,7 @@
 // Keys at which to part a range of keys. Nothing here promises which key: it bears on the time of a search alone, which holds at
 // whatever key a range is parted.
+#![tactic(auto)]
+
 ghost use Rattle.std.specs.Prelude.{◌≡◌, ◌<◌, ◌≤◌, length};
 
 // The greatest key.
@@ -29,24 +31,22 @@ pub fn chosen(keys: &[u64], n: usize, rank: u64) -> u64
     let mask = mask_of(n);
     let mut from: u64 = 0;
     let mut to = LAST;
-    let mut i: u64 = 0;
-    while i <= mask {
+    for i in 0..mask + 1 {
         let j = ((i * FURTHER) & mask) as usize;
         if j < n {
             let k = keys[j];
             if (from <= k) & (k <= to) {
                 let tally = sample_passes::around(keys, n, 0, k);
                 if rank < tally.under {
-                    to = std::num::wrapping_sub_u64(k, 1);
+                    to = k.wrapping_sub(1);
                 } else {
                     if rank < tally.reach {
                         return k;
                     }
-                    from = std::num::wrapping_add_u64(k, 1);
+                    from = k.wrapping_add(1);
                 }
             }
         }
-        i += 1;
     }
     from
 }
@@ -66,16 +66,14 @@ fn sampled(
     let span = high - low;
     let apart = count / 64 + 1;
     let mut n: usize = 0;
-    let mut i = 0;
-    while i < count {
+    for i in (0..count).step_by(apart) {
         let k = sample_passes::key(samples[i], bias);
-        if std::num::wrapping_sub_u64(k, low) <= span {
+        if k.wrapping_sub(low) <= span {
             keys[n % 64] = k;
             n += 1;
         }
-        i += apart;
     }
-    if n < 64 { n } else { 64 }
+    n.min(64)
 }
 
 // How many of the first n keys are at most `crowd` away from a value.
@@ -90,7 +88,7 @@ fn near(keys: &[u64], n: usize, value: u64, crowd: u64) -> u64
     };
     let start = sample_passes::around(keys, n, 0, from);
     let end = sample_passes::around(keys, n, 0, to);
-    std::num::wrapping_sub_u64(end.reach, start.under)
+    end.reach.wrapping_sub(start.under)
 }
 
 // The place among `seen` keys, of `held`, where the rank's key should be.
@@ -108,17 +106,10 @@ fn place_of(rank: u64, held: u64, seen: u64) -> u64
     seen - 1
 }
 
-// A key at which to part a range, and whether that pays.
-#[derive(Clone, Copy)]
-pub struct Guess {
-    pub pays: bool,
-    pub value: u64,
-}
-
 // By n keys of a range that has `held`, for a rank among these: the key that seems to have the rank, where several are equal to it; else,
 // where more than half are so near to it that equal parts of the range would hold them together, one a little past it, on the side that
-// has more keys.
-fn guess_by(keys: &[u64], n: usize, rank: u64, held: u64) -> Guess
+// has more keys; else none.
+fn guess_by(keys: &[u64], n: usize, rank: u64, held: u64) -> Option<u64>
     requires { (n ≤ length keys.now) × (0 < n) }
 {
     let seen = n as u64;
@@ -126,26 +117,20 @@ fn guess_by(keys: &[u64], n: usize, rank: u64, held: u64) -> Guess
     let value = chosen(keys, n, place);
     let some = seen / 16 + 1;
     if near(keys, n, value, 0) > some {
-        return Guess { pays: true, value };
+        return Some(value);
     }
     let first = sample_passes::least(keys, n, 0, 0, LAST);
     let last = sample_passes::most(keys, n, 0, first, LAST);
     if near(keys, n, value, (last - first) >> 8) <= seen / 2 {
-        return Guess { pays: false, value };
+        return None;
     }
     if place < seen / 2 {
-        return Guess {
-            pays: true,
-            value: chosen(keys, n, place + some),
-        };
+        return Some(chosen(keys, n, place + some));
     }
-    Guess {
-        pays: true,
-        value: chosen(keys, n, std::num::wrapping_sub_u64(place, some)),
-    }
+    Some(chosen(keys, n, place.wrapping_sub(some)))
 }
 
-// A key at which to part the range, by up to 64 samples of it.
+// A key at which to part the range, by up to 64 samples of it; none where parting it does not pay.
 pub fn guessed(
     samples: &[u64],
     count: usize,
@@ -154,7 +139,7 @@ pub fn guessed(
     high: u64,
     rank: u64,
     held: u64,
-) -> Guess
+) -> Option<u64>
     requires { (count ≤ length samples.now) × (low ≤ high) }
 {
     let mut keys = [0u64; 64];
@@ -162,8 +147,5 @@ pub fn guessed(
     if n > 2 {
         return guess_by(&keys, n, rank, held);
     }
-    Guess {
-        pays: false,
-        value: low,
-    }
+    None
 }

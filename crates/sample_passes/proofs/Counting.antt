@@ -1,6 +1,6 @@
 -- Laws of `below`, the count of the samples whose key is below k, over any key.
 -- Assumes nothing.
-use Rattle.std.proofs.Common.{◌≡◌, ℕ, suc, ◌+◌, ◌-◌, ◌^◌, ◌<◌, ◌≤◌, Bool, true, false, ltb, ◌⊎◌, List, [], ◌∷◌, ◌++◌, length, get_or, take, sym, refl, ap, ◌∙◌, inl, inr, ⊎_elim, eq-zero-or-pos, add-one, arith, length-take, length-take-le, take-suc, ltb-true, le-ltb, lt-ltb}
+use Rattle.std.proofs.Common.{◌≡◌, ℕ, ◌+◌, ◌-◌, ◌^◌, ◌<◌, ◌≤◌, Bool, true, false, ltb, ◌⊎◌, List, [], ◌∷◌, ◌++◌, length, get_or, take, refl, ap, ◌∙◌, inl, inr, ⊎_elim, eq-zero-or-pos, add-one, arith, length-take, length-take-le, take-suc, ltb-true, le-ltb, lt-ltb}
 use native.Mathlib.Nat.{min-le_left}
 use Rattle.sample_passes.specs.Keys.{shifted}
 use Rattle.sample_passes.specs.Counting.{one_if, below}

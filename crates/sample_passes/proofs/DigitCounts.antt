@@ -1,6 +1,6 @@
 -- The counts of the digits: one sample more, and what their sums are.
 -- Assumes nothing.
-use Rattle.std.proofs.Common.{◌≡◌, ℕ, zero, suc, ◌+◌, ◌-◌, ◌*◌, ◌/◌, ◌%◌, ◌^◌, ◌<◌, ◌≤◌, ◌⊎◌, List, [], ◌∷◌, length, get_or, take, set, sym, refl, ap, ◌∙◌, inl, inr, ⊎_elim, add-zero, mul-le-mul_right, div-lt_iff_lt-mul, add-mul, eq-or-lt_of_le, one-mul, div-mul-le_self, add-one, arith, get_or-set_other, get_or-set_same, pow_pos}
+use Rattle.std.proofs.Common.{◌≡◌, ℕ, zero, suc, ◌+◌, ◌-◌, ◌*◌, ◌/◌, ◌%◌, ◌^◌, ◌<◌, ◌≤◌, List, length, get_or, take, set, ap, ◌∙◌, ⊎_elim, add-zero, mul-le-mul_right, div-lt_iff_lt-mul, add-mul, eq-or-lt_of_le, one-mul, div-mul-le_self, add-one, arith, get_or-set_other, get_or-set_same, pow_pos}
 use native.Mathlib.Nat.{lt-div-mul-add}
 use Rattle.sample_passes.specs.Keys.{shifted}
 use Rattle.sample_passes.specs.Counting.{below}

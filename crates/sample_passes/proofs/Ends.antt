@@ -1,6 +1,6 @@
 -- One sample more: where the keys from low to high begin and end, with the sample at i beside those before it.
 -- Assumes nothing.
-use Rattle.std.proofs.Common.{◌≡◌, ℕ, zero, suc, ◌+◌, ◌-◌, ◌%◌, ◌^◌, ◌<◌, ◌≤◌, ◌⊎◌, List, [], ◌∷◌, length, get_or, take, refl, ⊎_elim, add-zero, arith}
+use Rattle.std.proofs.Common.{◌≡◌, ℕ, zero, suc, ◌+◌, ◌-◌, ◌%◌, ◌^◌, ◌<◌, ◌≤◌, ◌⊎◌, List, length, get_or, take, refl, ⊎_elim, add-zero, arith}
 use Rattle.sample_passes.specs.Keys.{shifted}
 use Rattle.sample_passes.specs.Counting.{below}
 use Rattle.sample_passes.specs.Passes.{Least, Most, Nearer, Shorter}

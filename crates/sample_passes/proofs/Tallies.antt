@@ -1,6 +1,6 @@
 -- One sample more: how many keys are below a value.
 -- Assumes nothing.
-use Rattle.std.proofs.Common.{◌≡◌, ℕ, ◌+◌, ◌^◌, ◌<◌, ◌≤◌, ltb, List, length, get_or, take, sym, refl, ap, ◌∙◌, arith}
+use Rattle.std.proofs.Common.{◌≡◌, ℕ, ◌+◌, ◌^◌, ◌<◌, ltb, List, length, get_or, take, refl, ap, arith}
 use Rattle.sample_passes.specs.Counting.{one_if, below}
 use Rattle.sample_passes.proofs.Counting.{one_if-most, below_more, below-take-most}
 

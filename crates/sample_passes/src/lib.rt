@@ -1,4 +1,6 @@
 // What is read off the samples in one pass. A sample has a key: the number by which samples are ordered.
+#![tactic(auto)]
+
 ghost use Rattle.std.specs.Prelude.{◌≡◌, ℕ, ◌+◌, ◌-◌, ◌*◌, ◌/◌, ◌%◌, ◌^◌, ◌<◌, ◌≤◌, true, ◌⊎◌, length, take, nat_lt, slice_index};
 ghost use Rattle.sample_passes.specs.Keys.{shifted, InOrder, InReverse};
 ghost use Rattle.sample_passes.specs.Counting.{one_if, below};
@@ -8,21 +10,21 @@ ghost use Rattle.sample_passes.specs.Passes.{Least, Most, Nearer, Shorter, Count
 pub fn key(sample: u64, bias: u64) -> u64
     ensures { result ≡ shifted bias sample }
 {
-    std::num::wrapping_add_u64(sample, bias)
+    sample.wrapping_add(bias)
 }
 
 // How far the sample's key lies past `low`, going round: so no more than `high - low` only where it lies from low to high.
 pub fn past(sample: u64, bias: u64, low: u64) -> u64
     ensures { (result + low) % 2 ^ 64 ≡ shifted bias sample }
 {
-    std::num::wrapping_sub_u64(key(sample, bias), low)
+    key(sample, bias).wrapping_sub(low)
 }
 
 // How far the sample's key lies short of `high`, going round.
 fn short_of(sample: u64, bias: u64, high: u64) -> u64
     ensures { (result + shifted bias sample) % 2 ^ 64 ≡ high }
 {
-    std::num::wrapping_sub_u64(high, key(sample, bias))
+    high.wrapping_sub(key(sample, bias))
 }
 
 // The shorter of two distances.
@@ -53,6 +55,7 @@ fn least_of_blocks(samples: &[u64], count: usize, bias: u64, low: u64, high: u64
     ensures { (result ≤ high - low) × Least (shifted bias) (take (count - count % 4) samples.now) low high (low + result) }
 {
     let mut distance = high - low;
+    // An index loop by four samples a turn, with a way out: a plain loop over them takes twice the time (`least_four`).
     let mut i = 0;
     while count - i > 3 {
         distance = least_four(samples, bias, low, i, distance);
@@ -70,10 +73,8 @@ pub fn least(samples: &[u64], count: usize, bias: u64, low: u64, high: u64) -> u
     ensures { Least (shifted bias) (take count samples.now) low high result }
 {
     let mut distance = least_of_blocks(samples, count, bias, low, high);
-    let mut i = count - count % 4;
-    while i < count {
+    for i in count - count % 4..count {
         distance = shorter(past(samples[i], bias, low), distance);
-        i += 1;
     }
     low + distance
 }
@@ -95,6 +96,7 @@ fn most_of_blocks(samples: &[u64], count: usize, bias: u64, low: u64, high: u64)
     ensures { (result ≤ high - low) × Most (shifted bias) (take (count - count % 4) samples.now) low high (high - result) }
 {
     let mut distance = high - low;
+    // An index loop by four samples a turn, with a way out: a plain loop over them takes twice the time (`least_four`).
     let mut i = 0;
     while count - i > 3 {
         distance = most_four(samples, bias, high, i, distance);
@@ -112,10 +114,8 @@ pub fn most(samples: &[u64], count: usize, bias: u64, low: u64, high: u64) -> u6
     ensures { Most (shifted bias) (take count samples.now) low high result }
 {
     let mut distance = most_of_blocks(samples, count, bias, low, high);
-    let mut i = count - count % 4;
-    while i < count {
+    for i in count - count % 4..count {
         distance = shorter(short_of(samples[i], bias, high), distance);
-        i += 1;
     }
     high - distance
 }
@@ -134,14 +134,12 @@ pub fn digits(
 {
     let mut counts = [0u64; 256];
     let span = high - low;
-    let mut i = 0;
-    while i < count {
+    for i in 0..count {
         let d = past(samples[i], bias, low);
         if d <= span {
             let digit = (d >> shift) as usize;
             counts[digit] += 1;
         }
-        i += 1;
     }
     counts
 }
@@ -175,12 +173,10 @@ pub fn around(samples: &[u64], count: usize, bias: u64, value: u64) -> Tally
 {
     let mut under: u64 = 0;
     let mut reach: u64 = 0;
-    let mut i = 0;
-    while i < count {
+    for i in 0..count {
         let k = key(samples[i], bias);
         under += one_below(k, value);
         reach += one_through(k, value);
-        i += 1;
     }
     Tally { under, reach }
 }
@@ -193,12 +189,10 @@ fn falls(samples: &[u64], bias: u64, base: usize) -> u64
         → shifted bias (slice_index samples.now (base + k)) ≤ shifted bias (slice_index samples.now (base + k + 1)) }
 {
     let mut n: u64 = 0;
-    let mut j = 0;
-    while j < 16 {
+    for j in 0..16 {
         if key(samples[base + j + 1], bias) < key(samples[base + j], bias) {
             n = 1;
         }
-        j += 1;
     }
     n
 }
@@ -210,6 +204,7 @@ fn rising_blocks(samples: &[u64], count: usize, bias: u64) -> usize
         × ((k : ℕ) → k < result
         → shifted bias (slice_index samples.now k) ≤ shifted bias (slice_index samples.now (k + 1))) }
 {
+    // An index loop: the place where it stops is the answer.
     let mut i = 0;
     while count - i > 16 {
         if falls(samples, bias, i) != 0 {
@@ -225,12 +220,10 @@ pub fn in_order(samples: &[u64], count: usize, bias: u64) -> bool
     requires { count ≤ length samples.now }
     ensures { result ≡ true → InOrder (shifted bias) samples.now count }
 {
-    let mut i = rising_blocks(samples, count, bias);
-    while count - i > 1 {
+    for i in rising_blocks(samples, count, bias)..count.saturating_sub(1) {
         if key(samples[i + 1], bias) < key(samples[i], bias) {
             return false;
         }
-        i += 1;
     }
     true
 }
@@ -243,12 +236,10 @@ fn rises(samples: &[u64], bias: u64, base: usize) -> u64
         → shifted bias (slice_index samples.now (base + k + 1)) ≤ shifted bias (slice_index samples.now (base + k)) }
 {
     let mut n: u64 = 0;
-    let mut j = 0;
-    while j < 16 {
+    for j in 0..16 {
         if key(samples[base + j + 1], bias) > key(samples[base + j], bias) {
             n = 1;
         }
-        j += 1;
     }
     n
 }
@@ -260,6 +251,7 @@ fn falling_blocks(samples: &[u64], count: usize, bias: u64) -> usize
         × ((k : ℕ) → k < result
         → shifted bias (slice_index samples.now (k + 1)) ≤ shifted bias (slice_index samples.now k)) }
 {
+    // An index loop: the place where it stops is the answer.
     let mut i = 0;
     while count - i > 16 {
         if rises(samples, bias, i) != 0 {
@@ -275,12 +267,10 @@ pub fn in_reverse(samples: &[u64], count: usize, bias: u64) -> bool
     requires { count ≤ length samples.now }
     ensures { result ≡ true → InReverse (shifted bias) samples.now count }
 {
-    let mut i = falling_blocks(samples, count, bias);
-    while count - i > 1 {
+    for i in falling_blocks(samples, count, bias)..count.saturating_sub(1) {
         if key(samples[i + 1], bias) > key(samples[i], bias) {
             return false;
         }
-        i += 1;
     }
     true
 }

@@ -1,5 +1,7 @@
 // Where a rank lies: among the counts of digits, at a key by which a range is parted, and counted from the last sample. What a search of
 // exact_rank does to itself, with no pass over the samples.
+#![tactic(auto)]
+
 ghost use Rattle.std.specs.Prelude.{◌≡◌, ◌-◌, ◌<◌};
 ghost use Rattle.sample_passes.specs.Passes.{sum_to, Placed};
 ghost use Rattle.sample_place.specs.Places.{EndedAt, Partable, Parted};
@@ -28,16 +30,14 @@ pub fn place_of(counts: &[u64; 256], rank: u64) -> Place
     ensures { Placed counts.now rank result.digit result.left }
 {
     let mut left = rank;
-    let mut digit: usize = 0;
-    while digit < 255 {
+    for digit in 0..255 {
         let n = counts[digit];
         if left < n {
             return Place { digit, left };
         }
         left -= n;
-        digit += 1;
     }
-    Place { digit, left }
+    Place { digit: 255, left }
 }
 
 // The search, ended at a key.

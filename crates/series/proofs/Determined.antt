@@ -1,6 +1,6 @@
 -- The contract of `record_beside` determines the answer, the quantiles and each word of the room; and a refusal, and Rust's false, change
 -- nothing. Assumes nothing.
-use Rattle.std.proofs.Common.{◌≡◌, ℕ, Bool, true, false, not, List, sym, refl, ap, ◌∙◌, true≢false, arith}
+use Rattle.std.proofs.Common.{◌≡◌, ℕ, Bool, true, false, not, List, sym, refl, ap, ◌∙◌, true≢false}
 use contract.Lifetimes.{Lfts}
 use borrow.Fn.World as World
 use borrow.Fn.Kinds as Kinds'
@@ -8,11 +8,9 @@ use denote.Triple.Clauses as Clauses
 use Rattle.floats.proofs.Determined.{OneAnswer}
 use Rattle.limits.specs.Refusals.{wrong_room, counts_full}
 use Rattle.quantiles.specs.declared.Quantiles.{Quantiles}
-use Rattle.quantiles.specs.Record.{Outcome, still, taken, refuses, pick_outcome, recorded}
-use Rattle.quantiles.proofs.Determined.{refusal_changes_nothing, false_changes_nothing}
-use Rattle.series.specs.declared.Sampling.{Sampling}
-use Rattle.series.specs.declared.Sampling.TheVariants.{Refused, SumsFull, Full, Counted}
-use Rattle.series.specs.Series.{outcome, recorded_beside}
+use Rattle.quantiles.specs.Record.{Outcome, still, refuses, pick_outcome, recorded}
+use Rattle.quantiles.proofs.Determined.{false_changes_nothing, same_answer, room_of}
+use Rattle.series.specs.Series.{recorded_beside}
 use Rattle.series.proofs.sum_fits.Kinds as fits
 use Rattle.series.proofs.sum_fits.Reads as fits'
 use Rattle.series.proofs.sum_with.Kinds as sums
@@ -46,52 +44,6 @@ taken-fits false q room v h = absurd (by (refuses q room v) h)
     by : (r : Bool) → (pick_outcome r (still wrong_room q room) (still counts_full q room)).answer ≡ true → ⊥
     by true h = true≢false (sym h)
     by false h = true≢false (sym h)
-
--- an outcome tells the answer
-same_answer : (q : Quantiles) (a b : Sampling) (l k : List ℕ) → outcome q a l ≡ outcome q b k → a ≡ b
-unfolding outcome still taken
-same_answer q Refused Refused l k e = refl
-same_answer q Refused SumsFull l k e = absurd (no (ap (λ (o : Outcome). o.number) e))
-  where
-    no : ◌≡◌ {A = ℕ} 5 4 → ⊥
-    no e = omega arith
-same_answer q Refused Full l k e = absurd (no (ap (λ (o : Outcome). o.number) e))
-  where
-    no : ◌≡◌ {A = ℕ} 5 0 → ⊥
-    no e = omega arith
-same_answer q Refused (Counted n) l k e = absurd (true≢false (sym (ap (λ (o : Outcome). o.answer) e)))
-same_answer q SumsFull Refused l k e = absurd (no (ap (λ (o : Outcome). o.number) e))
-  where
-    no : ◌≡◌ {A = ℕ} 4 5 → ⊥
-    no e = omega arith
-same_answer q SumsFull SumsFull l k e = refl
-same_answer q SumsFull Full l k e = absurd (no (ap (λ (o : Outcome). o.number) e))
-  where
-    no : ◌≡◌ {A = ℕ} 4 0 → ⊥
-    no e = omega arith
-same_answer q SumsFull (Counted n) l k e = absurd (true≢false (sym (ap (λ (o : Outcome). o.answer) e)))
-same_answer q Full Refused l k e = absurd (no (ap (λ (o : Outcome). o.number) e))
-  where
-    no : ◌≡◌ {A = ℕ} 0 5 → ⊥
-    no e = omega arith
-same_answer q Full SumsFull l k e = absurd (no (ap (λ (o : Outcome). o.number) e))
-  where
-    no : ◌≡◌ {A = ℕ} 0 4 → ⊥
-    no e = omega arith
-same_answer q Full Full l k e = refl
-same_answer q Full (Counted n) l k e = absurd (true≢false (sym (ap (λ (o : Outcome). o.answer) e)))
-same_answer q (Counted m) Refused l k e = absurd (true≢false (ap (λ (o : Outcome). o.answer) e))
-same_answer q (Counted m) SumsFull l k e = absurd (true≢false (ap (λ (o : Outcome). o.answer) e))
-same_answer q (Counted m) Full l k e = absurd (true≢false (ap (λ (o : Outcome). o.answer) e))
-same_answer q (Counted m) (Counted n) l k e = ap Counted (ap (λ (o : Outcome). o.state) e)
-
--- and the room
-room_of : (q : Quantiles) (r : Sampling) (l : List ℕ) → (outcome q r l).room ≡ l
-unfolding outcome still taken
-room_of q Refused l = refl
-room_of q SumsFull l = refl
-room_of q Full l = refl
-room_of q (Counted n) l = refl
 
 -- any two exits that meet the contract are equal
 pub record_beside-unique : (κs : Lfts 1) (a : World.ArgsD signature κs) (r₁ r₂ : World.ResD signature κs) (s₁ s₂ : Clauses.AtExit (Kinds'.ended_of 1 K.ps K.r) κs)

@@ -1,18 +1,15 @@
 -- The ways through a sample, each a law of the definition. Assumes nothing.
 use Rattle.std.proofs.Common.{◌≡◌, ℕ, ◌-◌, ◌^◌, ◌<◌, ◌≤◌, Bool, true, false, not, ◌&&◌, ◌||◌, eqb, ltb, List, sym, refl, ap, ◌∙◌, le-ltb, lt-ltb}
 use Rattle.buckets.specs.Signed.{index_of}
+use Rattle.std.specs.Prelude.{Option, Result}
+use Rattle.limits.specs.declared.Refusal.{Refusal}
 use Rattle.limits.specs.Refusals.{wrong_room, counts_full}
 use Rattle.limits.specs.Limits.{capacity}
 use Rattle.quantiles.specs.declared.Quantiles.{Quantiles}
-use Rattle.quantiles.specs.declared.Recording.{Recording}
-use Rattle.quantiles.specs.declared.Recording.TheVariants as recording
 use Rattle.quantile_room.specs.Room.{sized, full_at}
 use Rattle.quantiles.specs.State.{crossed}
-use Rattle.quantiles.specs.Record as record-call
-use Rattle.quantiles.specs.Record.{Outcome, still, taken, passes, refuses, grown, stored, pick_outcome, recorded}
-use Rattle.series.specs.declared.Sampling.{Sampling}
-use Rattle.series.specs.declared.Sampling.TheVariants.{Refused, SumsFull, Full, Counted}
-use Rattle.series.specs.Series.{outcome, recorded_beside}
+use Rattle.quantiles.specs.Record.{Outcome, outcome, still, taken, passes, refuses, grown, stored, pick_outcome, recorded}
+use Rattle.series.specs.Series.{recorded_beside}
 
 module _ (q : Quantiles) (room : List ℕ) (v : ℕ) where
   -- ---- the sums have no room
@@ -89,18 +86,6 @@ module _ (q : Quantiles) (room : List ℕ) (v : ℕ) where
       go true = refl
       go false = refl
 
-  abbrev pub answer_as : Recording → Sampling
-  answer_as recording.Refused = Refused
-  answer_as recording.Full = Full
-  answer_as (recording.Counted next) = Counted next
-
-  same_outcome : (a : Recording) (after : List ℕ) → outcome q (answer_as a) after ≡ record-call.outcome q a after
-  unfolding outcome record-call.outcome
-  same_outcome recording.Refused after = refl
-  same_outcome recording.Full after = refl
-  same_outcome (recording.Counted next) after = refl
-
-  pub way_fits : (a b : Recording) (after : List ℕ) (fits : Bool) → fits ≡ true → record-call.outcome q a after ≡ recorded q room v → a ≡ b
-      → outcome q (answer_as b) after ≡ recorded_beside fits q room v
-  way_fits a b after fits f left is =
-      same_outcome b after ∙ ap (λ (x : Recording). record-call.outcome q x after) (sym is) ∙ left ∙ beside-fits ∙ ap (λ (t : Bool). recorded_beside t q room v) (sym f)
+  pub way_fits : (a : Result (Option Quantiles) Refusal) (after : List ℕ) (fits : Bool) → fits ≡ true → outcome q a after ≡ recorded q room v
+      → outcome q a after ≡ recorded_beside fits q room v
+  way_fits a after fits f left = left ∙ beside-fits ∙ ap (λ (t : Bool). recorded_beside t q room v) (sym f)

@@ -1,26 +1,16 @@
 -- A sample of a series whose sums stand beside its quantiles: 5 where `record` of the quantiles refuses it, then 4 where the sums have no room,
 -- then what `record` answers and leaves. Assumes nothing.
-use Rattle.std.specs.Prelude.{ℕ, Bool, true, false, not, List, nat_lt}
+use Rattle.std.specs.Prelude.{ℕ, Bool, not, List, nat_lt}
 use Rattle.limits.specs.Refusals.{wrong_room, counts_full}
 use Rattle.limits.specs.Limits.{sum_bound}
 use Rattle.floats.specs.Whole.{magnitude}
 use Rattle.delays.specs.declared.Sum.{Sum}
 use Rattle.quantiles.specs.declared.Quantiles.{Quantiles}
-use Rattle.quantiles.specs.Record.{Outcome, still, taken, refuses, pick_outcome, recorded}
-use Rattle.series.specs.declared.Sampling.{Sampling}
-use Rattle.series.specs.declared.Sampling.TheVariants.{Refused, SumsFull, Full, Counted}
+use Rattle.quantiles.specs.Record.{Outcome, still, refuses, pick_outcome, recorded}
 
 -- a sum's magnitude is below 2^126
 abbrev pub sum_fits : Sum → Bool
 sum_fits s = nat_lt (magnitude s.high s.low) sum_bound
-
--- the number and values of each answer to a call at the quantiles q
-unfoldable pub outcome : Quantiles → Sampling → List ℕ → Outcome
-unfolding still taken
-outcome q Refused room = still wrong_room q room
-outcome q SumsFull room = still counts_full q room
-outcome q Full room = still 0 q room
-outcome q (Counted next) room = taken next room
 
 -- 5 as the quantiles refuse; then 4 where the sums do not fit; then Rust's answer
 unfoldable pub recorded_beside : Bool → Quantiles → List ℕ → ℕ → Outcome

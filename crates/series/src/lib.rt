@@ -1,23 +1,18 @@
 // What `RttCollector::record` and `OwdDirection::record` of src/stats.rs share: the quantiles of a series of samples whose sums stand beside
 // them, and a sum with one sample more.
+#![tactic(auto)]
+
 ghost use Rattle.std.specs.Prelude.{◌≡◌, ◌^◌, ◌<◌, ◌≤◌, true, false, ◌+ℤ◌};
 ghost use Rattle.delays.specs.Sums.{nanoseconds_of, value_of, total_of, sum_of};
 ghost use Rattle.delays.specs.Summary.{summary_of};
-ghost use Rattle.series.specs.Series.{sum_fits, outcome, recorded_beside};
+ghost use Rattle.quantiles.specs.Record.{outcome};
+ghost use Rattle.series.specs.Series.{sum_fits, recorded_beside};
 ghost use Rattle.series.specs.Shown.{span_at, extreme_of, delays_of};
 ghost use Rattle.series.specs.Step.{one_if, with_words, far_from};
 
-use delays::{DelaySummary, Delays, Extreme, Nanoseconds, Sum};
-use quantiles::{Quantiles, Recording};
-
-// What a sample comes to: refusal 5; refusal 4; Rust's false; or true, with the quantiles after it.
-#[derive(Clone, Copy)]
-pub enum Sampling {
-    Refused,
-    SumsFull,
-    Full,
-    Counted(Quantiles),
-}
+use delays::{DelaySummary, Delays, Nanoseconds, Sum};
+use limits::Refusal;
+use quantiles::Quantiles;
 
 // A sum's high word at this is a magnitude of 2^126.
 const HIGH_BOUND: u64 = 4611686018427387904;
@@ -37,8 +32,8 @@ pub fn sum_with(sum: Sum, ns: Nanoseconds) -> Sum
     let before = Delays {
         count: 0,
         sum: sum,
-        min: Extreme::Absent,
-        max: Extreme::Absent,
+        min: None,
+        max: None,
     };
     let after = before.recorded(ns);
     after.sum
@@ -89,36 +84,37 @@ pub fn sum_step(sum: Sum, word: u64) -> SumWords
 
 // Which refusal it is where the sums have no room: the quantiles' own comes first. Asked of `record` itself, it would be called at two places
 // and so not be compiled into the common one.
-fn refused_beside(q: Quantiles, room: &mut [u64], value: u64) -> Sampling
+fn refused_beside(q: Quantiles, room: &mut [u64], value: u64) -> Result<Option<Quantiles>, Refusal>
     ensures { outcome q result room.new ≡ recorded_beside false q room.old value }
 {
     if room.len() != quantile_room::room_size(q.signed) {
-        return Sampling::Refused;
+        return Err(Refusal::WrongRoom);
     }
     if quantiles::min_above_max(q) {
-        return Sampling::Refused;
+        return Err(Refusal::WrongRoom);
     }
     if q.count <= 4096 {
-        return Sampling::SumsFull;
+        return Err(Refusal::CountsFull);
     }
     let place = buckets::bucket_of(q.signed, value);
     if quantile_room::full_at(q.signed, room, place) {
-        return Sampling::Refused;
+        return Err(Refusal::WrongRoom);
     }
-    Sampling::SumsFull
+    Err(Refusal::CountsFull)
 }
 
-// `record` of the quantiles, where `fits` says that the sums beside them have room for a sample.
-pub fn record_beside(fits: bool, q: Quantiles, room: &mut [u64], value: u64) -> Sampling
+// `record` of the quantiles, where `fits` says that the sums beside them have room for a sample: refusal 5; refusal 4; none, Rust's false; or the
+// quantiles after it.
+pub fn record_beside(
+    fits: bool,
+    q: Quantiles,
+    room: &mut [u64],
+    value: u64,
+) -> Result<Option<Quantiles>, Refusal>
     ensures { outcome q result room.new ≡ recorded_beside fits q room.old value }
 {
     if fits {
-        let answer = q.record(room, value);
-        return match answer {
-            Recording::Refused => Sampling::Refused,
-            Recording::Full => Sampling::Full,
-            Recording::Counted(next) => Sampling::Counted(next),
-        };
+        return q.record(room, value);
     }
     refused_beside(q, room, value)
 }
@@ -146,13 +142,13 @@ pub fn span_of(signed: bool, word: u64) -> Nanoseconds
 }
 
 // The smallest or the largest sample; at count 0 there is none.
-fn extreme_of(count: u64, ns: Nanoseconds) -> Extreme
+fn extreme_of(count: u64, ns: Nanoseconds) -> Option<Nanoseconds>
     ensures { result ≡ extreme_of count ns }
 {
     if count == 0 {
-        return Extreme::Absent;
+        return None;
     }
-    Extreme::At(ns)
+    Some(ns)
 }
 
 // Minimum, average and maximum in ms, as crate delays shows them. Refuses nothing.

@@ -1,6 +1,10 @@
 -- The contract of each public call determines its answer, the collector and each word of the room; and a refusal, and Rust's false, change
 -- nothing. Assumes nothing.
-use Rattle.std.proofs.Common.{◌≡◌, ℕ, Bool, true, false, cond, List, sym, refl, ap, ◌∙◌, true≢false, arith}
+use Rattle.std.proofs.Common.{◌≡◌, ℕ, Bool, false, cond, List, sym, refl, ap, ◌∙◌, true≢false}
+use Rattle.std.specs.Prelude.{Option, Some, None, Result, Ok, Err}
+use Rattle.limits.specs.declared.Refusal.{Refusal}
+use Rattle.limits.proofs.Numbers.{number_of_unique}
+use Rattle.quantiles.proofs.Numbers.{some_number}
 use contract.Lifetimes.{Lfts}
 use borrow.Fn.World as World
 use borrow.Fn.Kinds as Kinds'
@@ -9,8 +13,6 @@ use Rattle.floats.proofs.Determined.{OneAnswer}
 use Rattle.series.specs.Series.{recorded_beside}
 use Rattle.series.proofs.Determined.{false_changes_nothing-beside}
 use Rattle.spread.specs.declared.RttCollector.{RttCollector}
-use Rattle.spread.specs.declared.Recording.{Recording}
-use Rattle.spread.specs.declared.Recording.TheVariants.{Refused, SumsFull, Full, Counted}
 use Rattle.spread.specs.Spread.{fits, grown_of}
 use Rattle.spread.specs.Record.{Outcome, outcome, record_to}
 use Rattle.spread.proofs.RttCollector.new.Kinds as new
@@ -27,50 +29,24 @@ false_changes_nothing s room v h =
     (ap (λ (b : Bool). cond b (grown_of s o.state v) s) h, (false_changes_nothing-beside (fits s) s.quantiles room v h).1)
 
 -- an outcome tells the answer
-same_answer : (s : RttCollector) (a b : Recording) (l k : List ℕ) → outcome s a l ≡ outcome s b k → a ≡ b
+same_answer : (s : RttCollector) (a b : Result (Option RttCollector) Refusal) (l k : List ℕ) → outcome s a l ≡ outcome s b k → a ≡ b
 unfolding outcome
-same_answer s Refused Refused l k e = refl
-same_answer s Refused SumsFull l k e = absurd (no (ap (λ (o : Outcome). o.number) e))
-  where
-    no : ◌≡◌ {A = ℕ} 5 4 → ⊥
-    no e = omega arith
-same_answer s Refused Full l k e = absurd (no (ap (λ (o : Outcome). o.number) e))
-  where
-    no : ◌≡◌ {A = ℕ} 5 0 → ⊥
-    no e = omega arith
-same_answer s Refused (Counted n) l k e = absurd (true≢false (sym (ap (λ (o : Outcome). o.answer) e)))
-same_answer s SumsFull Refused l k e = absurd (no (ap (λ (o : Outcome). o.number) e))
-  where
-    no : ◌≡◌ {A = ℕ} 4 5 → ⊥
-    no e = omega arith
-same_answer s SumsFull SumsFull l k e = refl
-same_answer s SumsFull Full l k e = absurd (no (ap (λ (o : Outcome). o.number) e))
-  where
-    no : ◌≡◌ {A = ℕ} 4 0 → ⊥
-    no e = omega arith
-same_answer s SumsFull (Counted n) l k e = absurd (true≢false (sym (ap (λ (o : Outcome). o.answer) e)))
-same_answer s Full Refused l k e = absurd (no (ap (λ (o : Outcome). o.number) e))
-  where
-    no : ◌≡◌ {A = ℕ} 0 5 → ⊥
-    no e = omega arith
-same_answer s Full SumsFull l k e = absurd (no (ap (λ (o : Outcome). o.number) e))
-  where
-    no : ◌≡◌ {A = ℕ} 0 4 → ⊥
-    no e = omega arith
-same_answer s Full Full l k e = refl
-same_answer s Full (Counted n) l k e = absurd (true≢false (sym (ap (λ (o : Outcome). o.answer) e)))
-same_answer s (Counted m) Refused l k e = absurd (true≢false (ap (λ (o : Outcome). o.answer) e))
-same_answer s (Counted m) SumsFull l k e = absurd (true≢false (ap (λ (o : Outcome). o.answer) e))
-same_answer s (Counted m) Full l k e = absurd (true≢false (ap (λ (o : Outcome). o.answer) e))
-same_answer s (Counted m) (Counted n) l k e = ap Counted (ap (λ (o : Outcome). o.state) e)
+same_answer s (Err x) (Err y) l k e = ap Err (number_of_unique x y (ap (λ (o : Outcome). o.number) e))
+same_answer s (Err x) (Ok None) l k e = absurd (some_number x (ap (λ (o : Outcome). o.number) e))
+same_answer s (Err x) (Ok (Some n)) l k e = absurd (some_number x (ap (λ (o : Outcome). o.number) e))
+same_answer s (Ok None) (Err y) l k e = absurd (some_number y (sym (ap (λ (o : Outcome). o.number) e)))
+same_answer s (Ok None) (Ok None) l k e = refl
+same_answer s (Ok None) (Ok (Some n)) l k e = absurd (true≢false (sym (ap (λ (o : Outcome). o.answer) e)))
+same_answer s (Ok (Some m)) (Err y) l k e = absurd (some_number y (sym (ap (λ (o : Outcome). o.number) e)))
+same_answer s (Ok (Some m)) (Ok None) l k e = absurd (true≢false (ap (λ (o : Outcome). o.answer) e))
+same_answer s (Ok (Some m)) (Ok (Some n)) l k e = ap (λ (x : RttCollector). Ok (Some x)) (ap (λ (o : Outcome). o.state) e)
 
 -- and the room
-room_of : (s : RttCollector) (r : Recording) (l : List ℕ) → (outcome s r l).room ≡ l
+room_of : (s : RttCollector) (r : Result (Option RttCollector) Refusal) (l : List ℕ) → (outcome s r l).room ≡ l
 unfolding outcome
-room_of s Refused l = refl
-room_of s SumsFull l = refl
-room_of s Full l = refl
-room_of s (Counted n) l = refl
+room_of s (Err x) l = refl
+room_of s (Ok None) l = refl
+room_of s (Ok (Some n)) l = refl
 
 pub new-unique : OneAnswer new.ps new.r new'.Post
 new-unique κs a x y s t p q = p ∙ sym q

@@ -1,5 +1,8 @@
 -- What the proofs of the functions cite: on each way, what is answered is what the definition says. Assumes nothing.
-use Rattle.std.proofs.Common.{◌≡◌, ℕ, zero, suc, ◌+◌, ◌-◌, ◌*◌, ◌^◌, ◌<◌, ◌≤◌, Bool, true, false, cond, ◌&&◌, T, eqb, ltb, List, ℤ, pos, negsuc, ◌+ℤ◌, ◌-ℤ◌, neg_ℤ, sym, refl, ap, ◌∙◌, subst, arith, ltb→lt, le-ltb, lt-ltb}
+use Rattle.std.proofs.Common.{◌≡◌, ℕ, zero, suc, ◌+◌, ◌-◌, ◌^◌, ◌<◌, ◌≤◌, Bool, true, false, cond, ◌&&◌, T, eqb, ltb, List, pos, negsuc, ◌+ℤ◌, ◌-ℤ◌, neg_ℤ, sym, ap, ◌∙◌, subst, arith, ltb→lt, le-ltb, lt-ltb}
+use Rattle.std.specs.Prelude.{Option, Some, None, Result, Ok, Err}
+use Rattle.limits.specs.declared.Refusal.{Refusal}
+use Rattle.limits.specs.Numbers.{number_of}
 use lib.Ieee.{Float, binary64, of_int, add, sub, mul, div}
 use lib.Ieee.Fits.{and_l, and_r}
 use Rattle.limits.specs.Limits.{count_bound, sum_bound}
@@ -10,8 +13,6 @@ use Rattle.delays.specs.Sums.{value_of, nanoseconds_of, total_of, sum_of}
 use Rattle.buckets.specs.Buckets.{pick}
 use Rattle.quantiles.specs.declared.Quantiles.{Quantiles}
 use Rattle.quantiles.specs.Record as quantile-record
-use Rattle.series.specs.declared.Sampling.{Sampling}
-use Rattle.series.specs.declared.Sampling.TheVariants as sampling
 use Rattle.series.specs.Series as series
 use Rattle.series.proofs.Determined.{taken-fits}
 use Rattle.spread.specs.declared.Welford.{Welford}
@@ -138,32 +139,28 @@ module _ (s : RttCollector) (room : List ℕ) (v : ℕ) where
   by_quantiles : quantile-record.Outcome → Outcome
   by_quantiles o = left o.number o.answer (cond o.answer (grown_of s o.state v) s) o.room
 
-  module _ (after : List ℕ) (fit : Bool) (a : Sampling) (is : fit ≡ fits s) (got : series.outcome s.quantiles a after ≡ series.recorded_beside fit s.quantiles room v) where
-    from_answer : (b : Sampling) → a ≡ b → series.outcome s.quantiles b after ≡ series.recorded_beside (fits s) s.quantiles room v
+  module _ (after : List ℕ) (fit : Bool) (a : Result (Option Quantiles) Refusal) (is : fit ≡ fits s) (got : quantile-record.outcome s.quantiles a after ≡ series.recorded_beside fit s.quantiles room v) where
+    from_answer : (b : Result (Option Quantiles) Refusal) → a ≡ b → quantile-record.outcome s.quantiles b after ≡ series.recorded_beside (fits s) s.quantiles room v
     from_answer b told =
-        ap (λ (x : Sampling). series.outcome s.quantiles x after) (sym told) ∙ got ∙ ap (λ (f : Bool). series.recorded_beside f s.quantiles room v) is
+        ap (λ (x : Result (Option Quantiles) Refusal). quantile-record.outcome s.quantiles x after) (sym told) ∙ got ∙ ap (λ (f : Bool). series.recorded_beside f s.quantiles room v) is
 
-    answered : (b : Sampling) → a ≡ b → by_quantiles (series.outcome s.quantiles b after) ≡ record_to s room v
+    answered : (b : Result (Option Quantiles) Refusal) → a ≡ b → by_quantiles (quantile-record.outcome s.quantiles b after) ≡ record_to s room v
     unfolding record_to by_quantiles
     answered b told = ap by_quantiles (from_answer b told)
 
-    pub way_refused : a ≡ sampling.Refused → left 5 false s after ≡ record_to s room v
-    unfolding by_quantiles series.outcome quantile-record.still
-    way_refused told = answered sampling.Refused told
+    pub way_refused : (r : Refusal) → a ≡ Err r → left (number_of r) false s after ≡ record_to s room v
+    unfolding by_quantiles quantile-record.outcome quantile-record.still
+    way_refused r told = answered (Err r) told
 
-    pub way_sums : a ≡ sampling.SumsFull → left 4 false s after ≡ record_to s room v
-    unfolding by_quantiles series.outcome quantile-record.still
-    way_sums told = answered sampling.SumsFull told
+    pub way_full : a ≡ Ok None → left 0 false s after ≡ record_to s room v
+    unfolding by_quantiles quantile-record.outcome quantile-record.still
+    way_full told = answered (Ok None) told
 
-    pub way_full : a ≡ sampling.Full → left 0 false s after ≡ record_to s room v
-    unfolding by_quantiles series.outcome quantile-record.still
-    way_full told = answered sampling.Full told
-
-    pub counted-fits : (next : Quantiles) → a ≡ sampling.Counted next → fits s ≡ true
-    unfolding series.outcome quantile-record.taken
+    pub counted-fits : (next : Quantiles) → a ≡ Ok (Some next) → fits s ≡ true
+    unfolding quantile-record.outcome quantile-record.taken
     counted-fits next told =
-        taken-fits (fits s) s.quantiles room v (sym (ap (λ (o : quantile-record.Outcome). o.answer) (from_answer (sampling.Counted next) told)))
+        taken-fits (fits s) s.quantiles room v (sym (ap (λ (o : quantile-record.Outcome). o.answer) (from_answer (Ok (Some next)) told)))
 
-    pub way_counted : (next : Quantiles) (t : RttCollector) → a ≡ sampling.Counted next → t ≡ grown_of s next v → left 0 true t after ≡ record_to s room v
-    unfolding by_quantiles series.outcome quantile-record.taken
-    way_counted next t told e = ap (λ (x : RttCollector). left 0 true x after) e ∙ answered (sampling.Counted next) told
+    pub way_counted : (next : Quantiles) (t : RttCollector) → a ≡ Ok (Some next) → t ≡ grown_of s next v → left 0 true t after ≡ record_to s room v
+    unfolding by_quantiles quantile-record.outcome quantile-record.taken
+    way_counted next t told e = ap (λ (x : RttCollector). left 0 true x after) e ∙ answered (Ok (Some next)) told

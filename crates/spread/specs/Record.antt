@@ -1,10 +1,9 @@
 -- `RttCollector::record`: what a call answers and leaves, for every state, room and value. Assumes nothing.
-use Rattle.std.specs.Prelude.{ℕ, Bool, true, false, cond, List}
-use Rattle.limits.specs.Refusals.{wrong_room, counts_full}
+use Rattle.std.specs.Prelude.{ℕ, Bool, true, false, cond, List, Option, Some, None, Result, Ok, Err}
+use Rattle.limits.specs.declared.Refusal.{Refusal}
+use Rattle.limits.specs.Numbers.{number_of}
 use Rattle.series.specs.Series.{recorded_beside}
 use Rattle.spread.specs.declared.RttCollector.{RttCollector}
-use Rattle.spread.specs.declared.Recording.{Recording}
-use Rattle.spread.specs.declared.Recording.TheVariants.{Refused, SumsFull, Full, Counted}
 use Rattle.spread.specs.Spread.{fits, grown_of}
 
 -- what a call leaves: the refusal's number, or 0; Rust's answer; the collector; the room
@@ -19,11 +18,10 @@ abbrev pub left : ℕ → Bool → RttCollector → List ℕ → Outcome
 left n b s room = record { number = n; answer = b; state = s; room = room }
 
 -- the number and values of each answer to a call at the collector s
-unfoldable pub outcome : RttCollector → Recording → List ℕ → Outcome
-outcome s Refused room = left wrong_room false s room
-outcome s SumsFull room = left counts_full false s room
-outcome s Full room = left 0 false s room
-outcome s (Counted next) room = left 0 true next room
+unfoldable pub outcome : RttCollector → Result (Option RttCollector) Refusal → List ℕ → Outcome
+outcome s (Err refusal) room = left (number_of refusal) false s room
+outcome s (Ok None) room = left 0 false s room
+outcome s (Ok (Some next)) room = left 0 true next room
 
 -- what becomes of the quantiles and their room; where they took the sample, the sums have it too, and else nothing changes
 unfoldable pub record_to : RttCollector → List ℕ → ℕ → Outcome

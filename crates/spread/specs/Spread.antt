@@ -1,10 +1,9 @@
 -- What a sample leaves of the sums beside the quantiles (`RttCollector::record` of src/stats.rs). Where the count is 0 there is no first and no
 -- last sample. Assumes nothing.
-use Rattle.std.specs.Prelude.{ℕ, ◌+◌, ◌-◌, Bool, false, cond, ◌&&◌, ℤ, pos, ◌+ℤ◌, ◌-ℤ◌, nat_eq, nat_lt, Float}
+use Rattle.std.specs.Prelude.{ℕ, ◌+◌, ◌-◌, Bool, false, cond, ◌&&◌, pos, ◌+ℤ◌, ◌-ℤ◌, nat_eq, nat_lt, Float}
 use Rattle.std.specs.Float.{binary64}
 use Rattle.std.specs.Float.Ieee.{of_int, add, sub, mul, div}
 use Rattle.limits.specs.Limits.{count_bound}
-use Rattle.delays.specs.declared.Sum.{Sum}
 use Rattle.delays.specs.Sums.{total_of, sum_of}
 use Rattle.buckets.specs.Buckets.{pick}
 use Rattle.quantiles.specs.declared.Quantiles.{Quantiles}

@@ -1,13 +1,15 @@
 // `RttCollector` of src/stats.rs: its state by value, and `record`. Its smallest and largest sample are the quantiles' own. Where the count is 0
 // there is no first and no last sample, whatever `origin` and `last` hold.
+#![tactic(auto)]
+
 ghost use Rattle.std.specs.Prelude.{◌≡◌, ◌^◌, ◌<◌, true};
 ghost use Rattle.buckets.specs.Buckets.{pick};
 ghost use Rattle.spread.specs.Spread.{apart, centered_of, welford_from, jitter_of, fresh, fits, grown_of};
 ghost use Rattle.spread.specs.Record.{outcome, record_to};
 
 use delays::{Nanoseconds, Sum};
+use limits::Refusal;
 use quantiles::Quantiles;
-use series::Sampling;
 
 // The Rust's variance_origin, centered_mean_ns and m2_ns.
 #[derive(Clone, Copy)]
@@ -31,15 +33,6 @@ pub struct RttCollector {
     pub sum: Sum,
     pub welford: Welford,
     pub jitter: Jitter,
-}
-
-// What recording a sample answers: refusal 5; refusal 4; Rust's false; or true, with the collector as it then stands.
-#[derive(Clone, Copy)]
-pub enum Recording {
-    Refused,
-    SumsFull,
-    Full,
-    Counted(RttCollector),
 }
 
 // How far apart two samples are.
@@ -170,21 +163,15 @@ impl RttCollector {
         }
     }
 
-    // `record`: one sample more, in the room that holds the others.
-    pub fn record(self, room: &mut [u64], value: u64) -> Recording
+    // `record`: one sample more, in the room that holds the others: refusal 5; refusal 4; none, Rust's false; or the collector as it then stands.
+    pub fn record(self, room: &mut [u64], value: u64) -> Result<Option<RttCollector>, Refusal>
         ensures { outcome self result room.new ≡ record_to self room.old value }
     {
         let quantiles = self.quantiles;
         let fits = self.sums_fit();
-        let answer = series::record_beside(fits, quantiles, room, value);
-        match answer {
-            Sampling::Refused => Recording::Refused,
-            Sampling::SumsFull => Recording::SumsFull,
-            Sampling::Full => Recording::Full,
-            Sampling::Counted(next) => {
-                let after = self.grown(next, value);
-                Recording::Counted(after)
-            }
+        match series::record_beside(fits, quantiles, room, value)? {
+            None => Ok(None),
+            Some(next) => Ok(Some(self.grown(next, value))),
         }
     }
 }

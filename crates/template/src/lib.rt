@@ -14,7 +14,8 @@ pub const PLACES: usize = 31;
 // The byte of the template that stands for a value.
 pub const PLACE: u8 = b'#';
 
-// What a place shows: a number, `-` where it is absent, or the word of a session's state.
+// What a place shows: a number, `-` where it is absent, or the word of a session's state. Each is a text of its own: an `Option` of a number would
+// leave the states no place.
 #[derive(Clone, Copy)]
 pub enum Shown {
     Absent,
@@ -44,20 +45,16 @@ pub fn fill(bytes: &mut [u8], template: &[u8], values: [Shown; PLACES]) -> usize
     requires { (places template.now ≤ length values) × (most_filled template.now values ≤ length bytes.old) }
     ensures { Stands (most_filled template.now values) (filled template.now values) bytes.old 0 bytes.new result }
 {
-    let mut i: usize = 0;
     let mut at: usize = 0;
     let mut next: usize = 0;
-    while i < template.len() {
-        let byte = template[i];
-        if byte == PLACE {
-            let shown = values[next];
-            at = put_shown(bytes, at, shown);
+    for byte in template {
+        if *byte == PLACE {
+            at = put_shown(bytes, at, values[next]);
             next += 1;
         } else {
-            bytes[at] = byte;
+            bytes[at] = *byte;
             at += 1;
         }
-        i += 1;
     }
     at
 }

@@ -7,12 +7,10 @@ pub fn put_text(bytes: &mut [u8], at: usize, text: &[u8]) -> usize
     requires { at + length text.now ≤ length bytes.old }
     ensures { Stands (length text.now) text.now bytes.old at bytes.new result }
 {
-    let mut i = 0;
     let mut place = at;
-    while i < text.len() {
-        bytes[place] = text[i];
+    for byte in text {
+        bytes[place] = *byte;
         place += 1;
-        i += 1;
     }
     place
 }

@@ -4,13 +4,6 @@
 ghost use Rattle.std.specs.Prelude.{◌≡◌, ◌*◌, ◌/◌, ◌%◌, ◌<◌, ◌≤◌};
 ghost use Rattle.thousandths.specs.Thousandths.{thousandths_of};
 
-// The figure of loss, or none.
-#[derive(Clone, Copy)]
-pub enum Thousandths {
-    Absent,
-    Known(u64),
-}
-
 #[derive(Clone, Copy)]
 pub struct Division {
     pub whole: u64,
@@ -25,28 +18,26 @@ fn tenfold(rest: u64, divisor: u64) -> Division
     let left = divisor - rest;
     let mut whole: u64 = 0;
     let mut sum: u64 = 0;
-    let mut turn: u64 = 0;
-    while turn < 10 {
+    for _turn in 0..10u64 {
         if sum < left {
             sum = sum + rest;
         } else {
             sum = sum - left;
             whole = whole + 1;
         }
-        turn = turn + 1;
     }
     Division { whole, rest: sum }
 }
 
-pub fn thousandths_of(unobserved: u64, requested: u64) -> Thousandths
+pub fn thousandths_of(unobserved: u64, requested: u64) -> Option<u64>
     requires { unobserved ≤ requested }
     ensures { result ≡ thousandths_of unobserved requested }
 {
     if requested == 0 {
-        return Thousandths::Absent;
+        return None;
     }
     if requested < 18446744073709551 {
-        return Thousandths::Known(1000 * unobserved / requested);
+        return Some(1000 * unobserved / requested);
     }
     let tenths = tenfold(unobserved % requested, requested);
     let hundredths = tenfold(tenths.rest, requested);
@@ -55,5 +46,5 @@ pub fn thousandths_of(unobserved: u64, requested: u64) -> Thousandths
         + 100 * tenths.whole
         + 10 * hundredths.whole
         + thousandths.whole;
-    Thousandths::Known(figure)
+    Some(figure)
 }

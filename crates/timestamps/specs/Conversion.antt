@@ -1,12 +1,9 @@
 -- What a raw 64-bit timestamp says near a second r (document 02, Q-9): a time in ns since 1970, or none. Its words are RFC 5905's (section 6, NTP)
 -- and RFC 8877's (section 4.3, PTP truncated). Nothing is worked out here: which second is meant, and which time. That there is exactly one
 -- is proved in proofs/Seconds.antt and proofs/Outcome.antt. Assumes nothing.
-use Rattle.std.specs.Prelude.{◌≡◌, ℕ, ◌*◌, ◌/◌, ◌%◌, ◌^◌, true, false, cond, ℤ, pos, ◌+ℤ◌, ◌-ℤ◌, ◌*ℤ◌, ◌≤ℤ◌, ◌<ℤ◌, nat_lt}
-use Rattle.std.proofs.Math.Option.{Option, none, some}
+use Rattle.std.specs.Prelude.{◌≡◌, ℕ, ◌*◌, ◌/◌, ◌%◌, ◌^◌, true, false, cond, ℤ, pos, ◌+ℤ◌, ◌-ℤ◌, ◌*ℤ◌, ◌≤ℤ◌, ◌<ℤ◌, nat_lt, Some, None, Option}
 use Rattle.estimate.specs.declared.ClockFormat.{ClockFormat}
 use Rattle.estimate.specs.declared.ClockFormat.TheVariants as format
-use Rattle.call_types.specs.declared.Time.{Time}
-use Rattle.call_types.specs.declared.Time.TheVariants as time
 use Rattle.ranges.specs.Ranges.{time_within}
 
 -- an era: what 32 bits of seconds count
@@ -40,8 +37,8 @@ wire_second format.PTP w = pos (seconds_field w)
 
 -- the ns after that second. NTP: "fraction to ns rounded down"; PTP: "no conversion if the ns field is 10^9 or more"
 abbrev pub wire_nanoseconds : ClockFormat → ℕ → Option ℕ
-wire_nanoseconds format.NTP w = some (fraction_field w * billion / era)
-wire_nanoseconds format.PTP w = cond (nat_lt (fraction_field w) billion) (some (fraction_field w)) none
+wire_nanoseconds format.NTP w = Some (fraction_field w * billion / era)
+wire_nanoseconds format.PTP w = cond (nat_lt (fraction_field w) billion) (Some (fraction_field w)) None
 
 -- "of all eras the one whose Unix second lies from r-2^31 up to but not including r+2^31": s is x moved by whole eras, and in the window of r
 pub record IsSecond (x r s : ℤ) : Type 0 where
@@ -55,10 +52,10 @@ pub record IsTime (f : ClockFormat) (w : ℕ) (r t : ℤ) : Type 0 where
   pub second : ℤ
   pub ns : ℕ
   pub is_second : IsSecond (wire_second f w) r second
-  pub is_ns : wire_nanoseconds f w ≡ some ns
+  pub is_ns : wire_nanoseconds f w ≡ Some ns
   pub sum : t ≡ second *ℤ pos billion +ℤ pos ns
 
 -- the conversion: the time that the timestamp says, where it is in document 01's range of T3; absent where it says none in that range
-abbrev pub Converts : ClockFormat → ℕ → ℤ → Time → Type 0
-Converts f w r (time.Nanoseconds t) = IsTime f w r t × (time_within t ≡ true)
-Converts f w r time.Absent = (t : ℤ) → IsTime f w r t → time_within t ≡ false
+abbrev pub Converts : ClockFormat → ℕ → ℤ → Option ℤ → Type 0
+Converts f w r (Some t) = IsTime f w r t × (time_within t ≡ true)
+Converts f w r None = (t : ℤ) → IsTime f w r t → time_within t ≡ false

@@ -1,10 +1,7 @@
 -- The same conversion, worked out: for definitions that count by it, and for examples. That it is the one that specs/Conversion.antt defines
 -- is proved in proofs/Outcome.antt. Assumes nothing.
-use Rattle.std.specs.Prelude.{ℕ, ◌-◌, ◌%◌, Bool, true, false, ℤ, pos, negsuc, ◌+ℤ◌, ◌-ℤ◌, ◌*ℤ◌}
-use Rattle.std.proofs.Math.Option.{Option, none, some}
+use Rattle.std.specs.Prelude.{ℕ, ◌-◌, ◌%◌, Bool, true, false, ℤ, pos, negsuc, ◌+ℤ◌, ◌-ℤ◌, ◌*ℤ◌, Some, None, Option}
 use Rattle.estimate.specs.declared.ClockFormat.{ClockFormat}
-use Rattle.call_types.specs.declared.Time.{Time}
-use Rattle.call_types.specs.declared.Time.TheVariants as time
 use Rattle.ranges.specs.Ranges.{time_within}
 use Rattle.timestamps.specs.Conversion.{era, half_era, billion, wire_second, wire_nanoseconds}
 
@@ -18,19 +15,19 @@ unfoldable pub second_near : ℤ → ℤ → ℤ
 second_near x r = r -ℤ pos half_era +ℤ pos (in_era (x -ℤ (r -ℤ pos half_era)))
 
 -- a time, absent unless it is in range
-abbrev pub time_if : Bool → ℤ → Time
-time_if true t = time.Nanoseconds t
-time_if false t = time.Absent
+abbrev pub time_if : Bool → ℤ → Option ℤ
+time_if true t = Some t
+time_if false t = None
 
 -- a second and the ns after it, as a time in range or none
-abbrev pub time_at : ℤ → ℕ → Time
+abbrev pub time_at : ℤ → ℕ → Option ℤ
 time_at s ns = time_if (time_within (s *ℤ pos billion +ℤ pos ns)) (s *ℤ pos billion +ℤ pos ns)
 
 -- the same, where the wire says how many ns
-abbrev pub time_by : Option ℕ → ℤ → Time
-time_by none s = time.Absent
-time_by (some ns) s = time_at s ns
+abbrev pub time_by : Option ℕ → ℤ → Option ℤ
+time_by None s = None
+time_by (Some ns) s = time_at s ns
 
 -- the conversion of the timestamp w near r
-unfoldable pub converted : ClockFormat → ℕ → ℤ → Time
+unfoldable pub converted : ClockFormat → ℕ → ℤ → Option ℤ
 converted f w r = time_by (wire_nanoseconds f w) (second_near (wire_second f w) r)

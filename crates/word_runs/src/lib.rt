@@ -54,6 +54,7 @@ fn longest_in_word(word: u64) -> u32
         longest: 0,
     };
     let mut below: u32 = 64;
+    // No range of the library steps down by eight with less to write, and the bytes of a word are not kept in a row.
     while below > 0 {
         below -= 8;
         let byte = (word >> below) % 256;
@@ -69,7 +70,7 @@ fn with_runs_inside(word: u64, known: u32) -> u32
     if longer_runs(word, known) == 0 {
         return known;
     }
-    bit_runs::greater(known, longest_in_word(word))
+    known.max(longest_in_word(word))
 }
 
 // Most words are equal to the pattern, and a run that is longer than all before is rare.
@@ -88,11 +89,11 @@ pub fn after_word(t: Tally, word: u64) -> Tally
         let run = t.run + 64;
         return Tally {
             errors: t.errors + 64,
-            run: run,
-            longest: bit_runs::greater(t.longest, run),
+            run,
+            longest: t.longest.max(run),
         };
     }
-    let reached = bit_runs::greater(t.longest, t.run + u64::leading_zeros(!word));
+    let reached = t.longest.max(t.run + u64::leading_zeros(!word));
     Tally {
         errors: t.errors + u64::count_ones(word),
         run: u64::trailing_zeros(!word),

@@ -1,7 +1,6 @@
 -- `area_read::list` The loop's invariant: the items from `at` on are those behind the first `index`, whose words stand in the
 -- room. Assumes nothing.
 use mathlib.Core.Path.{◌≡◌}
-use Prim.Native.Nat.{◌-◌, ◌≤◌}
 use lib.ListN.{length, drop}
 use lib.Seq.{paste}
 use Rattle.area_items.specs.Items.{rest_of, area}
@@ -10,7 +9,4 @@ use Rattle.area_read.proofs.list.Given as goal
 
 abbrev pub invariant-loop-index : goal.invariant-loop-index
 invariant-loop-index l =
-    (l.index ≤ l.last) × (length l.room ≡ length l.initial.room) × (drop l.index (items_of (area l.bytes)) ≡ items_of (rest_of l.bytes l.at)) × (l.room ≡ paste l.initial.room 0 (words_of (items_of (area l.bytes))) l.index)
-
-abbrev pub decreases-loop-index : goal.decreases-loop-index
-decreases-loop-index l = l.last - l.index
+    (length l.room ≡ length l.initial.room) × (drop l.index (items_of (area l.bytes)) ≡ items_of (rest_of l.bytes l.at)) × (l.room ≡ paste l.initial.room 0 (words_of (items_of (area l.bytes))) l.index)

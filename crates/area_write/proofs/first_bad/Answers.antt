@@ -1,37 +1,23 @@
-use mathlib.Core.Path.{refl}
 use native.Mathlib.Omega.{arith}
+use Rattle.std.proofs.lemmas.Result.{err_from_is_err_and}
 use Rattle.area_write.proofs.Laws.{bad_here, bad_later, bad-none}
 use Rattle.area_write.proofs.first_bad.Goals as goal
 
-pub loop-index-init : goal.loop-index-init
-loop-index-init c = (omega arith, refl)
-
-pub bounds-items-index : goal.bounds-items-index
-bounds-items-index c = omega arith
-
-pub verdict-number-requires : goal.verdict-number-requires
-verdict-number-requires c = tt
-
-pub returns-then-number-ne0 : goal.returns-then-number-ne0
-returns-then-number-ne0 c =
-    let l = c.loop-index in
+pub returns-in_err-verdict : goal.returns-in_err-verdict
+returns-in_err-verdict c =
+    let l = c.loop-word in
     let a = c.args in
-    bad_here a.values.now a.items.now l.index (omega arith) _ c.verdict-number.ensures c.if-number-ne0.true l.invariant.1
+    let p = err_from_is_err_and c.from_residual.result c.from_residual.ensures.1 in
+    rw (p.1, p.2) (bad_here a.values.now a.items.now l.word-index (omega arith) _ c.in_err-verdict.ensures l.invariant)
 
-pub overflow_add-index : goal.overflow_add-index
-overflow_add-index c = record { fits = omega arith }
-
-pub loop-index-smaller : goal.loop-index-smaller
-loop-index-smaller c = omega arith
-
-pub loop-index-preserved : goal.loop-index-preserved
-loop-index-preserved c =
-    let l = c.loop-index in
+pub loop-word-preserved : goal.loop-word-preserved
+loop-word-preserved c =
+    let l = c.loop-word in
     let a = c.args in
-    (omega arith, bad_later a.values.now a.items.now l.index (omega arith) _ c.verdict-number.ensures c.if-number-ne0.false l.invariant.1)
+    bad_later a.values.now a.items.now l.word-index (omega arith) c.in_ok-verdict.ensures l.invariant
 
 pub returns : goal.returns
 returns c =
-    let l = c.loop-index in
+    let l = c.loop-word in
     let a = c.args in
-    bad-none a.values.now a.items.now l.index (omega arith) (omega arith) l.invariant.1
+    bad-none a.values.now a.items.now l.word-index (omega arith) (omega arith) l.invariant

@@ -7,14 +7,8 @@ use Rattle.area_write.specs.Write.{size_of}
 use Rattle.area_write.proofs.Laws.{wire, put_more}
 use Rattle.area_write.proofs.put_item.Goals as goal
 
-pub length_of-size-requires : goal.length_of-size-requires
-length_of-size-requires c = tt
-
-pub overflow_add-size : goal.overflow_add-size
-overflow_add-size c = record { fits = omega (arith, c.length_of-size.ensures.1) }
-
 pub loop-index-init : goal.loop-index-init
-loop-index-init c = let a = c.args in (omega arith, refl, paste-zero a.room.now a.at (wire a.values.now a.word))
+loop-index-init c = let a = c.args in (refl, paste-zero a.room.now a.at (wire a.values.now a.word))
 
 pub byte_of-requires : goal.byte_of-requires
 byte_of-requires c = (c.requires.0, omega (arith, c.length_of-size.ensures.0))
@@ -23,28 +17,18 @@ pub overflow_add-room : goal.overflow_add-room
 overflow_add-room c = record { fits = omega (arith, c.length_of-size.ensures.0, c.requires.1) }
 
 pub bounds-room-at : goal.bounds-room-at
-bounds-room-at c = omega (arith, c.loop-index.invariant.1, c.length_of-size.ensures.0, c.requires.1)
-
-pub overflow_add-index : goal.overflow_add-index
-overflow_add-index c = record { fits = omega (arith, c.length_of-size.ensures.1) }
-
-pub loop-index-smaller : goal.loop-index-smaller
-loop-index-smaller c = omega arith
+bounds-room-at c = omega (arith, c.loop-index.invariant.0, c.length_of-size.ensures.0, c.requires.1)
 
 pub loop-index-preserved : goal.loop-index-preserved
 loop-index-preserved c =
     let l = c.loop-index in (
-      omega arith,
-      length-set l.room (c.args.at + l.index) c.byte_of.result ∙ l.invariant.1,
-      put_more c.args.values.now c.args.word c.requires.0 c.args.room.now l.room c.args.at l.index _ (omega (arith, c.length_of-size.ensures.0)) c.requires.1 l.invariant.2 c.byte_of.ensures,
+      length-set l.room (c.args.at + l.index) c.byte_of.result ∙ l.invariant.0,
+      put_more c.args.values.now c.args.word c.requires.0 c.args.room.now l.room c.args.at l.index _ (omega (arith, c.length_of-size.ensures.0)) c.requires.1 l.invariant.1 c.byte_of.ensures,
     )
-
-pub shape_of-room : goal.shape_of-room
-shape_of-room c = c.loop-index.invariant.1
 
 pub returns : goal.returns
 returns c =
     let l = c.loop-index in
     let a = c.args in
-    let e : l.index ≡ size_of a.word = omega (arith, c.length_of-size.ensures.0, l.invariant.0) in
-    l.invariant.2 ∙ ap (paste a.room.now a.at (wire a.values.now a.word)) e
+    let e : l.index ≡ size_of a.word = omega (arith, c.length_of-size.ensures.0) in
+    l.invariant.1 ∙ ap (paste a.room.now a.at (wire a.values.now a.word)) e

@@ -1,12 +1,8 @@
 use mathlib.Core.Path.{◌≡◌}
-use Prim.Native.Nat.{◌≤◌, ◌-◌}
 use lib.ListN.{length}
 use lib.Seq.{paste}
 use Rattle.area_write.proofs.Laws.{wire}
 use Rattle.area_write.proofs.put_item.Given as goal
 
 abbrev pub invariant-loop-index : goal.invariant-loop-index
-invariant-loop-index l = (l.index ≤ l.size) × (length l.room ≡ length l.initial.room) × (l.room ≡ paste l.initial.room l.at (wire l.values l.word) l.index)
-
-abbrev pub decreases-loop-index : goal.decreases-loop-index
-decreases-loop-index l = l.size - l.index
+invariant-loop-index l = (length l.room ≡ length l.initial.room) × (l.room ≡ paste l.initial.room l.at (wire l.values l.word) l.index)

@@ -33,14 +33,11 @@ loop-at-init c = (
 pub reach-far-requires : goal.reach-far-requires
 reach-far-requires c = (c.loop-at.invariant.1, c.requires.1)
 
-pub smaller-requires : goal.smaller-requires
-smaller-requires c = tt
-
 pub after_part-t-requires : goal.after_part-t-requires
 after_part-t-requires c =
     let l = c.loop-at in
     let far = c.reach-far in
-    let m = c.smaller in
+    let m = c.min in
     let p = c.args.padding.now in
     let q = c.args.room.now in
     let e : length (take (l.at + m.result - l.at) (drop l.at p)) ≡ m.result =
@@ -56,7 +53,7 @@ pub loop-at-preserved : goal.loop-at-preserved
 loop-at-preserved c =
     let l = c.loop-at in
     let far = c.reach-far in
-    let m = c.smaller in
+    let m = c.min in
     let p = c.args.padding.now in
     let q = c.args.room.now in
     let once = take c.args.size q in

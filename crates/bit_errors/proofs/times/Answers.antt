@@ -9,4 +9,4 @@ overflow_add-padding-2 c = record { fits = omega (arith, c.requires.2, div-le_se
 
 pub returns : goal.returns
 returns c =
-    times-over c.args.length (c.args.padding / 32) c.smaller.result c.requires.0 c.requires.1 c.smaller.ensures
+    times-over c.args.length (c.args.padding / 32) c.min.result c.requires.0 c.requires.1 c.min.ensures

@@ -1,29 +1,30 @@
-use mathlib.Core.Path.{◌≡◌, refl, ap, ap₂, ◌∙◌}
+use Rattle.std.specs.Prelude.{Ok, Err}
+use Rattle.limits.specs.declared.Refusal.TheVariants as refusal
+use mathlib.Core.Path.{◌≡◌, refl, sym, ap, ap₂, ◌∙◌}
 use mathlib.Core.List.{List, [], ◌∷◌}
 use Prim.Native.Nat.{ℕ, ◌≤◌, ◌<◌}
 use native.Mathlib.Nat.{zero-add, zero-max}
 use native.Mathlib.Omega.{arith}
 use lib.ListN.{length}
-use borrow.Author.Tests.{lt-ltb, le-ltb}
+use borrow.Author.Tests.{lt-ltb, le-ltb, eqb-true, eqb-false}
 use Rattle.bit_errors.specs.declared.BitErrors.{BitErrors}
-use Rattle.bit_errors.specs.declared.Comparison.TheVariants.{Refused, Counted}
 use Rattle.bit_runs.specs.declared.Tally.{Tally}
 use Rattle.bit_runs.specs.Bits.{all_bits, ones_of, longest_from}
 use Rattle.bit_runs.specs.Tally.{none, after}
-use Rattle.bit_errors.specs.Errors.{wrong_from, wrong_bytes, errors_in, outcome, comparison}
+use Rattle.bit_errors.specs.Errors.{wrong_from, wrong_bytes, errors_in, comparison}
 use Rattle.bit_errors.proofs.xor_popcount_and_max_burst.Goals as goal
 
 abbrev both : ℕ → ℕ → BitErrors
 both m n = record { errors = m; longest = n }
 
 module _ (padding pattern : List ℕ) where
-  refused : 65535 < length padding → outcome Refused ≡ comparison padding pattern
+  refused : 65535 < length padding → Err refusal.TooMuchPadding ≡ comparison padding pattern
   unfolding comparison
   refused h = rw (lt-ltb 65535 (length padding) h)
 
-  served : {e : BitErrors} → e ≡ errors_in (wrong_bytes padding pattern) → length padding ≤ 65535 → outcome (Counted e) ≡ comparison padding pattern
+  served : {e : BitErrors} → e ≡ errors_in (wrong_bytes padding pattern) → length padding ≤ 65535 → Ok e ≡ comparison padding pattern
   unfolding comparison
-  served e h = rw (le-ltb 65535 (length padding) h) (ap (λ (f : BitErrors). outcome (Counted f)) e)
+  served e h = rw (le-ltb 65535 (length padding) h) (ap Ok e)
 
 nothing : (padding pattern : List ℕ) → length pattern ≡ 0 → both 0 0 ≡ errors_in (wrong_bytes padding pattern)
 unfolding errors_in wrong_bytes all_bits ones_of longest_from
@@ -45,15 +46,15 @@ shown t bytes e =
 pub returns-then-padding-gt-MOST_PADDING : goal.returns-then-padding-gt-MOST_PADDING
 returns-then-padding-gt-MOST_PADDING c = refused c.args.padding.now c.args.pattern.now c.if-padding-gt-MOST_PADDING.true
 
-pub returns-then-pattern-eq0 : goal.returns-then-pattern-eq0
-returns-then-pattern-eq0 c =
+pub returns-then-is_empty : goal.returns-then-is_empty
+returns-then-is_empty c =
     let a = c.args in
-    served a.padding.now a.pattern.now (nothing a.padding.now a.pattern.now c.if-pattern-eq0.true) c.if-padding-gt-MOST_PADDING.false
+    served a.padding.now a.pattern.now (nothing a.padding.now a.pattern.now (eqb-true (length c.args.pattern.now) 0 (sym c.is_empty.ensures ∙ c.if-is_empty.true))) c.if-padding-gt-MOST_PADDING.false
 
 pub returns : goal.returns
 returns c =
     let a = c.args in
     served a.padding.now a.pattern.now
     (shown c.counted-t.result (wrong_from a.pattern.now 0 a.padding.now) c.counted-t.ensures
-    ∙ ap errors_in (against a.padding.now a.pattern.now c.if-pattern-eq0.false))
+    ∙ ap errors_in (against a.padding.now a.pattern.now (eqb-false (length c.args.pattern.now) 0 (sym c.is_empty.ensures ∙ c.if-is_empty.false))))
     c.if-padding-gt-MOST_PADDING.false

@@ -1,11 +1,7 @@
 use mathlib.Core.Path.{◌≡◌}
-use Prim.Native.Nat.{◌≤◌, ◌-◌}
-use lib.ListN.{length, drop}
+use lib.ListN.{drop}
 use Rattle.bit_observation.specs.Observation.{failed}
 use Rattle.bit_observation.proofs.any_failed.Given as goal
 
-abbrev pub invariant-loop-at : goal.invariant-loop-at
-invariant-loop-at l = (l.at ≤ length l.items) × (failed l.items ≡ failed (drop l.at l.items))
-
-abbrev pub decreases-loop-at : goal.decreases-loop-at
-decreases-loop-at l = length l.items - l.at
+abbrev pub invariant-loop-word : goal.invariant-loop-word
+invariant-loop-word l = failed l.items ≡ failed (drop l.word-index l.items)

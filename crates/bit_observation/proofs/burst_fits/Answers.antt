@@ -4,19 +4,19 @@ use Rattle.bit_observation.proofs.burst_fits.Goals as goal
 pub returns-then-n-count : goal.returns-then-n-count
 returns-then-n-count c =
     let a = c.args in
-    burst_more a.wanted a.count _ a.burst c.in-Known.is c.if-n-count.true
+    burst_more a.wanted a.count _ a.burst c.in-Some.is c.if-n-count.true
 
 pub returns-then-n-eq0 : goal.returns-then-n-eq0
 returns-then-n-eq0 c =
     let a = c.args in
-    burst-none a.wanted a.count _ a.burst c.in-Known.is c.if-n-count.false c.if-n-eq0.true
+    burst-none a.wanted a.count _ a.burst c.in-Some.is c.if-n-count.false c.if-n-eq0.true
 
 pub returns-else-n-eq0 : goal.returns-else-n-eq0
 returns-else-n-eq0 c =
     let a = c.args in
-    burst_some a.wanted a.count _ a.burst c.in-Known.is c.if-n-count.false c.if-n-eq0.false
+    burst_some a.wanted a.count _ a.burst c.in-Some.is c.if-n-count.false c.if-n-eq0.false
 
-pub returns-in-Absent : goal.returns-in-Absent
-returns-in-Absent c =
+pub returns-in-None : goal.returns-in-None
+returns-in-None c =
     let a = c.args in
-    burst-absent a.wanted a.count a.burst c.in-Absent.is
+    burst-absent a.wanted a.count a.burst c.in-None.is

@@ -1,3 +1,4 @@
+use Rattle.std.specs.Prelude.{Ok}
 use mathlib.Core.Path.{sym, ap, ◌∙◌}
 use borrow.Author.Tests.{lt-ltb, le-ltb}
 use Rattle.request_limits.specs.Refusals.{most_padding}
@@ -16,7 +17,7 @@ pub returns-then-intact : goal.returns-then-intact
 unfolding observed
 returns-then-intact c =
     let a = c.args in
-    rw (le-ltb most_padding a.size c.if-size-gt-MOST_PADDING.false, c.if-intact.true, sym c.any_failed.ensures ∙ c.if-any_failed.false) (c.finish.ensures ∙ ap (ending a.bytes.now a.pattern.now a.size a.wanted) c.read_all-reading.ensures)
+    rw (le-ltb most_padding a.size c.if-size-gt-MOST_PADDING.false, c.if-intact.true, sym c.any_failed.ensures ∙ c.if-any_failed.false) (ap Ok (c.finish.ensures ∙ ap (ending a.bytes.now a.pattern.now a.size a.wanted) c.read_all-reading.ensures))
 
 pub returns : goal.returns
 unfolding observed

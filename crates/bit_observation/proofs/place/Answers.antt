@@ -8,4 +8,4 @@ pub returns : goal.returns
 unfolding value_of
 returns c =
     let a = c.args in
-    record { order = omega (arith, c.smaller-taken.ensures); inside = omega (arith, c.smaller-from.ensures, c.smaller-taken.ensures); value = part-value a.bytes.now (start_of a.word) (length_of a.word) _ _ c.smaller-from.ensures c.smaller-taken.ensures }
+    record { order = omega (arith, c.min-taken.ensures); inside = omega (arith, c.min-from.ensures, c.min-taken.ensures); value = part-value a.bytes.now (start_of a.word) (length_of a.word) _ _ c.min-from.ensures c.min-taken.ensures }

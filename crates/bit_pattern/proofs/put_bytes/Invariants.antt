@@ -1,13 +1,9 @@
 -- `bit_pattern::put_bytes` The loop's invariant: the bytes before `at` are written, the rest of the room is as it was. Assumes nothing.
 use mathlib.Core.Path.{◌≡◌}
-use Prim.Native.Nat.{◌≤◌, ◌-◌}
 use lib.ListN.{length}
 use lib.Seq.{paste}
 use Rattle.bit_pattern.specs.Pattern.{bytes_of}
 use Rattle.bit_pattern.proofs.put_bytes.Given as goal
 
 abbrev pub invariant-loop-at : goal.invariant-loop-at
-invariant-loop-at l = (l.at ≤ l.count) × (length l.room ≡ length l.initial.room) × (l.room ≡ paste l.initial.room 0 (bytes_of l.digits) l.at)
-
-abbrev pub decreases-loop-at : goal.decreases-loop-at
-decreases-loop-at l = l.count - l.at
+invariant-loop-at l = (length l.room ≡ length l.initial.room) × (l.room ≡ paste l.initial.room 0 (bytes_of l.digits) l.at)

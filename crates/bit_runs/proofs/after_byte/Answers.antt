@@ -18,4 +18,4 @@ overflow_add-result c =
 pub returns : goal.returns
 returns c =
     stepped 8 c.args.byte c.args.t c.ranges.byte.fits c.run_after_byte.ensures
-    (omega (arith, c.with_run_in_byte.ensures, c.greater-reached.ensures))
+    (omega (arith, c.with_run_in_byte.ensures, c.max-reached.ensures))

@@ -4,14 +4,14 @@ use Rattle.bit_summary.proofs.greater_burst.Goals as goal
 pub returns-then-most-bits : goal.returns-then-most-bits
 returns-then-most-bits c =
     let a = c.args in
-    longer a.burst _ a.bits c.in-Bits.is c.if-most-bits.true
+    longer a.burst _ a.bits c.in-Some.is c.if-most-bits.true
 
 pub returns-else-most-bits : goal.returns-else-most-bits
 returns-else-most-bits c =
     let a = c.args in
-    not_longer a.burst _ a.bits c.in-Bits.is c.if-most-bits.false
+    not_longer a.burst _ a.bits c.in-Some.is c.if-most-bits.false
 
-pub returns-in-Absent : goal.returns-in-Absent
-returns-in-Absent c =
+pub returns-in-None : goal.returns-in-None
+returns-in-None c =
     let a = c.args in
-    first a.burst a.bits c.in-Absent.is
+    first a.burst a.bits c.in-None.is

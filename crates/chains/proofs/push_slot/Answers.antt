@@ -5,8 +5,8 @@ use Rattle.chains.proofs.Places.{slot_room, slot_full}
 use borrow.Author.Rules.{rules}
 use Rattle.chains.proofs.push_slot.Goals as goal
 
-pub returns-then-len-lt-CAPACITY : goal.returns-then-len-lt-CAPACITY
-returns-then-len-lt-CAPACITY c = (c.wrapped.ensures.0 ∙ slot_room 4096 _ (omega (arith, ltb-true)), c.wrapped.ensures.1)
+pub returns-then-ring-lt-CAPACITY : goal.returns-then-ring-lt-CAPACITY
+returns-then-ring-lt-CAPACITY c = (c.wrapped.ensures.0 ∙ slot_room 4096 _ (omega (arith, ltb-true)), c.wrapped.ensures.1)
 
 pub returns : goal.returns
 returns c = (slot_full 4096 _ (omega (arith, ltb-false)), search rules)

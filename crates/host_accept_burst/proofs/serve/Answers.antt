@@ -14,12 +14,6 @@ serve_entry-requires c =
     let l = c.loop-i in
     not_refused a.ledger.now a.keys.now a.slots.now a.probes.now a.links.now a.entries.now a.count a.answers.now _ l.i l.ledger l.keys l.slots l.probes l.links l.answers l.invariant c.loop-i-test.true
 
-pub overflow_add-i : goal.overflow_add-i
-overflow_add-i c = omega (arith, c.loop-i-test.true, c.ranges.count.fits)
-
-pub loop-i-smaller : goal.loop-i-smaller
-loop-i-smaller c = omega (arith, c.loop-i-test.true)
-
 pub loop-i-preserved : goal.loop-i-preserved
 loop-i-preserved c =
     let a = c.args in

@@ -4,4 +4,4 @@ use Rattle.record_parts.proofs.Signed.{bits_again}
 use Rattle.host_call_words.proofs.reference_word.Goals as goal
 
 pub returns : goal.returns
-returns c = c.word64.ensures ∙ bits_again w64 c.args.o.reference (record { sfits = c.struct_told-1.given.1.1.1.1.0.1 })
+returns c = c.cast_unsigned.ensures ∙ bits_again w64 c.args.o.reference (record { sfits = c.struct_told-1.given.1.1.1.1.0.1 })

@@ -1,7 +1,7 @@
 use Rattle.host_calls.proofs.ordinal_words.Goals as goal
 
-pub returns-in-Absent : goal.returns-in-Absent
-returns-in-Absent c = cc
+pub returns-in-None : goal.returns-in-None
+returns-in-None c = cc
 
-pub returns-in-Number : goal.returns-in-Number
-returns-in-Number c = cc
+pub returns-in-Some : goal.returns-in-Some
+returns-in-Some c = cc

@@ -5,6 +5,6 @@ pub corrected_words-requires : goal.corrected_words-requires
 corrected_words-requires c =
     held_slot c.args.held c.args.slot c.requires.2
 
-pub returns-in-Matched : goal.returns-in-Matched
-returns-in-Matched c =
-    corrected_in _ c.args.class _ c.args.slots.now c.args.at c.args.held _ _ c.in-Matched.is c.requires.1 c.corrected_words.ensures c.store.ensures
+pub returns-in-Ok : goal.returns-in-Ok
+returns-in-Ok c =
+    corrected_in _ c.args.class _ c.args.slots.now c.args.at c.args.held _ _ c.in-Ok.is c.requires.1 c.corrected_words.ensures c.store.ensures

@@ -18,14 +18,14 @@ count_class-requires c =
       subst OffsetInRange (sym (to_z-of_z w32 s.args.told.offset (search rules))) s.requires.5,
     )
 
-pub returns-in-Absent : goal.returns-in-Absent
-returns-in-Absent c =
+pub returns-in-None : goal.returns-in-None
+returns-in-None c =
     let s = c in
-    follow_untold _ (hash_of s.args.secret) (number_hash s.args.secret) s.args.ledger.now s.args.ring s.args.keys.now s.args.slots.now s.args.links.now s.args.told c.in-Absent.is
+    follow_untold _ (hash_of s.args.secret) (number_hash s.args.secret) s.args.ledger.now s.args.ring s.args.keys.now s.args.slots.now s.args.links.now s.args.told c.in-None.is
 
-pub returns-in-Telemetry : goal.returns-in-Telemetry
-returns-in-Telemetry c =
+pub returns-in-Some : goal.returns-in-Some
+returns-in-Some c =
     let s = c in
     follow-told _ (hash_of s.args.secret) (number_hash s.args.secret) s.args.ledger.now s.args.ring s.args.keys.now s.args.slots.now s.args.links.now s.args.told _ _ _ _ _
-    c.in-Telemetry.is c.class_of_follow_up-class.ensures
+    c.in-Some.is c.class_of_follow_up-class.ensures
     (to_z-of_z w32 s.args.told.offset (search rules)) c.count_class.ensures

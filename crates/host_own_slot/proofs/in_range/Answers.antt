@@ -5,5 +5,5 @@ pub returns : goal.returns
 returns c =
     range-as c.args.words.now _ _ _ _ _ _ _ _ _
     c.time_fits.ensures c.time_by-t4.ensures c.has-timed.ensures c.both.ensures.0
-    c.reference_within.ensures c.signed64-reference.ensures (record { sfits = c.signed64-reference.type_inv }) c.both-2.ensures.0
-    c.offset_within.ensures c.signed32-offset.ensures (record { sfits = c.signed32-offset.type_inv })
+    c.reference_within.ensures c.cast_signed-reference.ensures (record { sfits = c.cast_signed-reference.type_inv }) c.both-2.ensures.0
+    c.offset_within.ensures c.cast_signed-offset.ensures (record { sfits = c.cast_signed-offset.type_inv })

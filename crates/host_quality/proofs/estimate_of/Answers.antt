@@ -3,4 +3,4 @@ use Rattle.host_quality.proofs.estimate_of.Goals as goal
 
 pub returns : goal.returns
 unfolding estimate_of
-returns c = rw (c.format_of-format.ensures, c.error_of-error.ensures)
+returns c = rw (c.format_of.ensures, c.error_of.ensures)

@@ -1,17 +1,12 @@
-use Rattle.host_quantiles.proofs.Answers.{percentiles-refused, percentiles-empty, percentiles-shown}
+use Rattle.host_quantiles.proofs.Answers.{percentiles-refused, percentiles-served}
 use Rattle.host_quantiles.proofs.ambrulicciu_quantiles_percentiles.Goals as goal
 
-pub returns-in-Refused : goal.returns-in-Refused
-returns-in-Refused c =
+pub returns-in-Err : goal.returns-in-Err
+returns-in-Err c =
     let at = c.args in
-    percentiles-refused at.quantiles.now at.room.now at.percents.now at.shown.now _ at.present.now _ _ c.load-state.ensures c.percentiles-answer.ensures c.in-Refused.is
+    percentiles-refused at.quantiles.now at.room.now at.percents.now at.shown.now _ at.present.now _ _ c.load-state.ensures c.percentiles-answer.ensures _ _ c.in-Err.is c.from.ensures
 
-pub returns-in-Empty : goal.returns-in-Empty
-returns-in-Empty c =
+pub returns-in-Ok : goal.returns-in-Ok
+returns-in-Ok c =
     let at = c.args in
-    percentiles-empty at.quantiles.now at.room.now at.percents.now at.shown.now _ at.present.now _ _ c.load-state.ensures c.percentiles-answer.ensures c.in-Empty.is
-
-pub returns-in-Shown : goal.returns-in-Shown
-returns-in-Shown c =
-    let at = c.args in
-    percentiles-shown at.quantiles.now at.room.now at.percents.now at.shown.now _ at.present.now _ _ c.load-state.ensures c.percentiles-answer.ensures c.in-Shown.is
+    percentiles-served at.quantiles.now at.room.now at.percents.now at.shown.now _ at.present.now _ _ c.load-state.ensures c.percentiles-answer.ensures _ _ c.in-Ok.is c.flag.ensures.0

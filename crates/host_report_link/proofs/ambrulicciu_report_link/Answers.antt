@@ -4,7 +4,8 @@ use Rattle.host_report_link.proofs.ambrulicciu_report_link.Goals as goal
 pub returns-then-out_of_place : goal.returns-then-out_of_place
 returns-then-out_of_place c =
     let a = c.args in
-    link-refused a.ledger.now a.monitor.now a.watched a.records a.turned_away a.text.now a.length.now _ _ c.watch_at-watch.ensures c.out_of_place.ensures c.if-out_of_place.true
+    rw c.from.ensures
+    (link-refused a.ledger.now a.monitor.now a.watched a.records a.turned_away a.text.now a.length.now _ _ c.watch_at-watch.ensures c.out_of_place.ensures c.if-out_of_place.true)
 
 pub returns : goal.returns
 returns c =

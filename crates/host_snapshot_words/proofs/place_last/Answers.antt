@@ -1,9 +1,9 @@
 use Rattle.host_snapshot_words.specs.Words.{estimate_words}
 use Rattle.host_snapshot_words.proofs.place_last.Goals as goal
 
-pub returns-in-Absent : goal.returns-in-Absent
+pub returns-in-None : goal.returns-in-None
 unfolding estimate_words
-returns-in-Absent c = rw (c.place.ensures, c.in-Absent.is)
+returns-in-None c = rw (c.place.ensures, c.in-None.is)
 
-pub returns-in-Seen : goal.returns-in-Seen
-returns-in-Seen c = rw (c.place_estimate.ensures, c.in-Seen.is)
+pub returns-in-Some : goal.returns-in-Some
+returns-in-Some c = rw (c.place_estimate.ensures, c.in-Some.is)

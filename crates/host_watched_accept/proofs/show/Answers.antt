@@ -1,13 +1,17 @@
-use mathlib.Core.Path.{refl}
+use mathlib.Core.Path.{refl, sym, ◌∙◌}
+use Rattle.limits.proofs.Numbers.{in_some, in_none}
+use Rattle.limits.specs.Numbers.{number}
 use Rattle.host_watched_accept.proofs.Ended.{stored_is, kept_is}
 use Rattle.host_watched_accept.proofs.show.Goals as goal
 
-pub returns-then-given-eq0 : goal.returns-then-given-eq0
-returns-then-given-eq0 c =
+pub returns-in-None : goal.returns-in-None
+returns-in-None c =
     let a = c.args in
-    (refl, stored_is a.given.number a.given.words a.answer.now _ c.if-given-eq0.true refl)
+    let served = in_none a.given.refused (number a.given.refused) refl c.in-None.is in
+    (sym served, stored_is (number a.given.refused) a.given.words a.answer.now _ served refl)
 
-pub returns-else-given-eq0 : goal.returns-else-given-eq0
-returns-else-given-eq0 c =
+pub returns-in-Some : goal.returns-in-Some
+returns-in-Some c =
     let a = c.args in
-    (refl, kept_is a.given.number a.given.words a.answer.now c.if-given-eq0.false)
+    let told = in_some a.given.refused _ (number a.given.refused) refl c.in-Some.is in
+    (c.from.ensures ∙ told.0, kept_is (number a.given.refused) a.given.words a.answer.now told.1)

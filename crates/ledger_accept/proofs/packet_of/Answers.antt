@@ -1,4 +1,4 @@
 use Rattle.ledger_accept.proofs.packet_of.Goals as goal
 
-pub returns-in-Absent : goal.returns-in-Absent
-returns-in-Absent c = rw c.in-Absent.is
+pub returns-in-None : goal.returns-in-None
+returns-in-None c = rw c.in-None.is

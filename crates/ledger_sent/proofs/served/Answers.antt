@@ -9,5 +9,5 @@ pub returns : goal.returns
 returns c =
     let args = c.args in
     remembered-is args.ledger args.probes.now args.links.now args.probe
-    c.words-secret.result c.remember-kept.result _ _ c.sent-replies.result
-    c.words-secret.ensures c.remember-kept.ensures.0 c.sent-replies.ensures
+    c.words.result c.remember-kept.result _ _ c.sent.result
+    c.words.ensures c.remember-kept.ensures.0 c.sent.ensures

@@ -1,8 +1,9 @@
+use mathlib.Core.Path.{refl}
 use Rattle.link_report.proofs.Laws.{refused-outcome, played-outcome}
 use Rattle.link_report.proofs.write_checked.Goals as goal
 
-pub returns-in-Refused : goal.returns-in-Refused
-returns-in-Refused c = refused-outcome _ _ _ _ _ c.in-Refused.is
+pub returns-in-Ok : goal.returns-in-Ok
+returns-in-Ok c = played-outcome _ _ _ _ _ _ c.in-Ok.is c.write_played.ensures
 
-pub returns-in-Good : goal.returns-in-Good
-returns-in-Good c = played-outcome _ _ _ _ _ _ c.in-Good.is c.write_played.ensures
+pub returns-in-Err : goal.returns-in-Err
+returns-in-Err c = refused-outcome _ _ _ _ _ _ c.in-Err.is refl

@@ -1,7 +1,8 @@
+use Rattle.std.specs.Prelude.{Option}
+use Rattle.monitor.specs.declared.Monitor.{Monitor}
 use mathlib.Core.Path.{sym, ap}
-use Rattle.link_steps.specs.declared.Watch.{Watch}
 use Rattle.log_play_parts.specs.Parts.{watch_after}
 use Rattle.log_play_parts.proofs.watch_after.Goals as goal
 
-pub returns-in-Present : goal.returns-in-Present
-returns-in-Present c = sym (ap (λ (w : Watch). watch_after w c.args.monitor) c.in-Present.is)
+pub returns-in-Some : goal.returns-in-Some
+returns-in-Some c = sym (ap (λ (w : Option Monitor). watch_after w c.args.monitor) c.in-Some.is)

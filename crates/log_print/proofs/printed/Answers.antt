@@ -1,15 +1,18 @@
+use Rattle.std.specs.Prelude.{Result, ℕ}
 use mathlib.Core.Path.{sym, ap, ◌∙◌}
-use Rattle.report.specs.declared.ReportAnswer.{ReportAnswer}
-use Rattle.log_whole.specs.declared.Log.{Log}
+use Rattle.limits.specs.declared.Refusal.{Refusal}
+use Rattle.limits.specs.Numbers.{numbered}
+use Rattle.log_whole.specs.declared.Fault.{Fault}
+use Rattle.log_whole.specs.declared.Settings.{Settings}
 use Rattle.log_print.specs.Printed.{refused_in, printed_in}
 use Rattle.log_print.proofs.printed.Goals as goal
 
-pub returns-in-Written : goal.returns-in-Written
+pub returns-in-Ok : goal.returns-in-Ok
 unfolding printed_in
-returns-in-Written c = let a = c.args in ap (λ (x : ReportAnswer). printed_in a.log.now x a.text.now) (sym c.in-Written.is)
+returns-in-Ok c = let a = c.args in ap (λ (x : Result ℕ Refusal). printed_in a.log.now (numbered x) a.text.now) (sym c.in-Ok.is)
 
-pub returns-in-Refused : goal.returns-in-Refused
+pub returns-in-Err : goal.returns-in-Err
 unfolding printed_in
-returns-in-Refused c =
+returns-in-Err c =
     let a = c.args in
-    c.before.before.put_refused.ensures ∙ ap (λ (l : Log). refused_in l a.text.now) c.check.ensures ∙ ap (λ (x : ReportAnswer). printed_in a.log.now x a.text.now) (sym c.in-Refused.is)
+    c.before.before.put_refused.ensures ∙ ap (λ (l : Result Settings Fault). refused_in l a.text.now) c.check.ensures ∙ ap (λ (x : Result ℕ Refusal). printed_in a.log.now (numbered x) a.text.now) (sym c.in-Err.is)

@@ -1,15 +1,7 @@
-use mathlib.Core.Path.{refl}
-use Rattle.log_trim.proofs.Laws.{whole_by_lem}
+use Rattle.std.proofs.Common.{rules}
+use Rattle.log_cut.specs.Cut.{whole}
 use Rattle.log_trim.proofs.is_whole.Goals as goal
 
-pub returns-in-Good : goal.returns-in-Good
-returns-in-Good c = whole_by_lem _ _ _ _ c.check.ensures c.in-Good.is refl
-
-pub returns-in-TooLong : goal.returns-in-TooLong
-returns-in-TooLong c = whole_by_lem _ _ _ _ c.check.ensures c.in-TooLong.is refl
-
-pub returns-in-BadTrailer : goal.returns-in-BadTrailer
-returns-in-BadTrailer c = whole_by_lem _ _ _ _ c.check.ensures c.in-BadTrailer.is refl
-
-pub returns-in-BadRecord : goal.returns-in-BadRecord
-returns-in-BadRecord c = whole_by_lem _ _ _ _ c.check.ensures c.in-BadRecord.is refl
+pub returns : goal.returns
+unfolding whole
+returns c = search rules

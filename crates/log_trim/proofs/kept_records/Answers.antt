@@ -6,4 +6,4 @@ pub returns-then-all : goal.returns-then-all
 returns-then-all c = kept_all c.args.log.now (sym c.requires.1 ∙ c.if-all.true)
 
 pub returns : goal.returns
-returns c = c.good_records.ensures ∙ kept-first c.args.log.now
+returns c = c.first_bad.ensures ∙ kept-first c.args.log.now

@@ -1,6 +1,5 @@
 use mathlib.Core.Path.{◌≡◌, sym, subst}
-use mathlib.Core.Bool.{Bool, true, false}
-use Prim.Native.Nat.{◌-◌}
+use mathlib.Core.Bool.{Bool}
 use Rattle.buckets.specs.Signed.{order}
 use Rattle.exact_rank.specs.Rank.{at_ranks}
 use Rattle.percentiles.proofs.exact_four.Goals as goal

@@ -1,7 +1,7 @@
 use mathlib.Core.Path.{sym, ◌∙◌, ap}
 use mathlib.Core.List.{List}
 use Prim.Native.Nat.{ℕ}
-use Rattle.percentiles.specs.declared.Showing.TheVariants.{Shown}
+use Rattle.std.specs.Prelude.{true, Ok}
 use Rattle.percentiles.specs.Percentiles.{outcome}
 use Rattle.percentiles.proofs.Ways.{way_size, way_answer, way_crossed, way_empty, way_exact}
 use Rattle.percentiles.proofs.percentiles.Goals as goal
@@ -33,5 +33,5 @@ returns-then-q-eq0 c =
 pub returns : goal.returns
 returns c =
     let a = c.args in
-    ap (λ (l : List ℕ). outcome Shown l) c.show_exact.ensures
+    ap (λ (l : List ℕ). outcome (Ok true) l) c.show_exact.ensures
     ∙ way_exact a.q a.room.now a.ps.now a.shown.now (c.if-room-room_size.false ∙ c.room_size.ensures) c.if-shown-ps.false (sym c.min_above_max.ensures ∙ c.if-min_above_max.false) c.if-q-gt4096.false c.if-q-eq0.false

@@ -1,6 +1,6 @@
 use mathlib.Core.Path.{refl, sym, ◌∙◌, ap}
 use mathlib.Core.List.{List}
-use Prim.Native.Nat.{ℕ, ◌-◌}
+use Prim.Native.Nat.{ℕ, ◌+◌, ◌≤◌}
 use native.Mathlib.Omega.{arith}
 use lib.ListN.{length}
 use Rattle.percentiles.specs.Percentiles.{percentile}
@@ -35,3 +35,12 @@ pub returns : goal.returns
 returns c =
     let a = c.args in
     c.loop-i.invariant.2 ∙ shown_all (percentile a.q a.room.now) a.ps.now a.shown.now c.loop-i.i c.loop-i-test.false c.loop-i.invariant.0
+
+pub returns-2 : goal.returns-2
+returns-2 c =
+    let l = c.loop-i in
+    let a = c.args in
+    let last : length a.ps.now ≤ l.i + 4 = omega arith in
+    c.show_four.ensures ∙ ap (λ (s : List ℕ). put_four a.q a.room.now a.ps.now s l.i) l.invariant.2
+    ∙ four_next a.q a.room.now a.ps.now a.shown.now l.invariant.0 (omega (arith, c.loop-i-test.true)) l.i
+    ∙ shown_all (percentile a.q a.room.now) a.ps.now a.shown.now (l.i + 4) last l.invariant.0

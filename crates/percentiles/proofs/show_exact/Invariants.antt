@@ -1,7 +1,7 @@
 -- `percentiles::show_exact` The loop's invariant is that of `show_buckets`; past the last percentile all are shown. Assumes nothing.
-use mathlib.Core.Path.{◌≡◌, ap}
+use mathlib.Core.Path.{◌≡◌}
 use mathlib.Core.List.{◌++◌, map}
-use Prim.Native.Nat.{◌+◌, ◌-◌}
+use Prim.Native.Nat.{◌-◌}
 use lib.ListN.{length, take, drop}
 use Rattle.percentiles.specs.Percentiles.{percentile}
 use Rattle.percentiles.proofs.show_exact.Given as goal

@@ -2,7 +2,7 @@ use mathlib.Core.Path.{sym, ◌∙◌, ap}
 use mathlib.Core.List.{List}
 use Prim.Native.Nat.{ℕ}
 use borrow.Author.Tests.{eqb-true}
-use Rattle.percentiles.specs.declared.Showing.TheVariants.{Shown}
+use Rattle.std.specs.Prelude.{true, Ok}
 use Rattle.percentiles.specs.Percentiles.{outcome}
 use Rattle.percentiles.proofs.Lies.{spoilt_sum, spoilt-block}
 use Rattle.percentiles.proofs.Ways.{way_spoilt, way_histogram}
@@ -40,6 +40,6 @@ returns c =
     let a = c.args in
     let p = c.requires in
     let t = c.totals_are in
-    ap (λ (l : List ℕ). outcome Shown l) c.show_buckets.ensures
+    ap (λ (l : List ℕ). outcome (Ok true) l) c.show_buckets.ensures
     ∙ way_histogram a.q a.room.now a.ps.now a.shown.now p.0 p.1 p.2 p.3
     (spoilt-block a.q a.room.now a.ps.now (sym t.ensures ∙ c.if-not-totals_are.false) ∙ sym c.any_lies.ensures ∙ c.if-any_lies.false)

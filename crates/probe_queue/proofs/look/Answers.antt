@@ -6,10 +6,10 @@ use Rattle.probe_queue.proofs.look.Goals as goal
 
 pub returns-then-not-goes_on : goal.returns-then-not-goes_on
 returns-then-not-goes_on c =
-    leads (passes c.args.rule) c.args.ring.len (at c.args.queue.now c.args.ring) c.loop-i.i c.loop-i.invariant.0 c.loop-i.invariant.1
+    leads (passes c.args.rule) c.args.ring.len (at c.args.queue.now c.args.ring) c.loop-i.i (omega arith) c.loop-i.invariant
     (λ _. sym (ap (passes c.args.rule) (c.front-probe.ensures ∙ ap (λ (n : ℕ). get_or c.args.queue.now n nil) c.place_of-at.ensures)) ∙ sym c.goes_on.ensures ∙ c.if-not-goes_on.true)
 
 pub returns : goal.returns
 returns c =
-    leads (passes c.args.rule) c.args.ring.len (at c.args.queue.now c.args.ring) c.loop-i.i c.loop-i.invariant.0 c.loop-i.invariant.1
+    leads (passes c.args.rule) c.args.ring.len (at c.args.queue.now c.args.ring) c.args.ring.len (omega arith) (λ k h. c.loop-i.invariant k (omega (arith, h)))
     (λ l. absurd (omega arith))

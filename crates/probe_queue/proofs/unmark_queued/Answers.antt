@@ -14,9 +14,7 @@ one_more q room ring s i n p er en ep =
     ∙ sym (ap (unmarked q ring s) (add-one i))
 
 pub loop-i-preserved : goal.loop-i-preserved
-loop-i-preserved c = (
-  omega arith,
-  c.push.ensures
-      ∙ stored c.loop-i.queue c.args.sequence c.place_of-at.result c.front-probe.result c.unmarked-changed.result c.place_if-to.result (omega arith) c.front-probe.ensures c.unmarked-changed.ensures c.place_if-to.ensures
-      ∙ one_more c.args.queue.now c.loop-i.queue c.args.ring c.args.sequence c.loop-i.i c.place_of-at.result c.front-probe.result c.loop-i.invariant.1 c.place_of-at.ensures c.front-probe.ensures,
-)
+loop-i-preserved c =
+    c.push.ensures
+    ∙ stored c.loop-i.queue c.args.sequence c.place_of-at.result c.front-probe.result c.unmarked-changed.result c.place_if-to.result (omega arith) c.front-probe.ensures c.unmarked-changed.ensures c.place_if-to.ensures
+    ∙ one_more c.args.queue.now c.loop-i.queue c.args.ring c.args.sequence c.loop-i.i c.place_of-at.result c.front-probe.result c.loop-i.invariant c.place_of-at.ensures c.front-probe.ensures

@@ -1,4 +1,3 @@
-use Prim.Native.Nat.{◌-◌}
 use mathlib.Core.Path.{◌≡◌}
 use lib.ListN.{length}
 use Rattle.probe_ring.specs.Rooms.{move_row}
@@ -8,6 +7,3 @@ use Rattle.probe_ring.proofs.slide_rows.Given as goal
 -- Assumes nothing.
 abbrev pub invariant-loop-i : goal.invariant-loop-i
 invariant-loop-i l = (length l.rows ≡ 4096) × Sliding 4096 move_row l.from l.to l.initial.rows l.rows l.i
-
-abbrev pub decreases-loop-i : goal.decreases-loop-i
-decreases-loop-i l = l.to - l.i

@@ -1,7 +1,5 @@
 use mathlib.Core.Path.{◌∙◌, ap}
-use Prim.Native.Nat.{◌-◌}
 use native.Mathlib.Nat.{le_refl}
-use lib.ListN.{length, take}
 use Rattle.quantiles.specs.Record.{outcome, taken}
 use Rattle.quantiles.proofs.Ways.{way_first}
 use Rattle.quantiles.proofs.Tally.{filling_length, filling_small, filling_counted}

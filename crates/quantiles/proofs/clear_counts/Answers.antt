@@ -1,7 +1,7 @@
 use mathlib.Core.Path.{◌∙◌, ap}
 use mathlib.Core.List.{List, ◌++◌}
-use Prim.Native.Nat.{ℕ, ◌-◌}
-use lib.ListN.{length, take, drop, replicate, length-drop}
+use Prim.Native.Nat.{ℕ}
+use lib.ListN.{length, take, replicate, length-drop}
 use Rattle.quantile_room.proofs.Parts.{whole_part, part-back}
 use Rattle.quantiles.proofs.clear_counts.Goals as goal
 

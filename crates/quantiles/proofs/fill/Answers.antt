@@ -1,8 +1,6 @@
-use mathlib.Core.Path.{sym}
-use Prim.Native.Nat.{◌-◌, ◌+◌}
+use Prim.Native.Nat.{◌+◌}
 use native.Mathlib.Omega.{arith}
 use native.Mathlib.Nat.{le_antisymm}
-use lib.ListN.{length}
 use Rattle.quantiles.proofs.Tally.{filling_entry, filling_none, filling_done, filling_samples, filling_length, filling_small, filling_next}
 use Rattle.quantiles.proofs.fill.Goals as goal
 

@@ -8,6 +8,3 @@ use Rattle.quantiles.proofs.fill.Given as goal
 
 abbrev pub invariant-loop-i : goal.invariant-loop-i
 invariant-loop-i l = (l.i ≤ 4096) × (length l.initial.room ≡ room_size l.signed) × (length l.room ≡ room_size l.signed) × (l.room ≡ holding l.signed l.initial.room (take l.i l.initial.room))
-
-abbrev pub decreases-loop-i : goal.decreases-loop-i
-decreases-loop-i l = 4096 - l.i

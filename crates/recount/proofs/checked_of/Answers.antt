@@ -1,15 +1,10 @@
-use mathlib.Core.Path.{sym, ap}
+use Rattle.std.specs.Prelude.{Err}
+use mathlib.Core.Path.{sym, ap, ◌∙◌}
 use Rattle.recount.specs.Recount.{checked_of}
 use Rattle.recount.proofs.checked_of.Goals as goal
 
-pub returns-in-TooLong : goal.returns-in-TooLong
-returns-in-TooLong c = sym (ap checked_of c.in-TooLong.is)
+pub returns-in-Ok : goal.returns-in-Ok
+returns-in-Ok c = sym (ap checked_of c.in-Ok.is)
 
-pub returns-in-BadTrailer : goal.returns-in-BadTrailer
-returns-in-BadTrailer c = sym (ap checked_of c.in-BadTrailer.is)
-
-pub returns-in-BadRecord : goal.returns-in-BadRecord
-returns-in-BadRecord c = sym (ap checked_of c.in-BadRecord.is)
-
-pub returns-in-Good : goal.returns-in-Good
-returns-in-Good c = sym (ap checked_of c.in-Good.is)
+pub returns-in-Err : goal.returns-in-Err
+returns-in-Err c = ap Err c.from.ensures ∙ sym (ap checked_of c.in-Err.is)

@@ -1,12 +1,6 @@
-use Rattle.std.proofs.Common.{◌≡◌, ◌-◌, Bool, ◌||◌, ap, arith, rules}
-use Rattle.recount_back.proofs.Laws.{probe_start, probe-turn}
+use Rattle.std.proofs.Common.{rules}
+use Rattle.recount_back.proofs.Laws.{remembered_is}
 use Rattle.recount_back.proofs.was_remembered.Goals as goal
 
-pub loop-j-init : goal.loop-j-init
-loop-j-init c = (probe_start _ _ _, search rules)
-
-pub loop-j-preserved : goal.loop-j-preserved
-loop-j-preserved c = (probe-turn _ _ _ _ _ _ _ c.seen_at-seen.ensures (ap (λ (b : Bool). b || c.loop-j.found) c.remembers-found.ensures) c.loop-j.invariant.0, search rules)
-
 pub returns : goal.returns
-returns c = let e : c.loop-j.j ≡ c.args.n = omega (arith, c.loop-j-test.false, c.loop-j.invariant.1) in rw e at c.loop-j.invariant.0
+returns c = remembered_is c.fold.ensures c.args.sequence (λ s a b h. search rules)

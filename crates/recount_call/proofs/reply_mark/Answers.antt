@@ -8,8 +8,8 @@ returns-then-was_accepted c = known_key _ _ (sym c.was_accepted.ensures ∙ c.if
 pub returns-then-was_remembered : goal.returns-then-was_remembered
 returns-then-was_remembered c = known_probe _ _ (sym c.was_accepted.ensures ∙ c.if-was_accepted.false) (sym c.was_remembered.ensures ∙ c.if-was_remembered.true)
 
-pub returns-in-Absent : goal.returns-in-Absent
-returns-in-Absent c = no_packet _ _ (sym c.was_accepted.ensures ∙ c.if-was_accepted.false) (sym c.was_remembered.ensures ∙ c.if-was_remembered.false) _ refl c.in-Absent.is
+pub returns-in-None : goal.returns-in-None
+returns-in-None c = no_packet _ _ (sym c.was_accepted.ensures ∙ c.if-was_accepted.false) (sym c.was_remembered.ensures ∙ c.if-was_remembered.false) _ refl c.in-None.is
 
-pub returns-in-Held : goal.returns-in-Held
-returns-in-Held c = has-packet _ _ (sym c.was_accepted.ensures ∙ c.if-was_accepted.false) (sym c.was_remembered.ensures ∙ c.if-was_remembered.false) _ _ refl c.in-Held.is
+pub returns-in-Some : goal.returns-in-Some
+returns-in-Some c = has-packet _ _ (sym c.was_accepted.ensures ∙ c.if-was_accepted.false) (sym c.was_remembered.ensures ∙ c.if-was_remembered.false) _ _ refl c.in-Some.is

@@ -6,12 +6,12 @@ use Rattle.history.specs.Given.{counters_of}
 use Rattle.recount_direct.proofs.Laws.{unanchored, anchored}
 use Rattle.recount_direct.proofs.on_window.Goals as goal
 
-pub returns-in-Absent : goal.returns-in-Absent
-returns-in-Absent c =
+pub returns-in-None : goal.returns-in-None
+returns-in-None c =
     c.without_anchor.ensures
-    ∙ unanchored c.args.c (points_from (observation_at c.args.log.now c.args.marks.now) c.args.start (c.args.n - c.args.start)) (ap counters_of (sym c.in-Absent.is) ∙ c.anchor-anchor.ensures)
+    ∙ unanchored c.args.c (points_from (observation_at c.args.records.log.now c.args.records.marks.now) c.args.start (c.args.n - c.args.start)) (ap counters_of (sym c.in-None.is) ∙ c.anchor-anchor.ensures)
 
-pub returns-in-Point : goal.returns-in-Point
-returns-in-Point c =
+pub returns-in-Some : goal.returns-in-Some
+returns-in-Some c =
     c.from_anchor.ensures
-    ∙ anchored c.args.c c.in-Point.a (points_from (observation_at c.args.log.now c.args.marks.now) c.args.start (c.args.n - c.args.start)) (ap counters_of (sym c.in-Point.is) ∙ c.anchor-anchor.ensures)
+    ∙ anchored c.args.c c.in-Some.a (points_from (observation_at c.args.records.log.now c.args.records.marks.now) c.args.start (c.args.n - c.args.start)) (ap counters_of (sym c.in-Some.is) ∙ c.anchor-anchor.ensures)

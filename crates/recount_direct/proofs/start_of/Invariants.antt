@@ -6,7 +6,4 @@ use Rattle.recount_window.specs.Window.{start_of}
 use Rattle.recount_direct.proofs.start_of.Given as goal
 
 abbrev pub invariant-loop-j : goal.invariant-loop-j
-invariant-loop-j l = (l.start ≡ start_of (observation_at l.log l.marks) capacity l.j) × (l.j ≤ l.n) × (l.start ≤ l.j)
-
-abbrev pub decreases-loop-j : goal.decreases-loop-j
-decreases-loop-j l = l.n - l.j
+invariant-loop-j l = (l.start ≡ start_of (observation_at l.records.log.now l.records.marks.now) capacity l.j) × (l.start ≤ l.j)

@@ -4,6 +4,6 @@ use mir.Syntax.{w64}
 use mir.ValLaws.{to_z-of_z}
 use Rattle.recount_follow.proofs.left_time.Goals as goal
 
-pub returns-in-Nanoseconds : goal.returns-in-Nanoseconds
-returns-in-Nanoseconds c =
-    rw c.in-Nanoseconds.is (ap (Timed c.args.format) (to_z-of_z w64 c.args.reference c.ranges.reference))
+pub returns-in-Some : goal.returns-in-Some
+returns-in-Some c =
+    rw c.in-Some.is (ap (Timed c.args.format) (to_z-of_z w64 c.args.reference c.ranges.reference))

@@ -6,7 +6,4 @@ use Rattle.recount_follow.specs.Brief.{brief_of}
 use Rattle.recount_follow.proofs.slot_before.Given as goal
 
 abbrev pub invariant-loop-j : goal.invariant-loop-j
-invariant-loop-j l = (l.b ≡ brief_of (slot_in l.copies (events_of l.log l.marks l.j) l.number)) × (l.j ≤ l.n) × (l.b.count ≤ l.j)
-
-abbrev pub decreases-loop-j : goal.decreases-loop-j
-decreases-loop-j l = l.n - l.j
+invariant-loop-j l = (l.b ≡ brief_of (slot_in l.copies (events_of l.records.log.now l.records.marks.now l.j) l.number)) × (l.b.count ≤ l.j)

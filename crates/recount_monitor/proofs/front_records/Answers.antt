@@ -7,13 +7,10 @@ use Rattle.recount_monitor.proofs.Room.{fronts_starts, fronted_to, fronts_turn}
 use Rattle.recount_monitor.proofs.front_records.Goals as goal
 
 pub loop-i-init : goal.loop-i-init
-loop-i-init c = (fronts_starts _ _ _, search rules, refl)
+loop-i-init c = (fronts_starts _ _ _, refl)
 
 pub front_next-front-requires : goal.front_next-front-requires
-front_next-front-requires c = (search rules, search rules, search rules, rw c.loop-i.invariant.0 (fronted_to c.args.timeout (move_at c.args.log.now c.args.marks.now) c.args.fronts.now c.loop-i.i (search rules)))
+front_next-front-requires c = (search rules, search rules, search rules, rw c.loop-i.invariant.0 (fronted_to c.args.timeout (move_at c.args.records.log.now c.args.records.marks.now) c.args.fronts.now c.loop-i.i (search rules)))
 
 pub loop-i-preserved : goal.loop-i-preserved
-loop-i-preserved c = (fronts_turn _ _ _ _ _ _ c.loop-i.invariant.0 c.front_next-front.ensures, search rules, search rules)
-
-pub returns : goal.returns
-returns c = let e : c.loop-i.i ≡ c.args.n = omega (arith, c.loop-i-test.false, c.loop-i.invariant.1) in rw e at c.loop-i.invariant.0
+loop-i-preserved c = (fronts_turn _ _ _ _ _ _ c.loop-i.invariant.0 c.front_next-front.ensures, search rules)

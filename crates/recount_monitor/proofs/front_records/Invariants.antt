@@ -6,7 +6,4 @@ use Rattle.recount_monitor.specs.Fronts.{fronts_to}
 use Rattle.recount_monitor.proofs.front_records.Given as goal
 
 abbrev pub invariant-loop-i : goal.invariant-loop-i
-invariant-loop-i l = (l.fronts ≡ fronts_to l.timeout (move_at l.log l.marks) l.initial.fronts l.i) × (l.i ≤ l.n) × (length l.fronts ≡ length l.initial.fronts)
-
-abbrev pub decreases-loop-i : goal.decreases-loop-i
-decreases-loop-i l = l.n - l.i
+invariant-loop-i l = (l.fronts ≡ fronts_to l.timeout (move_at l.records.log.now l.records.marks.now) l.initial.fronts l.i) × (length l.fronts ≡ length l.initial.fronts)

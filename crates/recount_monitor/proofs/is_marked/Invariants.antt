@@ -5,7 +5,4 @@ use Rattle.recount_monitor.specs.Fronts.{marked_in}
 use Rattle.recount_monitor.proofs.is_marked.Given as goal
 
 abbrev pub invariant-loop-j : goal.invariant-loop-j
-invariant-loop-j l = (l.found ≡ marked_in l.timeout (move_at l.log l.marks) l.fronts l.sequence l.j) × (l.j ≤ l.n)
-
-abbrev pub decreases-loop-j : goal.decreases-loop-j
-decreases-loop-j l = l.n - l.j
+invariant-loop-j l = l.found ≡ marked_in l.timeout (move_at l.records.log.now l.records.marks.now) l.fronts l.sequence l.j

@@ -7,13 +7,10 @@ use Rattle.recount_monitor.proofs.Turns.{line-starts, line-turn, front_next-with
 use Rattle.recount_monitor.proofs.line.Goals as goal
 
 pub loop-j-init : goal.loop-j-init
-loop-j-init c = (line-starts _ _ _ _, search rules)
+loop-j-init c = line-starts _ _ _ _
 
 pub line_next-session-requires : goal.line_next-session-requires
-line_next-session-requires c = (search rules, search rules, search rules, omega (arith, front_next-within c.args.timeout (move_at c.args.log.now c.args.marks.now) c.args.fronts.now c.args.n c.loop-j.j c.requires.2 (omega (arith, c.loop-j-test.true))))
+line_next-session-requires c = (search rules, search rules, search rules, omega (arith, front_next-within c.args.timeout (move_at c.args.records.log.now c.args.records.marks.now) c.args.fronts.now c.args.n c.loop-j.j c.requires.2 (search rules)))
 
 pub loop-j-preserved : goal.loop-j-preserved
-loop-j-preserved c = (line-turn c.args.threshold c.args.timeout (move_at c.args.log.now c.args.marks.now) c.args.fronts.now c.loop-j.j c.loop-j.session c.line_next-session.result c.line_next-session.ensures c.loop-j.invariant.0, search rules)
-
-pub returns : goal.returns
-returns c = let e : c.loop-j.j ≡ c.args.n = omega (arith, c.loop-j-test.false, c.loop-j.invariant.1) in rw e at c.loop-j.invariant.0
+loop-j-preserved c = line-turn c.args.threshold c.args.timeout (move_at c.args.records.log.now c.args.records.marks.now) c.args.fronts.now c.loop-j.j c.loop-j.session c.line_next-session.result c.line_next-session.ensures c.loop-j.invariant

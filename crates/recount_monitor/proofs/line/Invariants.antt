@@ -5,7 +5,4 @@ use Rattle.recount_monitor.specs.Session.{line_in}
 use Rattle.recount_monitor.proofs.line.Given as goal
 
 abbrev pub invariant-loop-j : goal.invariant-loop-j
-invariant-loop-j l = (l.session ≡ line_in l.threshold l.timeout (move_at l.log l.marks) l.fronts l.j) × (l.j ≤ l.n)
-
-abbrev pub decreases-loop-j : goal.decreases-loop-j
-decreases-loop-j l = l.n - l.j
+invariant-loop-j l = l.session ≡ line_in l.threshold l.timeout (move_at l.records.log.now l.records.marks.now) l.fronts l.j

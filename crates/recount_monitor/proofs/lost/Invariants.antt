@@ -5,7 +5,4 @@ use Rattle.recount_monitor.specs.Session.{lost_in}
 use Rattle.recount_monitor.proofs.lost.Given as goal
 
 abbrev pub invariant-loop-i : goal.invariant-loop-i
-invariant-loop-i l = lost_in l.threshold (queued_at l.timeout (move_at l.log l.marks)) l.initial.left l.from (l.to - l.from) ≡ lost_in l.threshold (queued_at l.timeout (move_at l.log l.marks)) l.left l.i (l.to - l.i)
-
-abbrev pub decreases-loop-i : goal.decreases-loop-i
-decreases-loop-i l = l.to - l.i
+invariant-loop-i l = lost_in l.threshold (queued_at l.timeout (move_at l.records.log.now l.records.marks.now)) l.initial.left l.from (l.to - l.from) ≡ lost_in l.threshold (queued_at l.timeout (move_at l.records.log.now l.records.marks.now)) l.left l.i (l.to - l.i)

@@ -7,10 +7,10 @@ use borrow.Author.Rules.{rules}
 use Rattle.recount_monitor.proofs.session.Goals as goal
 
 pub returns-then-threshold-eq0 : goal.returns-then-threshold-eq0
-returns-then-threshold-eq0 c = no_session c.args.threshold c.args.timeout (move_at c.args.log.now c.args.marks.now) c.args.fronts.now c.args.n (eq-eqb c.args.threshold 0 c.if-threshold-eq0.true)
+returns-then-threshold-eq0 c = no_session c.args.threshold c.args.timeout (move_at c.args.records.log.now c.args.records.marks.now) c.args.fronts.now c.args.n (eq-eqb c.args.threshold 0 c.if-threshold-eq0.true)
 
 pub line-requires : goal.line-requires
-line-requires c = (search rules, rw (c.front_records.ensures, fronts_length) c.requires.1, rw c.front_records.ensures (fronted_to c.args.timeout (move_at c.args.log.now c.args.marks.now) c.args.fronts.now c.args.n c.requires.1))
+line-requires c = (search rules, rw (c.front_records.ensures, fronts_length) c.requires.1, rw c.front_records.ensures (fronted_to c.args.timeout (move_at c.args.records.log.now c.args.records.marks.now) c.args.fronts.now c.args.n c.requires.1))
 
 pub returns : goal.returns
-returns c = (c.line.ensures ∙ line-left c.args.threshold c.args.timeout (move_at c.args.log.now c.args.marks.now) c.args.fronts.now c.args.n _ c.front_records.ensures c.requires.1 (ne_eqb c.args.threshold 0 c.if-threshold-eq0.false), c.front_records.ensures ∙ fronts_left c.args.threshold c.args.timeout (move_at c.args.log.now c.args.marks.now) c.args.fronts.now c.args.n (ne_eqb c.args.threshold 0 c.if-threshold-eq0.false))
+returns c = (c.line.ensures ∙ line-left c.args.threshold c.args.timeout (move_at c.args.records.log.now c.args.records.marks.now) c.args.fronts.now c.args.n _ c.front_records.ensures c.requires.1 (ne_eqb c.args.threshold 0 c.if-threshold-eq0.false), c.front_records.ensures ∙ fronts_left c.args.threshold c.args.timeout (move_at c.args.records.log.now c.args.records.marks.now) c.args.fronts.now c.args.n (ne_eqb c.args.threshold 0 c.if-threshold-eq0.false))

@@ -7,10 +7,7 @@ use Rattle.recount_monitor.proofs.Turns.{on_starts, on_turn}
 use Rattle.recount_monitor.proofs.transmits.Goals as goal
 
 pub loop-j-init : goal.loop-j-init
-loop-j-init c = (on_starts 0 _, search rules)
+loop-j-init c = on_starts 0 _
 
 pub loop-j-preserved : goal.loop-j-preserved
-loop-j-preserved c = (on_turn 0 _ _ _ _ _ c.move_at-step.ensures c.transmits_next-on.ensures c.loop-j.invariant.0, search rules)
-
-pub returns : goal.returns
-returns c = let e : c.loop-j.j ≡ c.args.n = omega (arith, c.loop-j-test.false, c.loop-j.invariant.1) in rw e at c.loop-j.invariant.0
+loop-j-preserved c = on_turn 0 _ _ _ _ _ c.move_at-step.ensures c.transmits_next-on.ensures c.loop-j.invariant

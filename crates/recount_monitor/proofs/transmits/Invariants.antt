@@ -5,7 +5,4 @@ use Rattle.recount_monitor.specs.Fronts.{transmits_in}
 use Rattle.recount_monitor.proofs.transmits.Given as goal
 
 abbrev pub invariant-loop-j : goal.invariant-loop-j
-invariant-loop-j l = (l.on ≡ transmits_in (move_at l.log l.marks) l.j) × (l.j ≤ l.n)
-
-abbrev pub decreases-loop-j : goal.decreases-loop-j
-decreases-loop-j l = l.n - l.j
+invariant-loop-j l = l.on ≡ transmits_in (move_at l.records.log.now l.records.marks.now) l.j

@@ -5,7 +5,4 @@ use Rattle.recount_queue.specs.Queue.{any_named}
 use Rattle.recount_queue.proofs.any_named.Given as goal
 
 abbrev pub invariant-loop-i : goal.invariant-loop-i
-invariant-loop-i l = any_named (queued_at l.timeout (move_at l.log l.marks)) l.sequence l.from (l.to - l.from) ≡ any_named (queued_at l.timeout (move_at l.log l.marks)) l.sequence l.i (l.to - l.i)
-
-abbrev pub decreases-loop-i : goal.decreases-loop-i
-decreases-loop-i l = l.to - l.i
+invariant-loop-i l = any_named (queued_at l.timeout (move_at l.records.log.now l.records.marks.now)) l.sequence l.from (l.to - l.from) ≡ any_named (queued_at l.timeout (move_at l.records.log.now l.records.marks.now)) l.sequence l.i (l.to - l.i)

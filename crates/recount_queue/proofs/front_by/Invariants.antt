@@ -5,7 +5,4 @@ use Rattle.recount_queue.specs.Queue.{front_by}
 use Rattle.recount_queue.proofs.front_by.Given as goal
 
 abbrev pub invariant-loop-i : goal.invariant-loop-i
-invariant-loop-i l = (l.i ≤ l.n) × (front_by l.timeout (queued_at l.timeout (move_at l.log l.marks)) l.time l.front l.n ≡ front_by l.timeout (queued_at l.timeout (move_at l.log l.marks)) l.time l.i l.n)
-
-abbrev pub decreases-loop-i : goal.decreases-loop-i
-decreases-loop-i l = l.n - l.i
+invariant-loop-i l = front_by l.timeout (queued_at l.timeout (move_at l.records.log.now l.records.marks.now)) l.time l.front l.n ≡ front_by l.timeout (queued_at l.timeout (move_at l.records.log.now l.records.marks.now)) l.time l.i l.n

@@ -7,13 +7,15 @@ use Rattle.recount_queue.proofs.Loops.{to_here, to_next, to_none}
 use Rattle.recount_queue.proofs.front_to.Goals as goal
 
 pub loop-i-init : goal.loop-i-init
-loop-i-init c = (search rules, refl)
+loop-i-init c = refl
 
 pub returns-then-is_named : goal.returns-then-is_named
-returns-then-is_named c = to_here (queued_at c.args.timeout (move_at c.args.log.now c.args.marks.now)) c.args.sequence c.loop-i.i c.args.n c.queued_at-queued.result (omega (arith, c.loop-i-test.true)) c.queued_at-queued.ensures (sym c.is_named.ensures ∙ c.if-is_named.true) ∙ sym c.loop-i.invariant.1
+returns-then-is_named c = to_here (queued_at c.args.timeout (move_at c.args.records.log.now c.args.records.marks.now)) c.args.sequence c.loop-i.i c.args.n c.queued_at-queued.result (search rules) c.queued_at-queued.ensures (sym c.is_named.ensures ∙ c.if-is_named.true) ∙ sym c.loop-i.invariant
 
 pub loop-i-preserved : goal.loop-i-preserved
-loop-i-preserved c = (search rules, c.loop-i.invariant.1 ∙ to_next (queued_at c.args.timeout (move_at c.args.log.now c.args.marks.now)) c.args.sequence c.loop-i.i c.args.n c.queued_at-queued.result (omega (arith, c.loop-i-test.true)) c.queued_at-queued.ensures (sym c.is_named.ensures ∙ c.if-is_named.false))
+loop-i-preserved c = c.loop-i.invariant ∙ to_next (queued_at c.args.timeout (move_at c.args.records.log.now c.args.records.marks.now)) c.args.sequence c.loop-i.i c.args.n c.queued_at-queued.result (search rules) c.queued_at-queued.ensures (sym c.is_named.ensures ∙ c.if-is_named.false)
 
 pub returns : goal.returns
-returns c = let e : c.loop-i.i ≡ c.args.n = omega (arith, c.loop-i-test.false, c.loop-i.invariant.0) in to_none (queued_at c.args.timeout (move_at c.args.log.now c.args.marks.now)) c.args.sequence c.args.n ∙ sym (rw e at c.loop-i.invariant.1)
+returns c =
+    let e : c.loop-i.i ≡ c.args.n = omega (arith, c.loop-i-test.false, c.loop-i.auto.i-end c.requires.0) in
+    to_none (queued_at c.args.timeout (move_at c.args.records.log.now c.args.records.marks.now)) c.args.sequence c.args.n ∙ sym (rw e at c.loop-i.invariant)

@@ -5,7 +5,4 @@ use Rattle.recount_queue.specs.Queue.{front_to}
 use Rattle.recount_queue.proofs.front_to.Given as goal
 
 abbrev pub invariant-loop-i : goal.invariant-loop-i
-invariant-loop-i l = (l.i ≤ l.n) × (front_to (queued_at l.timeout (move_at l.log l.marks)) l.sequence l.front l.n ≡ front_to (queued_at l.timeout (move_at l.log l.marks)) l.sequence l.i l.n)
-
-abbrev pub decreases-loop-i : goal.decreases-loop-i
-decreases-loop-i l = l.n - l.i
+invariant-loop-i l = front_to (queued_at l.timeout (move_at l.records.log.now l.records.marks.now)) l.sequence l.front l.n ≡ front_to (queued_at l.timeout (move_at l.records.log.now l.records.marks.now)) l.sequence l.i l.n

@@ -1,4 +1,4 @@
 use Rattle.recount_queue.proofs.goes.Goals as goal
 
-pub returns-in-Probe : goal.returns-in-Probe
-returns-in-Probe c = rw c.in-Probe.is c.is_due.ensures
+pub returns-in-Some : goal.returns-in-Some
+returns-in-Some c = rw c.in-Some.is c.is_due.ensures

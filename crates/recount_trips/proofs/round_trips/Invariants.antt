@@ -6,7 +6,4 @@ use Rattle.recount_trips.specs.Trips.{trips_of}
 use Rattle.recount_trips.proofs.round_trips.Given as goal
 
 abbrev pub invariant-loop-j : goal.invariant-loop-j
-invariant-loop-j l = (l.t ≡ trips_of (round_trips (events_of l.log l.marks l.j))) × (l.j ≤ l.n) × (l.t.samples ≤ l.j)
-
-abbrev pub decreases-loop-j : goal.decreases-loop-j
-decreases-loop-j l = l.n - l.j
+invariant-loop-j l = (l.t ≡ trips_of (round_trips (events_of l.records.log.now l.records.marks.now l.j))) × (l.t.samples ≤ l.j)

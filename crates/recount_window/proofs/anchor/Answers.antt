@@ -8,17 +8,9 @@ use Rattle.recount_window.proofs.Laws.{anchor-start, anchor-turn}
 use Rattle.recount_window.proofs.anchor.Goals as goal
 
 pub loop-j-init : goal.loop-j-init
-loop-j-init c = (anchor-start _ _, search rules, search rules)
+loop-j-init c = anchor-start _ _
 
 pub loop-j-preserved : goal.loop-j-preserved
 loop-j-preserved c =
-    let l = c.loop-j in (
-      anchor-turn (observation_at c.args.log.now c.args.marks.now) c.args.start l.j l.invariant.2 _ _ _ c.point_at-point.ensures c.first_of-found.ensures l.invariant.0,
-      search rules,
-      search rules,
-    )
-
-pub returns : goal.returns
-returns c =
-    let e : c.loop-j.j ≡ c.args.n = omega (arith, c.loop-j-test.false, c.loop-j.invariant.1) in
-    rw e at c.loop-j.invariant.0
+    let l = c.loop-j in
+    anchor-turn (observation_at c.args.records.log.now c.args.records.marks.now) c.args.start l.j l.auto.j _ _ _ c.point_at-point.ensures c.first_of-found.ensures l.invariant

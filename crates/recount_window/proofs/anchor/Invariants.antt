@@ -7,7 +7,4 @@ use Rattle.history.specs.DirectLoss.{anchor}
 use Rattle.recount_window.proofs.anchor.Given as goal
 
 abbrev pub invariant-loop-j : goal.invariant-loop-j
-invariant-loop-j l = (counters_of l.found ≡ anchor (points_from (observation_at l.log l.marks) l.start (l.j - l.start))) × (l.j ≤ l.n) × (l.start ≤ l.j)
-
-abbrev pub decreases-loop-j : goal.decreases-loop-j
-decreases-loop-j l = l.n - l.j
+invariant-loop-j l = (counters_of l.found ≡ anchor (points_from (observation_at l.records.log.now l.records.marks.now) l.start (l.j - l.start)))

@@ -1,4 +1,4 @@
 use Rattle.recount_window.proofs.point_in.Goals as goal
 
-pub returns-in-Point : goal.returns-in-Point
-returns-in-Point c = rw c.in-Point.is c.matching.ensures
+pub returns-in-Some : goal.returns-in-Some
+returns-in-Some c = rw c.in-Some.is c.matching.ensures

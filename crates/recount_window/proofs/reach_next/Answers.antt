@@ -1,4 +1,4 @@
 use Rattle.recount_window.proofs.reach_next.Goals as goal
 
-pub returns-in-Point : goal.returns-in-Point
-returns-in-Point c = rw c.in-Point.is c.reach_with.ensures
+pub returns-in-Some : goal.returns-in-Some
+returns-in-Some c = rw c.in-Some.is c.reach_with.ensures

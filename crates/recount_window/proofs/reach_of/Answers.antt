@@ -8,7 +8,7 @@ use Rattle.recount_window.proofs.Laws.{reach-start, reach-turn, reach_few}
 use Rattle.recount_window.proofs.reach_of.Goals as goal
 
 pub loop-j-init : goal.loop-j-init
-loop-j-init c = (reach-start _ _ _, search rules, search rules, (search rules, search rules))
+loop-j-init c = (reach-start _ _ _, (search rules, search rules))
 
 pub reach_next-r-requires : goal.reach_next-r-requires
 reach_next-r-requires c = (search rules, search rules)
@@ -16,13 +16,6 @@ reach_next-r-requires c = (search rules, search rules)
 pub loop-j-preserved : goal.loop-j-preserved
 loop-j-preserved c =
     let l = c.loop-j in (
-      reach-turn (observation_at c.args.log.now c.args.marks.now) c.args.start c.args.anchor l.j l.invariant.2 _ _ _ c.point_at-point.ensures c.reach_next-r.ensures l.invariant.0,
-      search rules,
-      search rules,
-      reach_few c.args.anchor (counters_of c.point_at-point.result) l.r c.reach_next-r.result l.j c.reach_next-r.ensures l.invariant.3,
+      reach-turn (observation_at c.args.records.log.now c.args.records.marks.now) c.args.start c.args.anchor l.j l.auto.j _ _ _ c.point_at-point.ensures c.reach_next-r.ensures l.invariant.0,
+      reach_few c.args.anchor (counters_of c.point_at-point.result) l.r c.reach_next-r.result l.j c.reach_next-r.ensures l.invariant.1,
     )
-
-pub returns : goal.returns
-returns c =
-    let e : c.loop-j.j ≡ c.args.n = omega (arith, c.loop-j-test.false, c.loop-j.invariant.1) in
-    rw e at c.loop-j.invariant.0

@@ -6,7 +6,4 @@ use Rattle.recount_window.specs.Reach.{reach_of}
 use Rattle.recount_window.proofs.reach_of.Given as goal
 
 abbrev pub invariant-loop-j : goal.invariant-loop-j
-invariant-loop-j l = (l.r ≡ reach_of l.anchor (points_from (observation_at l.log l.marks) l.start (l.j - l.start))) × (l.j ≤ l.n) × (l.start ≤ l.j) × ((l.r.points ≤ l.j) × (l.r.above ≤ l.j))
-
-abbrev pub decreases-loop-j : goal.decreases-loop-j
-decreases-loop-j l = l.n - l.j
+invariant-loop-j l = (l.r ≡ reach_of l.anchor (points_from (observation_at l.records.log.now l.records.marks.now) l.start (l.j - l.start))) × ((l.r.points ≤ l.j) × (l.r.above ≤ l.j))

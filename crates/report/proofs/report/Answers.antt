@@ -1,3 +1,4 @@
+use Rattle.std.specs.Prelude.{Ok}
 use mathlib.Core.Path.{◌≡◌, sym, ap, ap₂, ◌∙◌}
 use mathlib.Core.Bool.{Bool}
 use mathlib.Core.List.{List, ◌++◌}
@@ -7,7 +8,6 @@ use lib.Dec.{lit≤}
 use lib.ListN.{length, drop}
 use borrow.Author.Tests.{eq-eqb, ne_eqb}
 use Rattle.decimal.specs.Writing.{Stands, over}
-use Rattle.report.specs.declared.ReportAnswer.TheVariants.{Written}
 use Rattle.template.specs.Filled.{filled, places}
 use Rattle.template.specs.declared.Shown.{Shown}
 use Rattle.report.specs.Lines.{template, values_of, text_of}
@@ -15,10 +15,10 @@ use Rattle.report.specs.Report.{outcome, pick_outcome, written, wrong, report_of
 use Rattle.report.proofs.report.Goals as goal
 
 -- a text that stands at the start of the buffer
-stands : (most : ℕ) (t before after : List ℕ) (r : ℕ) → Stands most t before 0 after r → outcome (Written r) after ≡ written t before
+stands : (most : ℕ) (t before after : List ℕ) (r : ℕ) → Stands most t before 0 after r → outcome (Ok r) after ≡ written t before
 unfolding outcome over
 stands most t before after r s =
-    ap₂ (λ (n : ℕ) (b : List ℕ). outcome (Written n) b) (s.end ∙ plain (length t)) (s.bytes ∙ ap (λ (n : ℕ). t ++ drop n before) (plain (length t)))
+    ap₂ (λ (n : ℕ) (b : List ℕ). outcome (Ok n) b) (s.end ∙ plain (length t)) (s.bytes ∙ ap (λ (n : ℕ). t ++ drop n before) (plain (length t)))
   where
     plain : (n : ℕ) → 0 + n ≡ n
     plain n = omega arith

@@ -1,7 +1,6 @@
-use Prim.Native.Nat.{◌-◌}
 use mathlib.Core.Path.{◌≡◌}
 use native.Mathlib.Omega.{arith}
-use lib.ListN.{length, length-set}
+use lib.ListN.{length-set}
 use borrow.Author.Rules.{rules}
 use Rattle.sample_passes.specs.Keys.{shifted}
 use Rattle.sample_gather.proofs.Gathering.{gathering_none, one_kept, one_passed, gathered_all}

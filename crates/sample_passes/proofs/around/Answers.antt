@@ -1,6 +1,5 @@
-use Rattle.std.proofs.Common.{◌≡◌, ◌+◌, ◌-◌, arith}
+use Rattle.std.proofs.Common.{◌≡◌, ◌+◌, arith}
 use Rattle.sample_passes.specs.Keys.{shifted}
-use Rattle.sample_passes.specs.Counting.{below}
 use Rattle.sample_passes.proofs.Tallies.{one_more, not_full, none_yet}
 use Rattle.sample_passes.proofs.around.Goals as goal
 

@@ -1,4 +1,4 @@
-use Rattle.std.proofs.Common.{◌≡◌, ◌-◌, ◌^◌, length, replicate, refl, arith, length-set, pow_pos, rules}
+use Rattle.std.proofs.Common.{◌≡◌, ◌^◌, replicate, refl, arith, length-set, pow_pos, rules}
 use lib.ListN.{get_or-replicate}
 use Rattle.sample_passes.specs.Keys.{shifted}
 use Rattle.sample_passes.proofs.DigitCounts.{counted_none, digit-small, digit-counted, digit_skipped, digit-most}

@@ -1,4 +1,4 @@
-use Rattle.std.proofs.Common.{◌-◌, sym, ◌∙◌, arith, below_more}
+use Rattle.std.proofs.Common.{sym, ◌∙◌, arith, below_more}
 use Rattle.sample_passes.proofs.falls.Goals as goal
 use Rattle.sample_passes.proofs.falls.Goals.{then-key, else-key}
 

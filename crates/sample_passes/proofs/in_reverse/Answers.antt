@@ -1,4 +1,4 @@
-use Rattle.std.proofs.Common.{◌≡◌, ℕ, ◌-◌, arith, below_more}
+use Rattle.std.proofs.Common.{◌≡◌, ℕ, arith, below_more}
 use Rattle.sample_passes.proofs.in_reverse.Goals as goal
 
 pub loop-i-init : goal.loop-i-init

@@ -1,4 +1,4 @@
-use Rattle.std.proofs.Common.{◌≡◌, ◌-◌, arith, rules}
+use Rattle.std.proofs.Common.{◌≡◌, arith, rules}
 use Rattle.sample_passes.proofs.Ends.{nearer_one}
 use Rattle.sample_passes.proofs.least.Goals as goal
 

@@ -7,6 +7,3 @@ use Rattle.sample_passes.proofs.least.Given as goal
 -- Assumes nothing.
 abbrev pub invariant-loop-i : goal.invariant-loop-i
 invariant-loop-i l = (l.i ≤ l.count) × (l.count ≤ length l.samples) × (l.low ≤ l.high) × (l.distance ≤ l.high - l.low) × Least (shifted l.bias) (take l.i l.samples) l.low l.high (l.low + l.distance)
-
-abbrev pub decreases-loop-i : goal.decreases-loop-i
-decreases-loop-i l = l.count - l.i

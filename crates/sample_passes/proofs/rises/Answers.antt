@@ -1,4 +1,4 @@
-use Rattle.std.proofs.Common.{◌-◌, sym, ◌∙◌, arith, below_more}
+use Rattle.std.proofs.Common.{sym, ◌∙◌, arith, below_more}
 use Rattle.sample_passes.proofs.rises.Goals as goal
 use Rattle.sample_passes.proofs.rises.Goals.{then-key, else-key}
 

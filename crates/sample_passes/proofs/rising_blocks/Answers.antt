@@ -1,4 +1,4 @@
-use Rattle.std.proofs.Common.{◌-◌, arith}
+use Rattle.std.proofs.Common.{arith}
 use Rattle.sample_passes.proofs.Blocks.{below-block}
 use Rattle.sample_passes.proofs.rising_blocks.Goals as goal
 

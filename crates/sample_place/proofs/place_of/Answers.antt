@@ -1,4 +1,3 @@
-use Prim.Native.Nat.{◌-◌}
 use mathlib.Core.Path.{◌≡◌}
 use native.Mathlib.Omega.{arith}
 use borrow.Author.Rules.{rules}
@@ -29,10 +28,5 @@ loop-digit-preserved c = (
 pub returns : goal.returns
 returns c =
     let last : c.loop-digit.digit ≡ 255 = omega arith in
-    record {
-      small = omega arith;
-      split = c.loop-digit.invariant.2;
-      within =
-          rw last
-          (omega (arith, sum_more c.args.counts.now 255, c.loop-digit.invariant.1, rw last at c.loop-digit.invariant.2));
-    }
+    let split = rw last at c.loop-digit.invariant.2 in
+    record { small = omega arith; split = split; within = omega (arith, sum_more c.args.counts.now 255, c.loop-digit.invariant.1, split) }

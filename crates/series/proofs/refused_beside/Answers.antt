@@ -1,6 +1,6 @@
 use Rattle.std.proofs.Common.{length, sym, ◌∙◌, eq-eqb, ne_eqb}
 use Rattle.quantiles.proofs.Ways.{of_value}
-use Rattle.series.specs.Series.{outcome}
+use Rattle.quantiles.specs.Record.{outcome}
 use Rattle.series.proofs.Ways.{way_size, way_crossed, way_sums, way_full, way_left}
 use Rattle.series.proofs.refused_beside.Goals as goal
 

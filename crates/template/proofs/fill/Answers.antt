@@ -78,75 +78,63 @@ module _ (b t : List ℕ) (values : List Shown) (few : places t ≤ length value
       (e-bytes ∙ one_byte bytes at (get_or t i 0) (omega (arith, s.2, s.4, s.5, few, room, places-take i t, h)))
       e-at
 
-pub loop-i-init : goal.loop-i-init
+pub loop-byte-init : goal.loop-byte-init
 unfolding filled places
-loop-i-init c =
+loop-byte-init c =
     (sym (over_none c.args.bytes.now 0), refl, refl, omega arith, omega arith, refl)
-
-pub bounds-template-i : goal.bounds-template-i
-bounds-template-i c = omega arith
 
 pub offset_bounds-values-next : goal.offset_bounds-values-next
 offset_bounds-values-next c =
-    let l = c.loop-i in
-    omega (arith, c.requires.0, value-left c.args.template.now l.i c.loop-i-test.true c.if-byte-eq-PLACE.true)
+    let l = c.loop-byte in
+    omega (arith, c.requires.0, value-left c.args.template.now l.byte-index (omega arith) c.if-byte-eq-PLACE.true)
 
 pub bounds-values-next : goal.bounds-values-next
 bounds-values-next c =
-    let l = c.loop-i in
-    omega (arith, c.requires.0, value-left c.args.template.now l.i c.loop-i-test.true c.if-byte-eq-PLACE.true)
+    let l = c.loop-byte in
+    omega (arith, c.requires.0, value-left c.args.template.now l.byte-index (omega arith) c.if-byte-eq-PLACE.true)
 
 pub put_shown-at-requires : goal.put_shown-at-requires
 put_shown-at-requires c =
-    let l = c.loop-i in
-    omega (arith, l.invariant, c.requires, value-left c.args.template.now l.i c.loop-i-test.true c.if-byte-eq-PLACE.true)
+    let l = c.loop-byte in
+    omega (arith, l.invariant, c.requires, value-left c.args.template.now l.byte-index (omega arith) c.if-byte-eq-PLACE.true)
 
 pub overflow_add-next : goal.overflow_add-next
 overflow_add-next c =
-    let l = c.loop-i in
-    omega (arith, l.invariant, c.requires, value-left c.args.template.now l.i c.loop-i-test.true c.if-byte-eq-PLACE.true)
+    let l = c.loop-byte in
+    omega (arith, l.invariant, c.requires, value-left c.args.template.now l.byte-index (omega arith) c.if-byte-eq-PLACE.true)
 
 pub bounds-bytes-at : goal.bounds-bytes-at
 bounds-bytes-at c =
-    let l = c.loop-i in
-    omega (arith, l.invariant, c.requires, places-take l.i c.args.template.now, c.loop-i-test.true)
+    let l = c.loop-byte in
+    omega (arith, l.invariant, c.requires, places-take l.byte-index c.args.template.now)
 
 pub overflow_add-at : goal.overflow_add-at
 overflow_add-at c =
-    let l = c.loop-i in
-    omega (arith, l.invariant, c.requires, c.well_formed, places-take l.i c.args.template.now, c.loop-i-test.true)
+    let l = c.loop-byte in
+    omega (arith, l.invariant, c.requires, c.well_formed, places-take l.byte-index c.args.template.now)
 
-pub overflow_add-i : goal.overflow_add-i
-overflow_add-i c = omega arith
-
-pub loop-i-smaller : goal.loop-i-smaller
-loop-i-smaller c = omega arith
-
-pub loop-i-preserved : goal.loop-i-preserved
-loop-i-preserved c =
-    let l = c.loop-i in
+pub loop-byte-preserved : goal.loop-byte-preserved
+loop-byte-preserved c =
+    let l = c.loop-byte in
     let t = c.args.template.now in
     let values = c.args.values in
-    let more = c.loop-i-test.true in
+    let more : l.byte-index < length t = omega arith in
     let b = c.args.bytes.now in
     elim c.if-byte-eq-PLACE.branch [
       | then-byte-eq-PLACE w ↦ at_place b t values c.requires.0 c.requires.1 more l.invariant _ w.if-byte-eq-PLACE.true w.put_shown-at.ensures w.bytes-is w.at-is w.next-is
       | else-byte-eq-PLACE w ↦ at_byte b t values c.requires.0 c.requires.1 more l.invariant w.if-byte-eq-PLACE.false w.bytes-is w.at-is w.next-is
     ]
 
-pub shape_of-bytes : goal.shape_of-bytes
-shape_of-bytes c = c.loop-i.invariant.5
-
 pub returns : goal.returns
 returns c =
-    let l = c.loop-i in
+    let l = c.loop-byte in
     let t = c.args.template.now in
     let values = c.args.values in
-    let all : take l.i t ≡ t = ap (λ (n : ℕ). take n t) {x = l.i} {y = length t} (omega arith) ∙ take-length t in
+    let all : take l.byte-index t ≡ t = ap (λ (n : ℕ). take n t) {x = l.byte-index} {y = length t} (omega arith) ∙ take-length t in
     record {
       bytes = l.invariant.0 ∙ ap (λ (s : List ℕ). over c.args.bytes.now 0 (filled s values)) all;
       end = l.invariant.1 ∙ ap (λ (s : List ℕ). length (filled s values)) all ∙ plain (length (filled t values));
-      short = omega (arith, l.invariant, c.requires, places-take l.i t, ap (λ (s : List ℕ). length (filled s values)) all);
+      short = omega (arith, l.invariant, c.requires, places-take l.byte-index t, ap (λ (s : List ℕ). length (filled s values)) all);
     }
   where
     plain : (n : ℕ) → n ≡ 0 + n

@@ -1,8 +1,8 @@
 -- `template::fill` The loop's invariant: what stands is the filling of the template's bytes that were read, and the next value is
--- that behind their places. The measure is what is left of the template. Assumes nothing.
+-- that behind their places. Assumes nothing.
 use mathlib.Core.Path.{◌≡◌}
 use mathlib.Core.List.{List}
-use Prim.Native.Nat.{ℕ, ◌+◌, ◌-◌, ◌*◌, ◌≤◌}
+use Prim.Native.Nat.{ℕ, ◌+◌, ◌*◌, ◌≤◌}
 use lib.ListN.{length, take}
 use Rattle.decimal.specs.Decimal.{most_digits}
 use Rattle.decimal.specs.Writing.{over}
@@ -20,8 +20,5 @@ Standing before template values bytes i at next =
     × (at ≤ i + most_digits * next)
     × (length bytes ≡ length before)
 
-abbrev pub invariant-loop-i : goal.invariant-loop-i
-invariant-loop-i l = Standing l.initial.bytes l.template l.values l.bytes l.i l.at l.next
-
-abbrev pub decreases-loop-i : goal.decreases-loop-i
-decreases-loop-i l = length l.template - l.i
+abbrev pub invariant-loop-byte : goal.invariant-loop-byte
+invariant-loop-byte l = Standing l.initial.bytes l.template l.values l.bytes l.byte-index l.at l.next

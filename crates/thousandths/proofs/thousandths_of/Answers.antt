@@ -1,10 +1,10 @@
+use Rattle.std.specs.Prelude.{Some}
 use mathlib.Core.Path.{sym, ap, ◌∙◌}
-use mathlib.Core.Bool.{Bool, true, false}
+use mathlib.Core.Bool.{Bool}
 use native.Mathlib.Omega.{arith}
 use native.Mathlib.Nat.{mod-lt}
 use borrow.Author.Tests.{eq-eqb, ne_eqb}
 use Rattle.thousandths.specs.Thousandths.{thousandths_of, thousandths_by}
-use Rattle.thousandths.specs.declared.Thousandths.TheVariants.{Known}
 use Rattle.thousandths.proofs.Places.{three, at_most_one}
 use Rattle.thousandths.proofs.thousandths_of.Goals as goal
 
@@ -36,6 +36,6 @@ overflow_add-figure-3 c = record { fits = omega (arith, at_most_one c.args.unobs
 pub returns : goal.returns
 unfolding thousandths_of
 returns c =
-    ap Known (three c.args.unobserved c.args.requested (omega (arith, c.if-requested-eq0.false)) _ _ _ _ _
+    ap Some (three c.args.unobserved c.args.requested (omega (arith, c.if-requested-eq0.false)) _ _ _ _ _
     c.tenfold-tenths.ensures.0 c.tenfold-tenths.ensures.1 c.tenfold-hundredths.ensures.0 c.tenfold-hundredths.ensures.1 c.tenfold-thousandths.ensures.0)
     ∙ sym (ap (λ (b : Bool). thousandths_by b c.args.unobserved c.args.requested) (ne_eqb _ _ c.if-requested-eq0.false))

@@ -1,5 +1,5 @@
+use Rattle.std.specs.Prelude.{Some, None}
 use Rattle.std.proofs.Common.{◌≡◌, ℕ, ◌<◌, ◌≤◌, Bool, cond, pos, sym, ap, ◌∙◌, subst, le-ltb, lt-ltb}
-use mathlib.Core.Option.{some, none}
 use Rattle.estimate.specs.declared.ClockFormat.TheVariants as format
 use Rattle.timestamps.specs.Conversion.{billion, fraction_field, wire_nanoseconds, IsSecond}
 use Rattle.timestamps.proofs.Outcome.{converts_none}
@@ -7,12 +7,12 @@ use Rattle.timestamps.proofs.Steps.{again, converts_read}
 use Rattle.timestamps.proofs.from_ptp.Goals as goal
 
 -- the ns field below 10^9, and not
-said : (w n : ℕ) → n ≡ fraction_field w → n < billion → wire_nanoseconds format.PTP w ≡ some n
+said : (w n : ℕ) → n ≡ fraction_field w → n < billion → wire_nanoseconds format.PTP w ≡ Some n
 said w n e h =
-    ap (λ (b : Bool). cond b (some (fraction_field w)) none) (lt-ltb _ _ (subst (λ (m : ℕ). m < billion) e h)) ∙ ap some (sym e)
+    ap (λ (b : Bool). cond b (Some (fraction_field w)) None) (lt-ltb _ _ (subst (λ (m : ℕ). m < billion) e h)) ∙ ap Some (sym e)
 
-unsaid : (w n : ℕ) → n ≡ fraction_field w → billion ≤ n → wire_nanoseconds format.PTP w ≡ none
-unsaid w n e h = ap (λ (b : Bool). cond b (some (fraction_field w)) none) (le-ltb _ _ (subst (λ (m : ℕ). billion ≤ m) e h))
+unsaid : (w n : ℕ) → n ≡ fraction_field w → billion ≤ n → wire_nanoseconds format.PTP w ≡ None
+unsaid w n e h = ap (λ (b : Bool). cond b (Some (fraction_field w)) None) (le-ltb _ _ (subst (λ (m : ℕ). billion ≤ m) e h))
 
 pub returns-then-ns-lt1000000000 : goal.returns-then-ns-lt1000000000
 returns-then-ns-lt1000000000 c =

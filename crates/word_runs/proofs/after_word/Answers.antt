@@ -10,7 +10,7 @@ returns-then-word-eq0 c = clean 63 c.args.t c.requires.run c.args.word c.if-word
 pub returns-then-word-eq-ALL_ONES : goal.returns-then-word-eq-ALL_ONES
 returns-then-word-eq-ALL_ONES c =
     let a = c.args in
-    word_through a.t a.word c.greater.result c.if-word-eq-ALL_ONES.true c.greater.ensures
+    word_through a.t a.word c.max.result c.if-word-eq-ALL_ONES.true c.max.ensures
 
 pub overflow_add-t : goal.overflow_add-t
 overflow_add-t c =
@@ -23,4 +23,4 @@ overflow_add-result-2 c =
 pub returns : goal.returns
 returns c =
     word-mixed c.args.t c.args.word c.with_runs_inside.result c.ranges.word.fits c.if-word-eq-ALL_ONES.false
-    (omega (arith, c.with_runs_inside.ensures, c.greater-reached.ensures))
+    (omega (arith, c.with_runs_inside.ensures, c.max-reached.ensures))

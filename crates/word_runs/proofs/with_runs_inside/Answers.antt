@@ -5,4 +5,4 @@ pub returns-then-longer_runs-eq0 : goal.returns-then-longer_runs-eq0
 returns-then-longer_runs-eq0 c = omega (arith, c.longer_runs.ensures c.if-longer_runs-eq0.true)
 
 pub returns : goal.returns
-returns c = omega (arith, c.greater.ensures, c.longest_in_word.ensures)
+returns c = omega (arith, c.max.ensures, c.longest_in_word.ensures)

@@ -7,15 +7,15 @@ returns-then-sample-gt-MOST_BITS c =
     let a = c.args in
     too_many a.self a.sample c.if-sample-gt-MOST_BITS.true
 
-pub recorded-next-requires : goal.recorded-next-requires
-recorded-next-requires c =
+pub recorded-requires : goal.recorded-requires
+recorded-requires c =
     let a = c.args in
     fit_bounded a.self a.sample (sym c.counts_fit.ensures ∙ c.if-counts_fit.true) c.if-sample-gt-MOST_BITS.false
 
 pub returns-then-counts_fit : goal.returns-then-counts_fit
 returns-then-counts_fit c =
     let a = c.args in
-    counted a.self a.sample c.if-sample-gt-MOST_BITS.false (sym c.counts_fit.ensures ∙ c.if-counts_fit.true) c.recorded-next.ensures
+    counted a.self a.sample c.if-sample-gt-MOST_BITS.false (sym c.counts_fit.ensures ∙ c.if-counts_fit.true) c.recorded.ensures
 
 pub returns : goal.returns
 returns c =

@@ -7,12 +7,12 @@ overflow_add-with_errors c =
     let a = c.args in
     record { fits = omega (arith, wrong-fits a.sample.errors c.wrong_packet-wrong.ensures, c.requires.faulty) }
 
-pub returns-in-Bits : goal.returns-in-Bits
-returns-in-Bits c =
+pub returns-in-Some : goal.returns-in-Some
+returns-in-Some c =
     let a = c.args in
-    with-burst a.self a.sample _ c.wrong_packet-wrong.ensures _ _ c.in-Bits.is c.greater_burst-greatest.ensures
+    with-burst a.self a.sample _ c.wrong_packet-wrong.ensures _ _ c.in-Some.is c.greater_burst-greatest.ensures
 
-pub returns-in-Absent : goal.returns-in-Absent
-returns-in-Absent c =
+pub returns-in-None : goal.returns-in-None
+returns-in-None c =
     let a = c.args in
-    without-burst a.self a.sample _ c.wrong_packet-wrong.ensures c.in-Absent.is
+    without-burst a.self a.sample _ c.wrong_packet-wrong.ensures c.in-None.is

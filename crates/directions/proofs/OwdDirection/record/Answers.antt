@@ -1,32 +1,29 @@
+use Rattle.std.proofs.Common.{ap, ◌∙◌, Ok}
+use Rattle.std.proofs.lemmas.Result.{err_from_is_err_and}
 use Rattle.directions.specs.Direction.{outcome}
-use Rattle.directions.proofs.Steps.{way_refused, way_sums, way_full, counted-fits, way_counted}
+use Rattle.directions.proofs.Steps.{way_refused, way_full, counted-fits, way_counted}
 use Rattle.directions.proofs.OwdDirection.record.Goals as goal
 
-pub grown-after-requires : goal.grown-after-requires
-grown-after-requires c =
-    let a = c.args in
-    counted-fits a.self a.room.now a.value _ _ _ c.sum_fits-fits.ensures c.record_beside-answer.ensures _ c.in-Counted.is
-
-pub returns-in-Refused : goal.returns-in-Refused
+pub returns-in_err-record_beside : goal.returns-in_err-record_beside
 unfolding outcome
-returns-in-Refused c =
+returns-in_err-record_beside c =
     let a = c.args in
-    way_refused a.self a.room.now a.value _ _ _ c.sum_fits-fits.ensures c.record_beside-answer.ensures c.in-Refused.is
+    let p = err_from_is_err_and c.from_residual.result c.from_residual.ensures.1 in
+    rw (p.1, p.2) (way_refused a.self a.room.now a.value _ _ _ c.sum_fits-fits.ensures c.record_beside.ensures _ c.in_err-record_beside.was)
 
-pub returns-in-SumsFull : goal.returns-in-SumsFull
-unfolding outcome
-returns-in-SumsFull c =
+pub grown-requires : goal.grown-requires
+grown-requires c =
     let a = c.args in
-    way_sums a.self a.room.now a.value _ _ _ c.sum_fits-fits.ensures c.record_beside-answer.ensures c.in-SumsFull.is
+    counted-fits a.self a.room.now a.value _ _ _ c.sum_fits-fits.ensures c.record_beside.ensures _ (c.in_ok-record_beside.was ∙ ap Ok c.in-Some.is)
 
-pub returns-in-Full : goal.returns-in-Full
+pub returns-in-None : goal.returns-in-None
 unfolding outcome
-returns-in-Full c =
+returns-in-None c =
     let a = c.args in
-    way_full a.self a.room.now a.value _ _ _ c.sum_fits-fits.ensures c.record_beside-answer.ensures c.in-Full.is
+    way_full a.self a.room.now a.value _ _ _ c.sum_fits-fits.ensures c.record_beside.ensures (c.in_ok-record_beside.was ∙ ap Ok c.in-None.is)
 
-pub returns-in-Counted : goal.returns-in-Counted
+pub returns-in-Some : goal.returns-in-Some
 unfolding outcome
-returns-in-Counted c =
+returns-in-Some c =
     let a = c.args in
-    way_counted a.self a.room.now a.value _ _ _ c.sum_fits-fits.ensures c.record_beside-answer.ensures _ _ c.in-Counted.is c.grown-after.ensures
+    way_counted a.self a.room.now a.value _ _ _ c.sum_fits-fits.ensures c.record_beside.ensures _ _ (c.in_ok-record_beside.was ∙ ap Ok c.in-Some.is) c.grown.ensures

@@ -3,5 +3,5 @@ use Prim.Native.Nat.{ℕ, ◌+◌}
 use Rattle.host_ledger.specs.Parts.{extreme_kind}
 use Rattle.host_ledger.proofs.parts.extreme_kind.Goals as goal
 
-pub returns-in-At : goal.returns-in-At
-returns-in-At c = ap (λ (n : ℕ). 1 + n) c.flag.ensures.0 ∙ sym (ap extreme_kind c.in-At.is)
+pub returns-in-Some : goal.returns-in-Some
+returns-in-Some c = ap (λ (n : ℕ). 1 + n) c.flag.ensures.0 ∙ sym (ap extreme_kind c.in-Some.is)

@@ -10,7 +10,7 @@ returns-in-Sent c = rw (c.put_sent.ensures, c.put_frame.ensures) (sym (ap (λ (x
 
 pub returns-in-Accept : goal.returns-in-Accept
 unfolding table_of
-returns-in-Accept c = rw (c.put_accept.ensures, c.put_frame-in-Accept.ensures, c.pending_flag.ensures) (sym (ap (λ (x : Entry). written (table_of x) c.args.bytes.now) c.in-Accept.is))
+returns-in-Accept c = rw (c.put_accept.ensures, c.put_frame-in-Accept.ensures, c.flag_of.ensures.value) (sym (ap (λ (x : Entry). written (table_of x) c.args.bytes.now) c.in-Accept.is))
 
 pub returns-in-Observe : goal.returns-in-Observe
 unfolding table_of

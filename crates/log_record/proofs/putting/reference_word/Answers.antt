@@ -4,4 +4,4 @@ use mir.Syntax.{w64}
 use Rattle.log_record.proofs.putting.reference_word.Goals as goal
 
 pub returns : goal.returns
-returns c = c.word64.ensures ∙ bits_again w64 c.args.o.reference (record { sfits = c.struct_told-1.given.1.1.1.1.0.1 })
+returns c = c.cast_unsigned.ensures ∙ bits_again w64 c.args.o.reference (record { sfits = c.struct_told-1.given.1.1.1.1.0.1 })

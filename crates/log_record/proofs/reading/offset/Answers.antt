@@ -5,4 +5,4 @@ use mir.ValLaws.{to_z-of_z}
 use Rattle.log_record.proofs.reading.offset.Goals as goal
 
 pub returns : goal.returns
-returns c = to_z-of_z w32 c.signed32.result (record { sfits = c.signed32.type_inv }) ∙ c.signed32.ensures ∙ ap (to_z w32) c.u32_at.ensures
+returns c = to_z-of_z w32 c.cast_signed.result (record { sfits = c.cast_signed.type_inv }) ∙ c.cast_signed.ensures ∙ ap (to_z w32) c.u32_at.ensures

@@ -5,4 +5,4 @@ use mir.ValLaws.{to_z-of_z}
 use Rattle.log_record.proofs.reading.reference.Goals as goal
 
 pub returns : goal.returns
-returns c = to_z-of_z w64 c.signed64.result (record { sfits = c.signed64.type_inv }) ∙ c.signed64.ensures ∙ ap (to_z w64) c.u64_at.ensures
+returns c = to_z-of_z w64 c.cast_signed.result (record { sfits = c.cast_signed.type_inv }) ∙ c.cast_signed.ensures ∙ ap (to_z w64) c.u64_at.ensures

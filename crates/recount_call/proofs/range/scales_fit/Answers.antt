@@ -1,4 +1,4 @@
 use Rattle.recount_call.proofs.range.scales_fit.Goals as goal
 
-pub returns-in-Pair : goal.returns-in-Pair
-returns-in-Pair c = rw c.in-Pair.is
+pub returns-in-Some : goal.returns-in-Some
+returns-in-Some c = rw c.in-Some.is

@@ -14,48 +14,30 @@ whole : (b : List ℕ) (at : ℕ) (t : List ℕ) → paste b at t (length t) ≡
 unfolding over
 whole b at t = append_assoc (take at b) (take (length t) t) (drop (at + length t) b) ∙ ap (λ (l : List ℕ). take at b ++ (l ++ drop (at + length t) b)) (take-length t)
 
-pub loop-i-init : goal.loop-i-init
-loop-i-init c = (omega arith, paste-zero c.args.bytes.now c.args.at c.args.text.now, omega arith, refl)
+pub loop-byte-init : goal.loop-byte-init
+loop-byte-init c = (omega arith, paste-zero c.args.bytes.now c.args.at c.args.text.now, refl)
 
-pub bounds-text-i : goal.bounds-text-i
-bounds-text-i c = omega arith
-
-pub bounds-bytes-place : goal.bounds-bytes-place
-bounds-bytes-place c = omega arith
-
-pub overflow_add-place : goal.overflow_add-place
-overflow_add-place c = omega arith
-
-pub overflow_add-i : goal.overflow_add-i
-overflow_add-i c = omega arith
-
-pub loop-i-smaller : goal.loop-i-smaller
-loop-i-smaller c = omega arith
-
-pub loop-i-preserved : goal.loop-i-preserved
-loop-i-preserved c =
-    let l = c.loop-i in
+pub loop-byte-preserved : goal.loop-byte-preserved
+loop-byte-preserved c =
+    let l = c.loop-byte in
+    let k = l.byte-index in
     let b = c.args.bytes.now in
     let t = c.args.text.now in
     let at = c.args.at in (
       omega arith,
-      ap (λ (x : List ℕ). set x l.place (get_or t l.i 0)) l.invariant.1
-          ∙ ap (λ (k : ℕ). set (paste b at t l.i) k (get_or t l.i 0)) l.invariant.0
-          ∙ paste-suc b at t l.i 0 (omega arith) c.loop-i-test.true
-          ∙ ap (λ (k : ℕ). paste b at t k) (sym (add-one l.i)),
-      omega arith,
-      length-set l.bytes l.place (get_or t l.i 0) ∙ l.invariant.3,
+      ap (λ (x : List ℕ). set x l.place (get_or t k 0)) l.invariant.1
+          ∙ ap (λ (n : ℕ). set (paste b at t k) n (get_or t k 0)) l.invariant.0
+          ∙ paste-suc b at t k 0 (omega arith) (omega arith)
+          ∙ ap (λ (n : ℕ). paste b at t n) (sym (add-one k)),
+      length-set l.bytes l.place (get_or t k 0) ∙ l.invariant.2,
     )
-
-pub shape_of-bytes : goal.shape_of-bytes
-shape_of-bytes c = c.loop-i.invariant.3
 
 pub returns : goal.returns
 returns c =
-    let l = c.loop-i in
+    let l = c.loop-byte in
     let b = c.args.bytes.now in
     let t = c.args.text.now in
-    let all : l.i ≡ length t = omega arith in
+    let all : l.byte-index ≡ length t = omega arith in
     record {
       bytes = l.invariant.1 ∙ ap (λ (k : ℕ). paste b c.args.at t k) all ∙ whole b c.args.at t;
       end = omega arith;

@@ -1,0 +1,5 @@
+use Rattle.log_record.proofs.Told.{told_is}
+use Rattle.host_log_write_sent.proofs.ambrulicciu_log_write_sent.Goals as goal
+
+pub returns : goal.returns
+returns c = told_is _ _ _ _ c.number_in.ensures c.write.ensures

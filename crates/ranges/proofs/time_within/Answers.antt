@@ -1,6 +1,0 @@
-use Rattle.ranges.proofs.Both.{both_read}
-use mir.Syntax.{w64}
-use Rattle.ranges.proofs.time_within.Goals as goal
-
-pub returns : goal.returns
-returns c = both_read w64 3999999999999999999 c.args.z c.ranges.z

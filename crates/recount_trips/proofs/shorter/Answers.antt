@@ -1,5 +1,0 @@
-use borrow.Author.Tests.{lt-ltb, le-ltb}
-use Rattle.recount_trips.proofs.shorter.Goals as goal
-
-pub returns-in-Absent : goal.returns-in-Absent
-returns-in-Absent c = rw c.in-Absent.is
