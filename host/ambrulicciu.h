@@ -60,26 +60,26 @@ extern "C" {
 /* ---- refusals ----------------------------------------------------------------------------------------------------------------------
  * What a call returns. If several hold at once, it is the first in this order. A call returns no number that is not named at it. */
 #define AMBRULICCIU_SERVED 0
-#define AMBRULICCIU_WRONG_ROOM 5      /* limits::WRONG_ROOM: a lent room of the wrong size, or a state whose bounds do not hold: those that the
+#define AMBRULICCIU_WRONG_ROOM 5      /* Refusal::WrongRoom: a lent room of the wrong size, or a state whose bounds do not hold: those that the
                                          sections below name, and no others */
-#define AMBRULICCIU_OUT_OF_RANGE 1    /* limits::OUT_OF_RANGE: a scale above 63; T4 outside +-4*10^18 ns; reference outside +-4*10^9 s;
+#define AMBRULICCIU_OUT_OF_RANGE 1    /* Refusal::OutOfRange: a scale above 63; T4 outside +-4*10^18 ns; reference outside +-4*10^9 s;
                                          offset outside +-86,400 s */
-#define AMBRULICCIU_DEADLINE_PASSES 6 /* limits::DEADLINE_PASSES: send time plus timeout above 2^64-1 */
-#define AMBRULICCIU_COUNTS_FULL 4     /* limits::COUNTS_FULL: 4,294,967,295 calls of sent, accept and observe were served; or a count of
+#define AMBRULICCIU_DEADLINE_PASSES 6 /* Refusal::DeadlinePasses: send time plus timeout above 2^64-1 */
+#define AMBRULICCIU_COUNTS_FULL 4     /* Refusal::CountsFull: 4,294,967,295 calls of sent, accept and observe were served; or a count of
                                          the state at 2^63, a sum's magnitude at 2^126, or beyond */
-#define AMBRULICCIU_NOT_AWAITING 2    /* limits::NOT_AWAITING: observe of a reply that is not the one accepted last, or was observed */
-#define AMBRULICCIU_QUEUE_FULL 3      /* limits::QUEUE_FULL: 4,096 probes await their reply at the monitor */
+#define AMBRULICCIU_NOT_AWAITING 2    /* Refusal::NotAwaiting: observe of a reply that is not the one accepted last, or was observed */
+#define AMBRULICCIU_QUEUE_FULL 3      /* Refusal::QueueFull: 4,096 probes await their reply at the monitor */
 /* Of bytes that are to be a log, in this order: */
-#define AMBRULICCIU_TOO_LONG 9    /* log_whole::TOO_LONG: more than 65,536 bytes */
-#define AMBRULICCIU_BAD_TRAILER 7 /* host_log_read::BAD_TRAILER: no trailer of a log at the end */
-#define AMBRULICCIU_BAD_RECORD 8  /* log_record::BAD_RECORD: a record that is none */
+#define AMBRULICCIU_TOO_LONG 9    /* Refusal::TooLong: more than 65,536 bytes */
+#define AMBRULICCIU_BAD_TRAILER 7 /* Refusal::BadTrailer: no trailer of a log at the end */
+#define AMBRULICCIU_BAD_RECORD 8  /* Refusal::BadRecord: a record that is none */
 /* Of the extension area of a packet, in this order; the first bad item decides: */
-#define AMBRULICCIU_PASSES_END 10   /* request_limits::PASSES_END: a header or a value that passes the end */
-#define AMBRULICCIU_WRONG_LENGTH 11 /* request_limits::WRONG_LENGTH: an item of type 5 or 7 with another length than 12 or 16 */
+#define AMBRULICCIU_PASSES_END 10   /* Refusal::PassesEnd: a header or a value that passes the end */
+#define AMBRULICCIU_WRONG_LENGTH 11 /* Refusal::WrongLength: an item of type 5 or 7 with another length than 12 or 16 */
 /* Of bit errors, in this order; 12 also of the area's writers: */
-#define AMBRULICCIU_TOO_MUCH_PADDING 14 /* request_limits::TOO_MUCH_PADDING: padding above 65,535 bytes, or a sample above 524,280 bits */
-#define AMBRULICCIU_BAD_PATTERN 13      /* request_limits::BAD_PATTERN: a pattern's text that is none */
-#define AMBRULICCIU_SHORT_ROOM 12       /* request_limits::SHORT_ROOM: a room too short for what is to be written */
+#define AMBRULICCIU_TOO_MUCH_PADDING 14 /* Refusal::TooMuchPadding: padding above 65,535 bytes, or a sample above 524,280 bits */
+#define AMBRULICCIU_BAD_PATTERN 13      /* Refusal::BadPattern: a pattern's text that is none */
+#define AMBRULICCIU_SHORT_ROOM 12       /* Refusal::ShortRoom: a room too short for what is to be written */
 
 /* ---- version -----------------------------------------------------------------------------------------------------------------------
  * Of this header: 1,000,000 times the first part, 1,000 times the second, and the third. */
