@@ -4,3 +4,4 @@ pub mod Back
 pub mod Accepted
 pub mod Whole
 pub mod Determined
+pub mod Numbers
