@@ -4,17 +4,18 @@ use quantiles::Quantiles;
 
 fn samples(room: &[u64], count: usize) -> Digest {
     let mut digest = Digest::empty();
-    for word in room.iter().take(count) {
+    for word in &room[..count.min(room.len())] {
         digest = digest.then(*word);
     }
     digest
 }
 
+// The words behind the samples, up to `end`: by their places, since to skip the samples of an iterator is to step over each of them.
 fn filled(room: &[u64], end: usize) -> Digest {
     let mut digest = Digest::empty();
-    for (place, word) in room.iter().take(end).skip(4096).enumerate() {
-        if *word > 0 {
-            digest = digest.then(place as u64).then(*word);
+    for i in 4096..end.min(room.len()) {
+        if room[i] > 0 {
+            digest = digest.then((i - 4096) as u64).then(room[i]);
         }
     }
     digest
