@@ -34,7 +34,7 @@ fn serve_entry(
         & (probes.len() == CAPACITY)
         & (links.len() == CAPACITY);
     match refusal_unless(sure, ledger, sized) {
-        Some(refusal) => put_refused(answers, i, refusal),
+        Some(refusal) => put_refused(answers, i, u8::from(refusal)),
         None => {
             let reply = reply_at(entries, i);
             let mut words = [0; 6];
@@ -88,8 +88,8 @@ pub extern "C" fn ambrulicciu_accept_burst(
         let after = lent ledger.new keys.new slots.new probes.new links.new in
         listed result (left after answers.new) ≡ accept_burst before entries.now answers.old }
 {
-    let refused = refusal_of_list(entries.len(), answers.len());
-    let count = served_of_list(refused, entries.len());
+    let refusal = limits::number(refusal_of_list(entries.len(), answers.len()));
+    let count = served_of_list(refusal, entries.len());
     serve(ledger, keys, slots, probes, links, entries, count, answers);
-    limits::number(refused)
+    refusal
 }

@@ -3,7 +3,7 @@
 #![tactic(auto)]
 
 ghost use Rattle.std.specs.Prelude.{◌≡◌, cond, [], eqb, get_or, set};
-ghost use Rattle.limits.specs.Numbers.{number, number_of};
+ghost use Rattle.limits.specs.Numbers.{number};
 ghost use Rattle.host_burst.specs.Burst.{burst_refusal};
 ghost use Rattle.host_burst.specs.Entries.{reply_at, served_row, refused_row, row_after};
 
@@ -27,10 +27,10 @@ pub fn refusal_of_list(entries: usize, rows: usize) -> Option<Refusal>
 }
 
 // How many entries are served: none of a list that is refused.
-pub fn served_of_list(refused: Option<Refusal>, entries: usize) -> usize
-    ensures { result ≡ cond (eqb (number refused) 0) entries 0 }
+pub fn served_of_list(refusal: u8, entries: usize) -> usize
+    ensures { result ≡ cond (eqb refusal 0) entries 0 }
 {
-    if refused.is_none() { entries } else { 0 }
+    if refusal == 0 { entries } else { 0 }
 }
 
 // ---- an entry
@@ -72,11 +72,11 @@ fn served_row(words: [u64; 6]) -> [u64; 7]
     ]
 }
 
-fn refused_row(row: [u64; 7], refusal: Refusal) -> [u64; 7]
-    ensures { result ≡ refused_row row (number_of refusal) }
+fn refused_row(row: [u64; 7], number: u8) -> [u64; 7]
+    ensures { result ≡ refused_row row number }
 {
     [
-        u8::from(refusal) as u64,
+        number as u64,
         row[1],
         row[2],
         row[3],
@@ -96,20 +96,21 @@ pub fn put_served(rows: &mut [[u64; 7]], i: usize, words: [u64; 6])
 }
 
 // The row of entry i, which was refused.
-pub fn put_refused(rows: &mut [[u64; 7]], i: usize, refusal: Refusal)
-    ensures { rows.new ≡ set rows.old i (refused_row (get_or rows.old i []) (number_of refusal)) }
+pub fn put_refused(rows: &mut [[u64; 7]], i: usize, number: u8)
+    ensures { rows.new ≡ set rows.old i (refused_row (get_or rows.old i []) number) }
 {
     if i < rows.len() {
-        rows[i] = refused_row(rows[i], refusal);
+        rows[i] = refused_row(rows[i], number);
     }
 }
 
-// The row of entry i after a call that was refused so, or not, with these words of its answer.
-pub fn put_row(rows: &mut [[u64; 7]], i: usize, refused: Option<Refusal>, words: [u64; 6])
-    ensures { rows.new ≡ set rows.old i (row_after (get_or rows.old i []) (number refused) words) }
+// The row of entry i after a call with this number and these words of its answer.
+pub fn put_row(rows: &mut [[u64; 7]], i: usize, number: u8, words: [u64; 6])
+    ensures { rows.new ≡ set rows.old i (row_after (get_or rows.old i []) number words) }
 {
-    match refused {
-        None => put_served(rows, i, words),
-        Some(refusal) => put_refused(rows, i, refusal),
+    if number == 0 {
+        put_served(rows, i, words);
+    } else {
+        put_refused(rows, i, number);
     }
 }

@@ -7,7 +7,7 @@ ghost use Rattle.host_monitor.specs.Calls.{told, left, shows, fresh_to, sent_to,
 ghost use Rattle.limits.specs.Numbers.{answer_number, numbered};
 
 use host_monitor_words::{finish, load, state_number, store};
-use limits::Refusal;
+use limits::{Refusal, numbered};
 use monitor::{Monitor, Summary};
 use probe_queue::QueuedProbe;
 
@@ -36,7 +36,7 @@ pub extern "C" fn ambrulicciu_monitor_sent(
 {
     let before = load(monitor);
     let answer = before.sent(queue, sequence, time);
-    finish(monitor, answer)
+    finish(monitor, numbered(answer))
 }
 
 // A reply was heard.
@@ -50,7 +50,7 @@ pub extern "C" fn ambrulicciu_monitor_reply(
 {
     let before = load(monitor);
     let answer = before.reply(queue, sequence);
-    finish(monitor, answer)
+    finish(monitor, numbered(answer))
 }
 
 // It is `time` now: what is due by then is lost.
@@ -64,7 +64,7 @@ pub extern "C" fn ambrulicciu_monitor_advance(
 {
     let before = load(monitor);
     let answer = before.advance(queue, time);
-    finish(monitor, answer)
+    finish(monitor, numbered(answer))
 }
 
 // The session stops. It is lent no queue: none of its records is queued any more.
@@ -74,7 +74,7 @@ pub extern "C" fn ambrulicciu_monitor_idle(monitor: &mut [u64; 12]) -> u8
 {
     let before = load(monitor);
     let answer = before.idle();
-    finish(monitor, answer)
+    finish(monitor, numbered(answer))
 }
 
 // The number of a deadline's answer; where it is served, its two words: 1 if there is one, and the deadline.

@@ -2,11 +2,10 @@
 #![tactic(auto, unfolding(crate::specs::Words::summary_at, crate::specs::Words::monitor_at, crate::specs::Words::words_of))]
 
 ghost use Rattle.std.specs.Prelude.{◌≡◌, ◌%◌, ◌^◌};
-ghost use Rattle.limits.specs.Numbers.{answer_number, numbered};
+ghost use Rattle.limits.specs.Numbers.{answer_number};
 ghost use Rattle.host_monitor_words.specs.Words.{state_at, state_number, summary_at, monitor_at, words_of, words_after};
 
 use host_numbers::{flag, is_set, low};
-use limits::Refusal;
 use monitor::{Monitor, State, Summary};
 use probe_queue::QueueRing;
 
@@ -101,14 +100,14 @@ pub fn store(words: &mut [u64; 12], monitor: Monitor)
 }
 
 // The number of an answer. The words change where the call was served, and not otherwise.
-pub fn finish(words: &mut [u64; 12], answer: Result<Monitor, Refusal>) -> u8
-    ensures { (result ≡ answer_number (numbered answer)) × (words.new ≡ words_after words.old (numbered answer)) }
+pub fn finish(words: &mut [u64; 12], answer: Result<Monitor, u8>) -> u8
+    ensures { (result ≡ answer_number answer) × (words.new ≡ words_after words.old answer) }
 {
     match answer {
         Ok(monitor) => {
             store(words, monitor);
             0
         }
-        Err(refusal) => u8::from(refusal),
+        Err(number) => number,
     }
 }

@@ -2,7 +2,6 @@
 // It is no call of its own, since a crate that exports one cannot be what another call's object is made of. Refusals are tested in the words before a
 // probe is served: of the ledger that is then taken out it needs a few words alone, and the others are not read.
 ghost use Rattle.std.specs.Prelude.{◌≡◌, length};
-ghost use Rattle.limits.specs.Numbers.{number};
 ghost use Rattle.ledger_steps.specs.Calls.{sent_to};
 ghost use Rattle.ledger_steps.specs.Sent.{sent_on};
 ghost use Rattle.ledger_checks.specs.Sound.{SoundSent};
@@ -12,7 +11,7 @@ ghost use Rattle.host_sent_words.specs.Sent.{sent_left, sent_from, served_leaves
 use call_types::SentProbe;
 use host_ledger::LEDGER_WORDS;
 use host_watched_parts::first_of;
-use limits::{CAPACITY, Refusal};
+use limits::CAPACITY;
 
 // A `sent` that is not refused.
 pub fn served(
@@ -29,20 +28,21 @@ pub fn served(
     host_ledger::store_sent(ledger, next);
 }
 
-// Why `sent` was refused, where it was. It is refused also where `other` is a refusal: that of the monitor.
+// The number of `sent`, 0 where it was served. It is refused also where `other` is a refusal: that of the monitor, 0 where there is none.
 pub fn sent_unless(
-    other: Option<Refusal>,
+    other: u8,
     ledger: &mut [u64; LEDGER_WORDS],
     probes: &mut [[u64; 4]],
     links: &mut [[u16; 8]],
     probe: SentProbe,
-) -> Option<Refusal>
-    ensures { sent_left (number result) ledger.new probes.new links.new ≡ sent_from ledger.old (sent_to (number other) (ledger_at ledger.old) probes.old links.old probe) }
+) -> u8
+    ensures { sent_left result ledger.new probes.new links.new ≡ sent_from ledger.old (sent_to other (ledger_at ledger.old) probes.old links.old probe) }
 {
     let sized = (probes.len() == CAPACITY) & (links.len() == CAPACITY);
-    let refused = first_of(host_ledger_checks::refusal(ledger, sized), other);
-    if refused.is_none() {
+    let own = limits::number(host_ledger_checks::refusal(ledger, sized));
+    let number = first_of(own, other);
+    if number == 0 {
         served(ledger, probes, links, probe);
     }
-    refused
+    number
 }

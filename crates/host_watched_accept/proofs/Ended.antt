@@ -3,7 +3,6 @@
 use mathlib.Core.Path.{◌≡◌, refl, sym, ap, ◌∙◌}
 use mathlib.Core.List.{List}
 use Prim.Native.Nat.{ℕ, zero, suc}
-use Rattle.limits.specs.Numbers.{number}
 use Rattle.call_types.specs.declared.Reply.{Reply}
 use Rattle.probe_queue.specs.declared.QueuedProbe.{QueuedProbe}
 use Rattle.ledger_watched.specs.Watched.{accept_to}
@@ -34,8 +33,8 @@ pub accept-ends :
     (ledger monitor : List ℕ) (keys slots probes links : List (List ℕ)) (queue : List QueuedProbe) (sender reflector t3 pending time tag : ℕ) (answer : List ℕ)
     (s : Reply) (given : ReplyAnswer) (ledger' monitor' : List ℕ) (keys' slots' probes' links' : List (List ℕ)) (queue' : List QueuedProbe) (r : ℕ) (answer' : List ℕ)
     → s ≡ reply_of sender reflector t3 pending time tag
-    → left (number given.refused) ledger' monitor' keys' slots' probes' links' queue' given.words ≡ ended ledger monitor zeros (accept_to (ledger_at ledger) (monitor_at monitor) keys slots probes links queue s)
-    → (r ≡ (number given.refused)) × (answer' ≡ shown_in (number given.refused) given.words answer)
+    → left given.number ledger' monitor' keys' slots' probes' links' queue' given.words ≡ ended ledger monitor zeros (accept_to (ledger_at ledger) (monitor_at monitor) keys slots probes links queue s)
+    → (r ≡ given.number) × (answer' ≡ shown_in given.number given.words answer)
     → left r ledger' monitor' keys' slots' probes' links' queue' answer' ≡ watched_accept_to ledger monitor keys slots probes links queue sender reflector t3 pending time tag answer
 unfolding watched_accept_to
 accept-ends ledger monitor keys slots probes links queue sender reflector t3 pending time tag answer s given ledger' monitor' keys' slots' probes' links' queue' r answer' es eg er =

@@ -1,7 +1,6 @@
 // `accept` with a monitor for a host: the ledger and the monitor in their lent words, document 01's number back (0 where the call was served).
 // A straight line of calls, so that the walk of it is short; crate host_watched_accept_words serves it, as it does each reply of a list.
 ghost use Rattle.std.specs.Prelude.{◌≡◌};
-ghost use Rattle.limits.specs.Numbers.{number};
 ghost use Rattle.host_watched_accept_words.specs.Calls.{left, shown_in};
 ghost use Rattle.host_watched_accept.specs.Calls.{watched_accept_to};
 
@@ -12,16 +11,13 @@ use probe_queue::QueuedProbe;
 
 // The number of what `accept` gave. The answer's words change where the call was served, and not otherwise.
 fn show(answer: &mut [u64; 6], given: ReplyAnswer) -> u8
-    ensures { (result ≡ number given.refused) × (answer.new ≡ shown_in (number given.refused) given.words answer.old) }
+    ensures { (result ≡ given.number) × (answer.new ≡ shown_in given.number given.words answer.old) }
 {
-    match given.refused {
-        None => {
-            let words = given.words;
-            *answer = words;
-            0
-        }
-        Some(refusal) => u8::from(refusal),
+    if given.number == 0 {
+        let words = given.words;
+        *answer = words;
     }
+    given.number
 }
 
 // A reply came, on a link that a monitor watches.

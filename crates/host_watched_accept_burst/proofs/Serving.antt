@@ -1,5 +1,4 @@
 -- From one entry to all entries of a list: what the calls in a row leave is what the definition says. Assumes nothing.
-use Rattle.limits.specs.Numbers.{number}
 use Rattle.std.specs.Prelude.{Result}
 use Rattle.ledger_steps.specs.declared.Accepted.{Accepted}
 use mathlib.Core.Path.{◌≡◌, refl, sym, ap, ◌∙◌}
@@ -53,8 +52,8 @@ entry_ends :
     (ledger monitor : List ℕ) (keys slots probes links : List (List ℕ)) (queue : List QueuedProbe) (entries : List (List ℕ)) (i : ℕ) (answers : List (List ℕ))
     (reply : Reply) (given : ReplyAnswer) (ledger' monitor' : List ℕ) (keys' slots' probes' links' : List (List ℕ)) (queue' : List QueuedProbe) (answers' : List (List ℕ))
     → reply ≡ reply_at (get_or entries i [])
-    → calls.left (number given.refused) ledger' monitor' keys' slots' probes' links' queue' given.words ≡ ended ledger monitor zeros (accept_to (ledger_at ledger) (monitor_at monitor) keys slots probes links queue reply)
-    → answers' ≡ set answers i (row_after (get_or answers i []) (number given.refused) given.words)
+    → calls.left given.number ledger' monitor' keys' slots' probes' links' queue' given.words ≡ ended ledger monitor zeros (accept_to (ledger_at ledger) (monitor_at monitor) keys slots probes links queue reply)
+    → answers' ≡ set answers i (row_after (get_or answers i []) given.number given.words)
     → left (lent ledger' monitor' keys' slots' probes' links' queue') answers' ≡ one_more accept_entry entries (left (lent ledger monitor keys slots probes links queue) answers) i
 unfolding watched_accept_to
 entry_ends ledger monitor keys slots probes links queue entries i answers reply given ledger' monitor' keys' slots' probes' links' queue' answers' er eg ea =
@@ -83,8 +82,8 @@ module _ (ledger₀ monitor₀ : List ℕ) (keys₀ slots₀ probes₀ links₀ 
       (reply : Reply) (given : ReplyAnswer) (ledger' monitor' : List ℕ) (keys' slots' probes' links' : List (List ℕ)) (queue' : List QueuedProbe) (answers' : List (List ℕ))
       → Serves i ledger monitor keys slots probes links queue answers → i < count
       → reply ≡ reply_at (get_or entries i [])
-      → calls.left (number given.refused) ledger' monitor' keys' slots' probes' links' queue' given.words ≡ ended ledger monitor zeros (accept_to (ledger_at ledger) (monitor_at monitor) keys slots probes links queue reply)
-      → answers' ≡ set answers i (row_after (get_or answers i []) (number given.refused) given.words)
+      → calls.left given.number ledger' monitor' keys' slots' probes' links' queue' given.words ≡ ended ledger monitor zeros (accept_to (ledger_at ledger) (monitor_at monitor) keys slots probes links queue reply)
+      → answers' ≡ set answers i (row_after (get_or answers i []) given.number given.words)
       → Serves (i + 1) ledger' monitor' keys' slots' probes' links' queue' answers'
   serves_on i ledger monitor keys slots probes links queue answers reply given ledger' monitor' keys' slots' probes' links' queue' answers' h less er eg ea =
       up_more accept_entry entries begun (left (lent ledger monitor keys slots probes links queue) answers) (left (lent ledger' monitor' keys' slots' probes' links' queue') answers') i h

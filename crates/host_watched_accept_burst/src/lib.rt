@@ -15,10 +15,10 @@ use probe_queue::QueuedProbe;
 
 // The row of entry i after a call that gave this.
 fn put_given(answers: &mut [[u64; 7]], i: usize, given: ReplyAnswer)
-    ensures { answers.new ≡ set answers.old i (row_after (get_or answers.old i []) (number given.refused) given.words) }
+    ensures { answers.new ≡ set answers.old i (row_after (get_or answers.old i []) given.number given.words) }
 {
     let words = given.words;
-    put_row(answers, i, given.refused, words);
+    put_row(answers, i, given.number, words);
 }
 
 // The first `count` entries; the number of the list is handed back.
@@ -66,7 +66,7 @@ pub extern "C" fn ambrulicciu_watched_accept_burst(
         listed result (left after answers.new) ≡ watched_burst before entries.now answers.old }
 {
     let refused = refusal_of_list(entries.len(), answers.len());
-    let count = served_of_list(refused, entries.len());
+    let count = served_of_list(limits::number(refused), entries.len());
     serve(
         ledger, monitor, keys, slots, probes, links, queue, entries, count, answers, refused,
     )

@@ -1,5 +1,4 @@
 -- What the parts of the call leave is what the whole call leaves. Assumes nothing.
-use Rattle.limits.specs.Numbers.{number}
 use Rattle.std.specs.Prelude.{Some, None}
 use mathlib.Core.Path.{◌≡◌, refl, ap, ◌∙◌}
 use mathlib.Core.Bool.{Bool}
@@ -59,15 +58,15 @@ module _ (w monitor : List ℕ) (keys slots probes links : List (List ℕ)) (que
   pub accept-joined :
       (other : ℕ) (given : ReplyAnswer) (w' : List ℕ) (keys' slots' probes' links' : List (List ℕ)) (go : Bool) (sender : ℕ) (watch next : Monitor) (queue' : List QueuedProbe) (r : ReplyAnswer) (monitor' : List ℕ)
       → other ≡ refusal_of (monitor_at monitor) (length queue)
-      → accept_left (number given.refused) w' keys' slots' probes' links' given.words ≡ accept_from w zeros (ledger.accept_to other (ledger_at w) keys slots probes links a)
+      → accept_left given.number w' keys' slots' probes' links' given.words ≡ accept_from w zeros (ledger.accept_to other (ledger_at w) keys slots probes links a)
       → go ≡ heard_in given.words → sender ≡ a.key.sender → watch ≡ monitor_at monitor
       → Leaves (reply_if go watch queue sender) next queue'
-      → (r ≡ given) × (monitor' ≡ stored_unless (number given.refused) monitor next)
-      → left (number r.refused) w' monitor' keys' slots' probes' links' queue' r.words ≡ ended w monitor zeros (accept_to (ledger_at w) (monitor_at monitor) keys slots probes links queue a)
+      → (r ≡ given) × (monitor' ≡ stored_unless given.number monitor next)
+      → left r.number w' monitor' keys' slots' probes' links' queue' r.words ≡ ended w monitor zeros (accept_to (ledger_at w) (monitor_at monitor) keys slots probes links queue a)
   accept-joined other given w' keys' slots' probes' links' go sender watch next queue' r monitor' eo ea eg es em en er =
-      let x = accept_left (number given.refused) w' keys' slots' probes' links' given.words in
-      (λ i. left (number (er.0 i).refused) w' (er.1 i) keys' slots' probes' links' (en.1 i) (er.0 i).words)
-      ∙ (λ i. left (number given.refused) w' (stored_unless (number given.refused) monitor (en.0 i)) keys' slots' probes' links' (reply_if go watch queue sender).room given.words)
+      let x = accept_left given.number w' keys' slots' probes' links' given.words in
+      (λ i. left (er.0 i).number w' (er.1 i) keys' slots' probes' links' (en.1 i) (er.0 i).words)
+      ∙ (λ i. left given.number w' (stored_unless given.number monitor (en.0 i)) keys' slots' probes' links' (reply_if go watch queue sender).room given.words)
       ∙ (λ i. stood_by x (reply_if (eg i) (em i) queue (es i)))
       ∙ ap heard_by (ea ∙ (λ i. accept_from w zeros (ledger.accept_to (eo i) (ledger_at w) keys slots probes links a)))
       ∙ whole

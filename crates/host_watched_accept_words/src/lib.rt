@@ -23,10 +23,10 @@ use limits::{CAPACITY, Refusal};
 use monitor::Monitor;
 use probe_queue::QueuedProbe;
 
-// What is told of a reply: why it was refused, and the words of its answer, zeros where it was.
+// What is told of a reply: the call's number, and the words of its answer, zeros where it was refused.
 #[derive(Clone, Copy)]
 pub struct ReplyAnswer {
-    pub refused: Option<Refusal>,
+    pub number: u8,
     pub words: [u64; 6],
 }
 
@@ -37,9 +37,9 @@ fn refusal_of_monitor(monitor: &[u64; 12], room: usize) -> Option<Refusal>
     host_monitor_words::load(monitor).refusal(room)
 }
 
-// The ledger's part, refused also where `other` is a refusal: that of the monitor.
+// The ledger's part, refused also where `other` is a refusal: that of the monitor, 0 where there is none.
 pub fn accept_unless(
-    other: Option<Refusal>,
+    other: u8,
     ledger: &mut [u64; LEDGER_WORDS],
     keys: &mut [[u64; 2]],
     slots: &mut [[u64; 3]],
@@ -48,19 +48,20 @@ pub fn accept_unless(
     reply: Reply,
 ) -> ReplyAnswer
     ensures { let words = ledger.old in
-        let left = accept_left (number result.refused) ledger.new keys.new slots.new probes.new links.new result.words in
-        left ≡ accept_from words zeros (calls.accept_to (number other) (ledger_at words) keys.old slots.old probes.old links.old reply) }
+        let left = accept_left result.number ledger.new keys.new slots.new probes.new links.new result.words in
+        left ≡ accept_from words zeros (calls.accept_to other (ledger_at words) keys.old slots.old probes.old links.old reply) }
 {
     let sized = (keys.len() == CAPACITY)
         & (slots.len() == CAPACITY)
         & (probes.len() == CAPACITY)
         & (links.len() == CAPACITY);
-    let refused = first_of(host_ledger_checks::refusal(ledger, sized), other);
+    let own = limits::number(host_ledger_checks::refusal(ledger, sized));
+    let number = first_of(own, other);
     let mut words = [0; 6];
-    if refused.is_none() {
+    if number == 0 {
         served(ledger, keys, slots, probes, links, reply, &mut words);
     }
-    ReplyAnswer { refused, words }
+    ReplyAnswer { number, words }
 }
 
 // Whether the reply was unique: of one that was refused all words are 0.
@@ -71,9 +72,9 @@ pub fn was_unique(given: ReplyAnswer) -> bool
 }
 
 fn finish(monitor: &mut [u64; 12], given: ReplyAnswer, next: Monitor) -> ReplyAnswer
-    ensures { (result ≡ given) × (monitor.new ≡ stored_unless (number given.refused) monitor.old next) }
+    ensures { (result ≡ given) × (monitor.new ≡ stored_unless given.number monitor.old next) }
 {
-    store_unless(given.refused, monitor, next);
+    store_unless(given.number, monitor, next);
     given
 }
 
@@ -91,11 +92,11 @@ pub fn accept(
 ) -> ReplyAnswer
     ensures { let words = ledger.old in
         let watch = monitor.old in
-        let after = left (number result.refused) ledger.new monitor.new keys.new slots.new probes.new links.new queue.new result.words in
+        let after = left result.number ledger.new monitor.new keys.new slots.new probes.new links.new queue.new result.words in
         after ≡ ended words watch zeros (accept_to (ledger_at words) (monitor_at watch) keys.old slots.old probes.old links.old queue.old reply) }
 {
     let room = queue.len();
-    let other = refusal_of_monitor(monitor, room);
+    let other = limits::number(refusal_of_monitor(monitor, room));
     let given = accept_unless(other, ledger, keys, slots, probes, links, reply);
     let go = was_unique(given);
     let sender = sender_of(reply);

@@ -3,31 +3,29 @@
 #![tactic(auto, unfolding(ledger_steps::specs::Refusals::earlier))]
 
 ghost use Rattle.std.specs.Prelude.{◌≡◌};
-ghost use Rattle.limits.specs.Numbers.{number};
 ghost use Rattle.ledger_steps.specs.Refusals.{earlier as earlierOf};
 ghost use Rattle.host_watched_parts.specs.Unless.{stored_unless};
 
 use ledger_checks::earlier;
-use limits::Refusal;
 use monitor::Monitor;
 
 // Of the refusals of the ledger and of the monitor the one that stands first in the table. That neither refuses is seen at once: what follows then
 // need not look at the table, nor at the monitor's tests again.
-pub fn first_of(own: Option<Refusal>, other: Option<Refusal>) -> Option<Refusal>
-    ensures { number result ≡ earlierOf (number own) (number other) }
+pub fn first_of(own: u8, other: u8) -> u8
+    ensures { result ≡ earlierOf own other }
 {
-    if own.is_none() && other.is_none() {
-        None
+    if own == 0 && other == 0 {
+        0
     } else {
         earlier(own, other)
     }
 }
 
 // The words of the next monitor; as they were where the call was refused.
-pub fn store_unless(refused: Option<Refusal>, monitor: &mut [u64; 12], next: Monitor)
-    ensures { monitor.new ≡ stored_unless (number refused) monitor.old next }
+pub fn store_unless(refused: u8, monitor: &mut [u64; 12], next: Monitor)
+    ensures { monitor.new ≡ stored_unless refused monitor.old next }
 {
-    if refused.is_none() {
+    if refused == 0 {
         host_monitor_words::store(monitor, next);
     }
 }

@@ -24,11 +24,11 @@ fn refusal_of_monitor(monitor: &[u64; 12], room: usize, time: u64) -> Option<Ref
     host_monitor_words::load(monitor).refusal_of_sent(room, time)
 }
 
-fn finish(monitor: &mut [u64; 12], refused: Option<Refusal>, next: Monitor) -> u8
-    ensures { (result ≡ number refused) × (monitor.new ≡ stored_unless (number refused) monitor.old next) }
+fn finish(monitor: &mut [u64; 12], number: u8, next: Monitor) -> u8
+    ensures { (result ≡ number) × (monitor.new ≡ stored_unless number monitor.old next) }
 {
-    store_unless(refused, monitor, next);
-    limits::number(refused)
+    store_unless(number, monitor, next);
+    number
 }
 
 // A probe was sent, on a link that a monitor watches. The monitor is taken out once for its refusal and once for its step: in between it would stay
@@ -50,9 +50,9 @@ pub extern "C" fn ambrulicciu_watched_sent(
 {
     let room = queue.len();
     let probe = probe_of(sequence, ordinal, train, time, tag);
-    let other = refusal_of_monitor(monitor, room, time);
-    let refused = sent_unless(other, ledger, probes, links, probe);
+    let other = limits::number(refusal_of_monitor(monitor, room, time));
+    let number = sent_unless(other, ledger, probes, links, probe);
     let watch = host_monitor_words::load(monitor);
-    let next = watch.sent_if(refused.is_none(), queue, sequence, time);
-    finish(monitor, refused, next)
+    let next = watch.sent_if(number == 0, queue, sequence, time);
+    finish(monitor, number, next)
 }

@@ -10,23 +10,23 @@ use ledger_state::{Ledger, first_refusal, rings_fit};
 use limits::{CAPACITY, Refusal};
 
 // The line of a refusal in the table; no refusal comes after all of them.
-fn line(refused: Option<Refusal>) -> u8
-    ensures { result ≡ line_of (number refused) }
+fn line(number: u8) -> u8
+    ensures { result ≡ line_of number }
 {
-    match refused {
-        Some(Refusal::WrongRoom) => 0,
-        Some(Refusal::OutOfRange) => 1,
-        Some(Refusal::DeadlinePasses) => 2,
-        Some(Refusal::CountsFull) => 3,
-        Some(Refusal::NotAwaiting) => 4,
-        Some(Refusal::QueueFull) => 5,
+    match number {
+        limits::WRONG_ROOM => 0,
+        limits::OUT_OF_RANGE => 1,
+        limits::DEADLINE_PASSES => 2,
+        limits::COUNTS_FULL => 3,
+        limits::NOT_AWAITING => 4,
+        limits::QUEUE_FULL => 5,
         _ => 6,
     }
 }
 
 // Of two refusals the one that stands first in the table.
-pub fn earlier(first: Option<Refusal>, second: Option<Refusal>) -> Option<Refusal>
-    ensures { number result ≡ earlierOf (number first) (number second) }
+pub fn earlier(first: u8, second: u8) -> u8
+    ensures { result ≡ earlierOf first second }
 {
     if line(first) <= line(second) {
         first

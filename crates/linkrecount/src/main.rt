@@ -2,6 +2,7 @@
 // It prints what `linkreport` prints of the same log, and shares with it the reader of the log and the report's text, and nothing else.
 #![tactic(auto)]
 
+use limits::numbered;
 use std::io;
 use std::io::Write;
 
@@ -10,7 +11,7 @@ fn report<W: Write>(to: &mut W, log: &[u8]) -> io::Result<()> {
     let mut fronts = [0u32; 682];
     let mut text = [0u8; 1024];
     let answer = recount::recount_log(log, &mut marks, &mut fronts, &mut text);
-    let end = log_print::printed(log, &mut text, answer);
+    let end = log_print::printed(log, &mut text, numbered(answer));
     log_print::write(to, &text, end)
 }
 

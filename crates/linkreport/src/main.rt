@@ -1,6 +1,7 @@
 // Reads a log from standard input, and writes its report or why it is refused (document 01, 'Log and program').
 #![tactic(auto)]
 
+use limits::numbered;
 use std::io;
 use std::io::Write;
 
@@ -30,7 +31,7 @@ fn report<W: Write>(to: &mut W, log: &[u8]) -> io::Result<()> {
         &mut links,
         &mut text,
     );
-    let end = log_print::printed(log, &mut text, answer);
+    let end = log_print::printed(log, &mut text, numbered(answer));
     log_print::write(to, &text, end)
 }
 

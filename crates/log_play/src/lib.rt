@@ -83,7 +83,7 @@ pub fn play_record(
 {
     let read = log_play_parts::record_at(log, i);
     let room = queue.len();
-    let other = log_play_parts::refusal_of(watch, read, room);
+    let other = limits::number(log_play_parts::refusal_of(watch, read, room));
     let part = log_play_parts::ledger_part(
         other, read, ledger, keys, slots, probes, offsets, links,
     );

@@ -1,5 +1,4 @@
 -- From what each callee of a part leaves to the part. Assumes nothing.
-use Rattle.limits.specs.Numbers.{number}
 use Rattle.std.specs.Prelude.{Option, Some, None}
 use Rattle.call_types.specs.declared.CounterPoint.{CounterPoint}
 use Rattle.monitor.specs.declared.Monitor.{Monitor}
@@ -123,7 +122,7 @@ module _ (other : ℕ) (w : List ℕ) (long : length w ≡ 80) (keys slots probe
         (λ j. parted (ep j) (ledger_at w') (rooms_of keys slots probes' offsets links')) ∙ ap sent_parted ea ∙ sent-parted s ∙ sym (ap (call_part other (ledger_at w) rooms) ec)
 
     pub by-accept : (a : Reply) (g : ReplyAnswer) (w' : List ℕ) (keys' slots' probes' links' : List (List ℕ)) → c ≡ call.Accept a
-        → accept_left (number g.refused) w' keys' slots' probes' links' g.words ≡ accept_from w zeros (accept_to other (ledger_at w) keys slots probes links a) → p ≡ part_with (number g.refused) (heard_in g.words)
+        → accept_left g.number w' keys' slots' probes' links' g.words ≡ accept_from w zeros (accept_to other (ledger_at w) keys slots probes links a) → p ≡ part_with g.number (heard_in g.words)
         → parted p (ledger_at w') (rooms_of keys' slots' probes' offsets links') ≡ call_part other (ledger_at w) rooms c
     by-accept a g w' keys' slots' probes' links' ec ea ep =
         (λ j. parted (ep j) (ledger_at w') (rooms_of keys' slots' probes' offsets links')) ∙ ap accept_parted ea ∙ accept-parted a (subst CallFits ec fits) ∙ sym (ap (call_part other (ledger_at w) rooms) ec)

@@ -68,27 +68,24 @@ pub fn refusal_of(watch: Option<Monitor>, read: Option<Call>, room: usize) -> Op
     }
 }
 
-fn plain_part(refused: Option<Refusal>, go: bool) -> Part
-    ensures { result ≡ part_with (number refused) go }
+fn plain_part(refused: u8, go: bool) -> Part
+    ensures { result ≡ part_with refused go }
 {
-    Part {
-        refused: limits::number(refused),
-        go,
-    }
+    Part { refused, go }
 }
 
 // A probe that was sent is the monitor's too, where nothing refused it.
-fn sent_part(refused: Option<Refusal>) -> Part
-    ensures { result ≡ part_with (number refused) (eqb (number refused) 0) }
+fn sent_part(number: u8) -> Part
+    ensures { result ≡ part_with number (eqb number 0) }
 {
-    plain_part(refused, refused.is_none())
+    plain_part(number, number == 0)
 }
 
 // A unique reply is the monitor's too.
 fn accept_part(given: ReplyAnswer) -> Part
-    ensures { result ≡ part_with (number given.refused) (heard_in given.words) }
+    ensures { result ≡ part_with given.number (heard_in given.words) }
 {
-    plain_part(given.refused, host_watched_accept_words::was_unique(given))
+    plain_part(given.number, host_watched_accept_words::was_unique(given))
 }
 
 // `observe` of an observation by value, by way of the words in which a host tells it.
@@ -110,7 +107,7 @@ fn observe(
 
 // The ledger's part of a call, with the monitor's refusal.
 fn call_part(
-    other: Option<Refusal>,
+    other: u8,
     call: Call,
     ledger: &mut [u64; LEDGER_WORDS],
     keys: &mut [[u64; 2]],
@@ -120,7 +117,7 @@ fn call_part(
     links: &mut [[u16; 8]],
 ) -> Part
     requires { CallFits call }
-    ensures { parted result (ledger_at ledger.new) (rooms_of keys.new slots.new probes.new offsets.new links.new) ≡ call_part (number other) (ledger_at ledger.old) (rooms_of keys.old slots.old probes.old offsets.old links.old) call }
+    ensures { parted result (ledger_at ledger.new) (rooms_of keys.new slots.new probes.new offsets.new links.new) ≡ call_part other (ledger_at ledger.old) (rooms_of keys.old slots.old probes.old offsets.old links.old) call }
 {
     counted(*ledger);
     match call {
@@ -136,7 +133,7 @@ fn call_part(
         }
         Call::Observe(told) => {
             let refused = observe(ledger, keys, slots, offsets, links, told);
-            plain_part(refused, false)
+            plain_part(limits::number(refused), false)
         }
         Call::Advance(_) => plain_part(other, true),
         Call::Idle => plain_part(other, false),
@@ -145,7 +142,7 @@ fn call_part(
 
 // The ledger's part of a record, with the monitor's refusal.
 pub fn ledger_part(
-    other: Option<Refusal>,
+    other: u8,
     read: Option<Call>,
     ledger: &mut [u64; LEDGER_WORDS],
     keys: &mut [[u64; 2]],
@@ -155,10 +152,10 @@ pub fn ledger_part(
     links: &mut [[u16; 8]],
 ) -> Part
     requires { ReadFits read }
-    ensures { parted result (ledger_at ledger.new) (rooms_of keys.new slots.new probes.new offsets.new links.new) ≡ part_of (number other) (ledger_at ledger.old) (rooms_of keys.old slots.old probes.old offsets.old links.old) read }
+    ensures { parted result (ledger_at ledger.new) (rooms_of keys.new slots.new probes.new offsets.new links.new) ≡ part_of other (ledger_at ledger.old) (rooms_of keys.old slots.old probes.old offsets.old links.old) read }
 {
     match read {
-        None => plain_part(None, false),
+        None => plain_part(0, false),
         Some(call) => { call_part(other, call, ledger, keys, slots, probes, offsets, links) }
     }
 }

@@ -3,13 +3,11 @@
 #![tactic(auto)]
 
 ghost use Rattle.std.specs.Prelude.{◌≡◌, ◌++◌, ◌≤◌, length};
-ghost use Rattle.limits.specs.Numbers.{numbered};
 ghost use Rattle.decimal.specs.Decimal.{decimal};
 ghost use Rattle.decimal.specs.Writing.{Stands};
 ghost use Rattle.template.specs.Text.{bytes};
 ghost use Rattle.log_print.specs.Printed.{refusal_line, said, line_in, refused_in, printed_in};
 
-use limits::Refusal;
 use log_whole::{Fault, Settings};
 use report::REPORT_ROOM;
 use report::words::{put_figure, put_text};
@@ -50,8 +48,8 @@ fn put_refused(text: &mut [u8], checked: Result<Settings, Fault>) -> usize
 }
 
 // How many bytes at the start of the buffer are to be printed: those of the report that stands there, or of why the log is refused, put there.
-pub fn printed(log: &[u8], text: &mut [u8], answer: Result<usize, Refusal>) -> usize
-    ensures { said result text.new ≡ printed_in log.now (numbered answer) text.old }
+pub fn printed(log: &[u8], text: &mut [u8], answer: Result<usize, u8>) -> usize
+    ensures { said result text.new ≡ printed_in log.now answer text.old }
 {
     match answer {
         Ok(end) => end,

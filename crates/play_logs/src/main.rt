@@ -4,6 +4,7 @@
 
 ghost use Rattle.std.specs.Prelude.{◌≤◌, ◌≡◌, length};
 
+use limits::numbered;
 use std::io;
 use std::io::{Read, Write};
 
@@ -41,7 +42,7 @@ fn report<W: Write>(
     let answer = link_report::report_log_alone(
         log, &words, keys, slots, probes, offsets, links, text,
     );
-    let end = log_print::printed(log, text, answer);
+    let end = log_print::printed(log, text, numbered(answer));
     log_print::write(to, text, end)?;
     to.write_all(&[0u8])
 }

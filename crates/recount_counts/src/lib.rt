@@ -1,5 +1,7 @@
 // How many records of a marked log pass a test, each test by looking back from the record.
-ghost use Rattle.std.specs.Prelude.{◌≡◌, ◌≤◌, ◌<◌, length};
+#![tactic(auto)]
+
+ghost use Rattle.std.specs.Prelude.{◌≡◌, ◌≤◌, ◌<◌, length, MatchOption};
 ghost use Rattle.recount_seen.specs.Seen.{seen_at, events_of};
 ghost use Rattle.recount_counts.specs.Tests.{number_of, unique_at, test_by, passing};
 
@@ -26,6 +28,25 @@ pub enum Test {
     Independent = 8,
     // Behind the highest reflector number before it.
     Reordered = 9,
+}
+
+// The test of a number, where there is one.
+fn test_of(kind: u8) -> Option<Test>
+    ensures { MatchOption result (9 < kind) (λ test. number_of test ≡ kind) }
+{
+    match kind {
+        0 => Some(Test::Sent),
+        1 => Some(Test::Duplicate),
+        2 => Some(Test::Unknown),
+        3 => Some(Test::Unique),
+        4 => Some(Test::Answered),
+        5 => Some(Test::Additional),
+        6 => Some(Test::Late),
+        7 => Some(Test::Satisfying),
+        8 => Some(Test::Independent),
+        9 => Some(Test::Reordered),
+        _ => None,
+    }
 }
 
 // Of the unique reply at record j, whose probe had `before` replies.
@@ -66,10 +87,13 @@ fn passes(test: Test, copies: u32, records: Marked, j: u32) -> bool
     }
 }
 
-// How many of the first n records pass.
-pub fn count(test: Test, copies: u32, records: Marked, n: u32) -> u32
+// How many of the first n records pass the test of a number. Where no test has it, none does.
+pub fn count(kind: u8, copies: u32, records: Marked, n: u32) -> u32
     requires { (n ≤ length records.marks.now) × (n < 65536) }
-    ensures { result ≡ passing (test_by (number_of test) copies) records.entry.log.now records.entry.marks.now n }
+    ensures { result ≡ passing (test_by kind copies) records.entry.log.now records.entry.marks.now n }
 {
-    recount_back::count_where(n, |j| passes(test, copies, records, j))
+    match test_of(kind) {
+        Some(test) => recount_back::count_where(n, |j| passes(test, copies, records, j)),
+        None => 0,
+    }
 }

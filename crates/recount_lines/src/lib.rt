@@ -55,8 +55,8 @@ pub fn loss(copies: u32, records: Marked, n: u32) -> figures::Loss
     requires { (copies < 65536) × (n ≤ length records.marks.now) × (n < 65536) }
     ensures { result ≡ loss_at copies records.entry.log.now records.entry.marks.now n }
 {
-    let sent = count(Test::Sent, copies, records, n);
-    let satisfied = count(Test::Satisfying, copies, records, n);
+    let sent = count(Test::Sent as u8, copies, records, n);
+    let satisfied = count(Test::Satisfying as u8, copies, records, n);
     let requested = (copies as u64) * (sent as u64);
     loss_by(requested, satisfied as u64)
 }
@@ -65,9 +65,9 @@ pub fn replies(copies: u32, records: Marked, n: u32) -> figures::Replies
     requires { (n ≤ length records.marks.now) × (n < 65536) }
     ensures { result ≡ replies_at copies records.entry.log.now records.entry.marks.now n }
 {
-    let unique = count(Test::Unique, copies, records, n);
-    let duplicate = count(Test::Duplicate, copies, records, n);
-    let unknown = count(Test::Unknown, copies, records, n);
+    let unique = count(Test::Unique as u8, copies, records, n);
+    let duplicate = count(Test::Duplicate as u8, copies, records, n);
+    let unknown = count(Test::Unknown as u8, copies, records, n);
     figures::Replies {
         unique: unique as u64,
         duplicate: duplicate as u64,
@@ -79,9 +79,9 @@ pub fn probes(copies: u32, records: Marked, n: u32) -> figures::Probes
     requires { (n ≤ length records.marks.now) × (n < 65536) }
     ensures { result ≡ probes_at copies records.entry.log.now records.entry.marks.now n }
 {
-    let answered = count(Test::Answered, copies, records, n);
-    let additional = count(Test::Additional, copies, records, n);
-    let late = count(Test::Late, copies, records, n);
+    let answered = count(Test::Answered as u8, copies, records, n);
+    let additional = count(Test::Additional as u8, copies, records, n);
+    let late = count(Test::Late as u8, copies, records, n);
     figures::Probes {
         answered: answered as u64,
         additional: additional as u64,
@@ -93,8 +93,8 @@ pub fn order(copies: u32, records: Marked, n: u32) -> figures::Order
     requires { (n ≤ length records.marks.now) × (n < 65536) }
     ensures { result ≡ order_at copies records.entry.log.now records.entry.marks.now n }
 {
-    let reordered = count(Test::Reordered, copies, records, n);
-    let independent = count(Test::Independent, copies, records, n);
+    let reordered = count(Test::Reordered as u8, copies, records, n);
+    let independent = count(Test::Independent as u8, copies, records, n);
     figures::Order {
         reordered: reordered as u64,
         independent: independent as u64,

@@ -18,4 +18,4 @@ pub returns-in-Some : goal.returns-in-Some
 returns-in-Some c =
     let a = c.args in
     let told = in_some _ _ _ c.refusal_unless.ensures c.in-Some.is in
-    entry-refused a.ledger.now a.keys.now a.slots.now a.probes.now a.links.now a.entries.now a.i a.answers.now _ told.0 _ (λ z. told.1 (sym told.0 ∙ z)) c.put_refused.ensures
+    entry-refused a.ledger.now a.keys.now a.slots.now a.probes.now a.links.now a.entries.now a.i a.answers.now _ (c.from.ensures ∙ told.0) _ (λ z. told.1 (sym told.0 ∙ sym c.from.ensures ∙ z)) c.put_refused.ensures

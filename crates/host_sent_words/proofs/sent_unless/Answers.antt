@@ -1,20 +1,19 @@
-use mathlib.Core.Path.{refl}
-use Rattle.limits.proofs.Numbers.{none_number, some_number}
+use mathlib.Core.Path.{refl, ◌∙◌}
 use Rattle.host_sent_words.proofs.Steps.{sound, refused_is, served_is}
 use Rattle.host_sent_words.proofs.sent_unless.Goals as goal
 
 pub served-requires : goal.served-requires
 served-requires c =
     let a = c.args in
-    sound _ a.ledger.now a.probes.now a.links.now _ _ c.refusal.ensures c.first_of-refused.ensures (none_number _ _ c.is_none.ensures c.if-is_none.true)
+    sound a.other a.ledger.now a.probes.now a.links.now _ _ (c.number-own.ensures ∙ c.refusal.ensures) c.first_of-number.ensures c.if-number-eq0.true
 
-pub returns-then-is_none : goal.returns-then-is_none
-returns-then-is_none c =
+pub returns-then-number-eq0 : goal.returns-then-number-eq0
+returns-then-number-eq0 c =
     let a = c.args in
-    served_is _ a.ledger.now a.probes.now a.links.now _ _ c.refusal.ensures c.first_of-refused.ensures a.probe _ _ _ _
-    (none_number _ _ c.is_none.ensures c.if-is_none.true) refl c.served.ensures
+    served_is a.other a.ledger.now a.probes.now a.links.now _ _ (c.number-own.ensures ∙ c.refusal.ensures) c.first_of-number.ensures a.probe _ _ _ _
+    c.if-number-eq0.true refl c.served.ensures
 
-pub returns-else-is_none : goal.returns-else-is_none
-returns-else-is_none c =
+pub returns-else-number-eq0 : goal.returns-else-number-eq0
+returns-else-number-eq0 c =
     let a = c.args in
-    refused_is _ a.ledger.now a.probes.now a.links.now _ _ c.refusal.ensures c.first_of-refused.ensures a.probe (some_number _ _ c.is_none.ensures c.if-is_none.false)
+    refused_is a.other a.ledger.now a.probes.now a.links.now _ _ (c.number-own.ensures ∙ c.refusal.ensures) c.first_of-number.ensures a.probe c.if-number-eq0.false

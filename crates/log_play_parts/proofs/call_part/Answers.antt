@@ -1,5 +1,7 @@
-use mathlib.Core.Path.{refl, subst}
-use Rattle.log_play_parts.specs.Parts.{CallFits}
+use mathlib.Core.Path.{refl, ap, subst, ◌∙◌}
+use mathlib.Core.Bool.{false}
+use Prim.Native.Nat.{ℕ}
+use Rattle.log_play_parts.specs.Parts.{CallFits, part_with}
 use Rattle.log_play_parts.proofs.Laws.{by-sent, by-accept, by-observe, by-none}
 use Rattle.log_play_parts.proofs.call_part.Goals as goal
 
@@ -16,7 +18,8 @@ returns-in-Accept c =
 
 pub returns-in-Observe : goal.returns-in-Observe
 returns-in-Observe c =
-    by-observe _ c.args.ledger.now c.counted.ensures _ _ _ _ _ _ c.requires _ _ _ _ _ _ _ c.in-Observe.is c.observe-refused.ensures c.plain_part.ensures
+    by-observe _ c.args.ledger.now c.counted.ensures _ _ _ _ _ _ c.requires _ _ _ _ _ _ _ c.in-Observe.is c.observe-refused.ensures
+    (c.plain_part.ensures ∙ ap (λ (n : ℕ). part_with n false) c.number.ensures)
 
 pub returns-in-Advance : goal.returns-in-Advance
 returns-in-Advance c = by-none _ _ _ _ _ _ _ c.in-Advance.is c.plain_part-in-Advance.ensures refl
